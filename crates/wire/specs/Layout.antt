@@ -1,12 +1,11 @@
 -- DEFINITION. A layout body of RFC 8154, by paper 01, "Layout bodies": a 4-byte count n, then n extents of 44 bytes: device id (16), file offset (8),
 -- length (8), storage offset (8), state (4). In this order: an extent of bytes; the check (rules 1 and 2; 3 to 7 are those of crate `extents`);
 -- what a place gives (rule 9); an extent as bytes; a body of extents.
-use Prim.Native.Nat.{ℕ, _+_, _*_, _^_, _<_, _≤_}
-use mathlib.Core.Path.{_≡_}
+use Prim.Native.Nat.{ℕ, _+_, _-_, _*_, _/_}
 use mathlib.Core.List.{List, [], _∷_, _++_}
 use mathlib.Core.Bool.{Bool, true, false, cond, _&&_}
 use lib.ListN.{length, take, drop, replicate}
-use lib.Dec.{ltb, leb, eqb}
+use lib.Dec.{ltb, eqb}
 use Rattle.xdr.specs.Be.{beNat, beBytes}
 use Rattle.extents.specs.Extents.{listFrom, verdict, numberOf, placeOf}
 use Rattle.extents.specs.declared.Extent.{Extent}
@@ -53,8 +52,11 @@ unfoldable pub extentGot : List ℕ → ℕ → Got
 extentGot s i = placeGives (checkBody s) i (extentAt s i)
 
 -- the same by the two numbers that the check answered, for any numbers: a place whose 44 bytes are not there is past the count
+abbrev pub heldIn : List ℕ → ℕ
+heldIn s = (length s - 4) / 44
+
 unfoldable pub extentIn : List ℕ → ℕ → ℕ → ℕ → Got
-extentIn s rule place i = cond (eqb rule 0) (cond (ltb i place && leb (4 + 44 * i + 44) (length s)) (got i (extentAt s i)) (none 9 0)) (none rule place)
+extentIn s rule place i = cond (eqb rule 0) (cond (ltb i place && ltb i (heldIn s)) (got i (extentAt s i)) (none 9 0)) (none rule place)
 
 -- ---- extents to bytes
 unfoldable pub extentBytes : Extent → List ℕ

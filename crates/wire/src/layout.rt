@@ -7,7 +7,7 @@ ghost use mathlib.Core.List.{[]};
 ghost use Prim.Native.Nat.{_+_, _*_, _≤_};
 ghost use lib.ListN.{length, take, drop};
 ghost use Rattle.extents.specs.Extents.{listFrom, verdict, numberOf, placeOf};
-ghost use Rattle.wire.specs.Layout.{extentOf, extentAt, checkBody, noExtent, extentIn, extentGot};
+ghost use Rattle.wire.specs.Layout.{extentOf, extentAt, checkBody, noExtent, none, heldIn, extentIn, extentGot};
 
 // Rules 3 to 7 on the n extents of a body, in one pass.
 fn scan(s: &[u8], n: usize) -> Verdict
@@ -113,34 +113,45 @@ fn no_extent() -> Extent
     }
 }
 
+fn nothing(rule: u32, place: usize) -> Got
+    ensures { λ r. ⌜ r ≡ none rule place ⌝ }
+{
+    let e = no_extent();
+    Got {
+        rule,
+        place,
+        extent: e,
+    }
+}
+
+// How many whole extents have room after a body's count.
+fn held(s: &[u8]) -> usize
+    ensures { λ r. ⌜ r ≡ heldIn (now (s .entry)) ⌝ }
+{
+    if s.len() < 4 {
+        return 0;
+    }
+    (s.len() - 4) / 44
+}
+
 // The extent at place i of a body of which the check answered rule and place, in constant time; 9 at or past the count.
 pub fn extent_in(s: &[u8], rule: u32, place: usize, i: usize) -> Got
     ensures { λ r. ⌜ r ≡ extentIn (now (s .entry)) rule place i ⌝ }
 {
     if rule != 0 {
-        return Got {
-            rule,
-            place,
-            extent: no_extent(),
-        };
+        return nothing(rule, place);
     }
-    if i < place {
-        if i < s.len() / 44 {
-            let at = 4 + 44 * i;
-            if at + 44 <= s.len() {
-                let e = extent_at(s, at);
-                return Got {
-                    rule: 0,
-                    place: i,
-                    extent: e,
-                };
-            }
-        }
+    if place <= i {
+        return nothing(9, 0);
     }
+    if held(s) <= i {
+        return nothing(9, 0);
+    }
+    let e = extent_at(s, 4 + 44 * i);
     Got {
-        rule: 9,
-        place: 0,
-        extent: no_extent(),
+        rule: 0,
+        place: i,
+        extent: e,
     }
 }
 
