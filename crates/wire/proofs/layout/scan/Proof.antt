@@ -112,8 +112,7 @@ loop-less c = omega arith
 loop-again : tie.Need-loop-again Inv-loop μ-loop
 loop-again c =
     let m = c .before .before .before .before .before .before .before .before .loop in
-    let a = c .before .before .before .before .before .before .before .before .before .before .before .args in
-    (
+    let a = c .before .before .before .before .before .before .before .before .before .before .before .args in (
       rw (c .push .ensures) (goes-on (m .inv .0) (c .before .before .before .before .before .before .before .loop-test .taken)
           (read (a .s .now) (m .at) (m .i) (m .inv .1) (c .before .before .before .before .before .before .be64 .ensures) (c .before .before .before .before .before .be642 .ensures) (c .before .before .before .before .be643 .ensures) (c .before .before .before .be32 .ensures))
           (c .before .before .refuse .result) (c .before .before .refuse .ensures) (c .before .if1 .left)),
