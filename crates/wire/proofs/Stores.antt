@@ -58,7 +58,7 @@ unfolding extentsBytes
 bytes-more [] e = append-nil (extentBytes e)
 bytes-more (a ∷ l) e = rw (bytes-more l e, append-assoc)
 
-length-list : (f : ℕ → Extent) (n k : ℕ) → ((j : ℕ) → j < k + n → length (f j .device) ≡ 16) → length (extentsBytes (listFrom f n k)) ≡ 44 * n
+pub length-list : (f : ℕ → Extent) (n k : ℕ) → ((j : ℕ) → j < k + n → length (f j .device) ≡ 16) → length (extentsBytes (listFrom f n k)) ≡ 44 * n
 unfolding listFrom extentsBytes
 length-list f zero k h = refl
 length-list f (suc n) k h =

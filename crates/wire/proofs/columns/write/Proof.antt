@@ -64,8 +64,7 @@ returns-3 c =
     let a = c .before .before .before .before .before .before .before .before .before .before .before .before .before .args in
     let g = c .before .enum-told .given in
     let s = c .before .before .before .scan in
-    let q : g .0 .0 ≡ length (a .offs .now) = accepted-count (rowOf (a .devs .now) (a .offs .now) (a .lens .now) (a .stos .now) (a .sts .now)) (length (a .offs .now)) (g .0 .0) (sym (s .ensures) ∙ g .1) in
-    (
+    let q : g .0 .0 ≡ length (a .offs .now) = accepted-count (rowOf (a .devs .now) (a .offs .now) (a .lens .now) (a .stos .now) (a .sts .now)) (length (a .offs .now)) (g .0 .0) (sym (s .ensures) ∙ g .1) in (
       no-room (g .0 .0) (length (a .offs .now)) (length (a .d .now)) q (omega arith) ∙ ap (λ v. roomy v (length (a .d .now))) (sym (g .1))
           ∙ judged (a .devs .now) (a .offs .now) (a .lens .now) (a .stos .now) (a .sts .now) (length (a .d .now)) (sym (c .before .before .before .before .before .before .same-count .ensures) ∙ not-false _ (c .before .before .before .before .before .if1 .left)) (omega arith) (s .result) (s .ensures),
       refl,
@@ -89,8 +88,7 @@ fill-requires c κs =
 returns-4 : tie.Need-returns-4
 returns-4 c =
     let a = c .before .before .before .before .before .before .before .before .before .before .before .before .before .args in
-    let s = c .before .before .before .scan in
-    (
+    let s = c .before .before .before .scan in (
       ap (λ v. roomy v (length (a .d .now))) (sym (c .before .k .given .1))
           ∙ judged (a .devs .now) (a .offs .now) (a .lens .now) (a .stos .now) (a .sts .now) (length (a .d .now)) (sym (c .before .before .before .before .before .before .same-count .ensures) ∙ not-false _ (c .before .before .before .before .before .if1 .left)) (omega arith) (s .result) (s .ensures),
       refl,
@@ -107,8 +105,7 @@ returns-5 c =
     let g = c .before .before .before .before .before .before .before .before .before .enum-told .given in
     let s = c .before .before .before .before .before .before .before .before .before .before .before .scan in
     let q : g .0 .0 ≡ length (a .offs .now) = accepted-count (rowOf (a .devs .now) (a .offs .now) (a .lens .now) (a .stos .now) (a .sts .now)) (length (a .offs .now)) (g .0 .0) (sym (s .ensures) ∙ g .1) in
-    let es = extentsBytes (columnList (a .devs .now) (a .offs .now) (a .lens .now) (a .stos .now) (a .sts .now)) in
-    (
+    let es = extentsBytes (columnList (a .devs .now) (a .offs .now) (a .lens .now) (a .stos .now) (a .sts .now)) in (
       room-for (g .0 .0) (length (a .offs .now)) (length (a .d .now)) q (omega arith) ∙ ap (λ v. roomy v (length (a .d .now))) (sym (g .1))
           ∙ judged (a .devs .now) (a .offs .now) (a .lens .now) (a .stos .now) (a .sts .now) (length (a .d .now)) (sym (c .before .before .before .before .before .before .before .before .before .before .before .before .before .before .same-count .ensures) ∙ not-false _ (c .before .before .before .before .before .before .before .before .before .before .before .before .before .if1 .left)) (omega arith) (s .result) (s .ensures),
       c .before .before .fill .ensures ∙ ap (λ l. sets l 4 es) (c .before .before .before .before .before .before .put32 .ensures)
