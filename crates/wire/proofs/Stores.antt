@@ -46,7 +46,7 @@ length-extent : (e : Extent) → length (e .device) ≡ 16 → length (extentByt
 unfolding extentBytes
 length-extent e h = simp (length-append, length-bytes, h)
 
-listFrom-more : (f : ℕ → Extent) (n k : ℕ) → listFrom f (suc n) k ≡ listFrom f n k ++ (f (k + n) ∷ [])
+pub listFrom-more : (f : ℕ → Extent) (n k : ℕ) → listFrom f (suc n) k ≡ listFrom f n k ++ (f (k + n) ∷ [])
 unfolding listFrom
 listFrom-more f zero k = rw add-zero
 listFrom-more f (suc n) k =

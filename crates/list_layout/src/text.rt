@@ -1,0 +1,109 @@
+// The text that list_layout prints, into a lent buffer. Paper 01, "The program prints".
+// In this order: bytes; a number with the byte after it; an extent's line; all lines; the refusal; the whole text.
+use extents::Verdict;
+ghost use mathlib.Core.Path.{_≡_};
+ghost use Prim.Native.Nat.{_+_, _*_, _≤_};
+ghost use lib.ListN.{length, drop};
+ghost use Rattle.io.specs.Counts.{Counts};
+ghost use Rattle.wire.specs.Layout.{extentOf, extentsOf};
+ghost use Rattle.list_layout.specs.Text.{decimal, numberText, lineOf, linesOf, acceptedText, refusedText, Put, Listing};
+
+// Stores the bytes of `src` from `at` on, and answers where they end.
+fn put_bytes(d: &mut [u8], at: usize, src: &[u8]) -> usize
+    requires { ⌜ at + length (now src) ≤ length (now d) ⌝ }
+    ensures { λ r. ⌜ Put (now (d .entry)) at (now (src .entry)) (now (d .exit)) r ⌝ }
+{
+    let mut i = 0;
+    while i < src.len() {
+        d[at + i] = src[i];
+        i += 1;
+    }
+    at + src.len()
+}
+
+// Stores the decimal digits of `x` from `at` on, and answers where they end.
+fn put_decimal(d: &mut [u8], at: usize, x: u64) -> usize
+    requires { ⌜ at + 20 ≤ length (now d) ⌝ }
+    ensures { λ r. ⌜ Put (now (d .entry)) at (decimal x) (now (d .exit)) r ⌝ }
+{
+    if x < 10 {
+        d[at] = (48 + x) as u8;
+        return at + 1;
+    }
+    let end = put_decimal(d, at, x / 10);
+    d[end] = (48 + x % 10) as u8;
+    end + 1
+}
+
+// Stores `x` in decimal and then the byte `after`.
+fn put_number(d: &mut [u8], at: usize, x: u64, after: u8) -> usize
+    requires { ⌜ at + 21 ≤ length (now d) ⌝ }
+    ensures { λ r. ⌜ Put (now (d .entry)) at (numberText x after) (now (d .exit)) r ⌝ }
+{
+    let end = put_decimal(d, at, x);
+    d[end] = after;
+    end + 1
+}
+
+// Stores the line of the extent whose 44 bytes stand at `from`.
+fn put_line(d: &mut [u8], at: usize, s: &[u8], from: usize) -> usize
+    requires { ⌜ (at + 84 ≤ length (now d)) × (from + 44 ≤ length (now s)) ⌝ }
+    ensures { λ r. ⌜ Put (now (d .entry)) at (lineOf (extentOf (drop from (now (s .entry))))) (now (d .exit)) r ⌝ }
+{
+    let a = put_number(d, at, xdr::be64(s, from + 16), 32);
+    let b = put_number(d, a, xdr::be64(s, from + 24), 32);
+    let c = put_number(d, b, xdr::be64(s, from + 32), 32);
+    put_number(d, c, xdr::be32(s, from + 40) as u64, 10)
+}
+
+// Stores the lines of the n extents of a body.
+fn put_lines(d: &mut [u8], at: usize, s: &[u8], n: usize) -> usize
+    requires { ⌜ (at + 84 * n ≤ length (now d)) × (length (now s) ≡ 4 + 44 * n) ⌝ }
+    ensures { λ r. ⌜ Put (now (d .entry)) at (linesOf (extentsOf (now (s .entry)) n)) (now (d .exit)) r ⌝ }
+{
+    let mut to = at;
+    let mut i = 0;
+    while i < n {
+        to = put_line(d, to, s, 4 + 44 * i);
+        i += 1;
+    }
+    to
+}
+
+// Stores the text of an accepted body of n extents.
+fn put_accepted(d: &mut [u8], s: &[u8], n: usize) -> usize
+    requires { ⌜ (87040 ≤ length (now d)) × (length (now s) ≡ 4 + 44 * n) × (n ≤ 1024) ⌝ }
+    ensures { λ r. ⌜ Put (now (d .entry)) 0 (acceptedText n (extentsOf (now (s .entry)) n)) (now (d .exit)) r ⌝ }
+{
+    let a = put_bytes(d, 0, b"extents ");
+    let b = put_number(d, a, n as u64, 10);
+    put_lines(d, b, s, n)
+}
+
+// Stores the text of a refusal.
+fn put_refused(d: &mut [u8], k: u32, i: usize) -> usize
+    requires { ⌜ 87040 ≤ length (now d) ⌝ }
+    ensures { λ r. ⌜ Put (now (d .entry)) 0 (refusedText k i) (now (d .exit)) r ⌝ }
+{
+    let a = put_bytes(d, 0, b"refused ");
+    let b = put_number(d, a, k as u64, 32);
+    let c = put_bytes(d, b, b"at ");
+    put_number(d, c, i as u64, 10)
+}
+
+// The whole text for an input at the start of `d`, and how long it is; a buffer under 87,040 bytes gets nothing.
+pub fn listing(s: &[u8], d: &mut [u8]) -> usize
+    ensures { λ r. ⌜ Listing (now (s .entry)) (now (d .entry)) (now (d .exit)) r ⌝ }
+    ensures { λ r. ⌜ Counts r (now (d .exit)) ⌝ }
+{
+    if d.len() < 87040 {
+        return 0;
+    }
+    if 65536 < s.len() {
+        return put_refused(d, 1, 0);
+    }
+    match wire::layout::check(s) {
+        Verdict::Accepted(n) => put_accepted(d, s, n),
+        Verdict::Refused(k, i) => put_refused(d, k, i),
+    }
+}
