@@ -9,15 +9,15 @@ ghost use lib.ListN.{length, take, drop};
 ghost use Rattle.extents.specs.Extents.{listFrom, verdict, numberOf, placeOf};
 ghost use Rattle.wire.specs.Layout.{extentOf, extentAt, checkBody, noExtent, none, heldIn, extentIn, extentGot};
 
-// Rules 3 to 7 on the n extents of a body, in one pass.
-fn scan(s: &[u8], n: usize) -> Verdict
-    requires { ⌜ (length (now s) ≡ 4 + 44 * n) × (n ≤ 1024) ⌝ }
-    ensures { λ r. ⌜ r ≡ verdict [] 0 (listFrom (extentAt (now (s .entry))) n 0) ⌝ }
+// Rules 3 to 7 on the extents of a body, in one pass.
+fn scan(s: &[u8], count: usize) -> Verdict
+    requires { ⌜ (length (now s) ≡ 4 + 44 * count) × (count ≤ 1024) ⌝ }
+    ensures { λ r. ⌜ r ≡ verdict [] 0 (listFrom (extentAt (now (s .entry))) count 0) ⌝ }
 {
     let mut passed = extents::start();
     let mut i = 0;
     let mut at = 4;
-    while i < n {
+    while i < count {
         let off = xdr::be64(s, at + 16);
         let len = xdr::be64(s, at + 24);
         let sto = xdr::be64(s, at + 32);
@@ -30,7 +30,7 @@ fn scan(s: &[u8], n: usize) -> Verdict
         i += 1;
         at += 44;
     }
-    Verdict::Accepted(n)
+    Verdict::Accepted(count)
 }
 
 // The check of a body: short of 4 bytes, rule 2, the exact length, then extent by extent.

@@ -3,35 +3,25 @@ use native.Mathlib.Omega.{arith}
 use borrow.Author.Needs.{needs}
 use Rattle.extents.proofs.limit.Statement.{statement}
 use Rattle.extents.proofs.limit.Tie as tie
-use Rattle.extents.proofs.limit.Reads as reads
-use Rattle.extents.proofs.limit.Lts as lts
-use Rattle.extents.proofs.larger.Reads as larger-reads
 
--- src/lib.rt:121:14
 larger-requires : tie.Need-larger-requires
 larger-requires c κs = search needs
 
--- src/lib.rt:122:14
 larger-requires-2 : tie.Need-larger-requires-2
 larger-requires-2 c κs = search needs
 
--- src/lib.rt:123:46
 larger-requires-3 : tie.Need-larger-requires-3
 larger-requires-3 c κs = search needs
 
--- src/lib.rt:123:31
 larger-requires-4 : tie.Need-larger-requires-4
 larger-requires-4 c κs = search needs
 
--- src/lib.rt:117:1
 returns : tie.Need-returns
 returns c = let a = c .before .before .args in simp (c .larger .ensures, eq-eqb (a .st) 1 (c .before .match .keys1))
 
--- src/lib.rt:117:1
 returns-2 : tie.Need-returns-2
 returns-2 c = let a = c .before .before .args in simp (c .larger2 .ensures, ne-eqb (a .st) 1 (omega arith), eq-eqb (a .st) 2 (c .before .match .keys2))
 
--- src/lib.rt:117:1
 returns-3 : tie.Need-returns-3
 returns-3 c = let a = c .before .before .before .args in simp (c .larger4 .ensures, c .before .larger3 .ensures, ne-eqb (a .st) 1 (c .before .before .match .rest .0 .1), ne-eqb (a .st) 2 (c .before .before .match .rest .1))
 

@@ -4,26 +4,19 @@ use native.Mathlib.Omega.{arith}
 use borrow.Author.Needs.{needs}
 use Rattle.extents.proofs.too_far.Statement.{statement}
 use Rattle.extents.proofs.too_far.Tie as tie
-use Rattle.extents.proofs.too_far.Reads as reads
-use Rattle.extents.proofs.too_far.Lts as lts
 
--- src/lib.rt:87:16
 sub-room : tie.Need-sub-room
 sub-room c = search needs
 
--- src/lib.rt:89:9
 returns : tie.Need-returns
 returns c = let a = c .before .args in simp (lt-ltb (2 ^ 64 - 1) (a .off + a .len) (omega arith))
 
--- src/lib.rt:92:9
 returns-2 : tie.Need-returns-2
 returns-2 c = let a = c .before .before .args in simp (le-ltb (2 ^ 64 - 1) (a .off + a .len) (omega arith), eq-eqb (a .st) 3 (c .if2 .taken))
 
--- src/lib.rt:95:9
 returns-3 : tie.Need-returns-3
 returns-3 c = let a = c .before .before .before .args in simp (le-ltb (2 ^ 64 - 1) (a .off + a .len) (omega arith), ne-eqb (a .st) 3 (c .before .if2 .left), lt-ltb (2 ^ 64 - 1) (a .sto + a .len) (omega arith))
 
--- src/lib.rt:84:1
 returns-4 : tie.Need-returns-4
 returns-4 c = let a = c .before .before .before .args in simp (le-ltb (2 ^ 64 - 1) (a .off + a .len) (omega arith), ne-eqb (a .st) 3 (c .before .if2 .left), le-ltb (2 ^ 64 - 1) (a .sto + a .len) (omega arith))
 

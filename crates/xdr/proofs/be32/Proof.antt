@@ -3,43 +3,31 @@ use Rattle.xdr.proofs.Be.{four-at}
 use borrow.Author.Needs.{needs}
 use Rattle.xdr.proofs.be32.Statement.{statement}
 use Rattle.xdr.proofs.be32.Tie as tie
-use Rattle.xdr.proofs.be32.Reads as reads
-use Rattle.xdr.proofs.be32.Lts as lts
-use Rattle.xdr.proofs.four.Reads as four-reads
 
--- src/lib.rt:27:10
 shared-slice-read-four : tie.Need-shared-slice-read-four
 shared-slice-read-four c = search needs
 
--- src/lib.rt:27:19
 add-four : tie.Need-add-four
 add-four c = search needs
 
--- src/lib.rt:27:17
 shared-slice-read-four-2 : tie.Need-shared-slice-read-four-2
 shared-slice-read-four-2 c = search needs
 
--- src/lib.rt:27:30
 add-four-2 : tie.Need-add-four-2
 add-four-2 c = search needs
 
--- src/lib.rt:27:28
 shared-slice-read-four-3 : tie.Need-shared-slice-read-four-3
 shared-slice-read-four-3 c = search needs
 
--- src/lib.rt:27:41
 add-four-3 : tie.Need-add-four-3
 add-four-3 c = search needs
 
--- src/lib.rt:27:39
 shared-slice-read-four-4 : tie.Need-shared-slice-read-four-4
 shared-slice-read-four-4 c = search needs
 
--- src/lib.rt:27:5
 four-requires : tie.Need-four-requires
 four-requires c κs = search needs
 
--- src/lib.rt:23:1
 returns : tie.Need-returns
 returns c =
     let a = c .before .before .before .before .before .before .args in

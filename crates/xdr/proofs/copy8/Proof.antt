@@ -6,24 +6,16 @@ use native.Mathlib.Omega.{arith}
 use borrow.Author.Needs.{needs}
 use Rattle.xdr.proofs.copy8.Statement.{statement}
 use Rattle.xdr.proofs.copy8.Tie as tie
-use Rattle.xdr.proofs.copy8.Reads as reads
-use Rattle.xdr.proofs.copy8.Lts as lts
-use Rattle.xdr.proofs.be64.Reads as be64-reads
-use Rattle.xdr.proofs.put64.Reads as put64-reads
 
--- src/lib.rt:106:18
 be64-requires : tie.Need-be64-requires
 be64-requires c κs = search needs
 
--- src/lib.rt:106:5
 put64-requires : tie.Need-put64-requires
 put64-requires c κs = search needs
 
--- src/lib.rt:102:1
 same-length : tie.Need-same-length
 same-length c = search needs
 
--- src/lib.rt:102:1
 returns : tie.Need-returns
 returns c =
     let a = c .before .before .before .before .before .before .before .args in

@@ -2,35 +2,25 @@ use Rattle.xdr.proofs.Be.{two-halves}
 use borrow.Author.Needs.{needs}
 use Rattle.xdr.proofs.put64.Statement.{statement}
 use Rattle.xdr.proofs.put64.Tie as tie
-use Rattle.xdr.proofs.put64.Reads as reads
-use Rattle.xdr.proofs.put64.Lts as lts
-use Rattle.xdr.proofs.put32.Reads as put32-reads
 
--- src/lib.rt:54:18
 cast-put32 : tie.Need-cast-put32
 cast-put32 c = search needs
 
--- src/lib.rt:54:5
 put32-requires : tie.Need-put32-requires
 put32-requires c κs = search needs
 
--- src/lib.rt:55:14
 add-put32 : tie.Need-add-put32
 add-put32 c = search needs
 
--- src/lib.rt:55:22
 cast-put32-2 : tie.Need-cast-put32-2
 cast-put32-2 c = search needs
 
--- src/lib.rt:55:5
 put32-requires-2 : tie.Need-put32-requires-2
 put32-requires-2 c κs = search needs
 
--- src/lib.rt:50:1
 same-length : tie.Need-same-length
 same-length c = search needs
 
--- src/lib.rt:50:1
 returns : tie.Need-returns
 returns c =
     let a = c .before .before .before .before .before .before .before .before .before .args in

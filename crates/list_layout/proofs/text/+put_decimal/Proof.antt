@@ -22,7 +22,6 @@ abbrev put-decimal-below : ℕ → In 1 put-decimal-kinds.ps
 put-decimal-below t =
     and 1 put-decimal-kinds.ps (falls 1 put-decimal-kinds.ps _<_ μ-put-decimal t) put-decimal.Pre
 
--- src/text.rt:30:18
 put-decimal-add-d :
     (t : ℕ) →
     put-decimal-lts.Need-add-d
@@ -31,7 +30,6 @@ put-decimal-add-d :
     put-decimal.Post
 put-decimal-add-d t c = search needs
 
--- src/text.rt:30:17
 put-decimal-cast-d :
     (t : ℕ) →
     put-decimal-lts.Need-cast-d
@@ -40,56 +38,48 @@ put-decimal-cast-d :
     put-decimal.Post
 put-decimal-cast-d t c = search needs
 
--- src/text.rt:30:9
 put-decimal-slice-write-d : (t : ℕ) → put-decimal-lts.Need-slice-write-d (
   put-decimal-below t,
   put-decimal.Post,
 ) (put-decimal-at t) put-decimal.Post
 put-decimal-slice-write-d t c = search needs
 
--- src/text.rt:31:16
 put-decimal-add-result : (t : ℕ) → put-decimal-lts.Need-add-result (
   put-decimal-below t,
   put-decimal.Post,
 ) (put-decimal-at t) put-decimal.Post
 put-decimal-add-result t c = search needs
 
--- src/text.rt:31:9
 put-decimal-same-length : (t : ℕ) → put-decimal-lts.Need-same-length (
   put-decimal-below t,
   put-decimal.Post,
 ) (put-decimal-at t) put-decimal.Post
 put-decimal-same-length t c = search needs
 
--- src/text.rt:31:9
 put-decimal-returns : (t : ℕ) → put-decimal-lts.Need-returns (
   put-decimal-below t,
   put-decimal.Post,
 ) (put-decimal-at t) put-decimal.Post
 put-decimal-returns t c = let a = c .before .before .args in rw (one-digit (a .x) (omega arith)) (byte (a .d .now) (a .at) (48 + a .x))
 
--- src/text.rt:33:9
 put-decimal-put-decimal-requires : (t : ℕ) → put-decimal-lts.Need-put-decimal-requires (
   put-decimal-below t,
   put-decimal.Post,
 ) (put-decimal-at t) put-decimal.Post
 put-decimal-put-decimal-requires t c κs = (omega arith, omega arith)
 
--- src/text.rt:34:15
 put-decimal-add-d-2 : (t : ℕ) → put-decimal-lts.Need-add-d-2 (
   put-decimal-below t,
   put-decimal.Post,
 ) (put-decimal-at t) put-decimal.Post
 put-decimal-add-d-2 t c = search needs
 
--- src/text.rt:34:14
 put-decimal-cast-d-2 : (t : ℕ) → put-decimal-lts.Need-cast-d-2 (
   put-decimal-below t,
   put-decimal.Post,
 ) (put-decimal-at t) put-decimal.Post
 put-decimal-cast-d-2 t c = search needs
 
--- src/text.rt:34:5
 put-decimal-slice-write-d-2 : (t : ℕ) → put-decimal-lts.Need-slice-write-d-2 (
   put-decimal-below t,
   put-decimal.Post,
@@ -99,7 +89,6 @@ put-decimal-slice-write-d-2 t c =
     let p = c .before .before .put-decimal .ensures in
     omega (arith, p .ends, kept p, length-front (a .x) (omega arith))
 
--- src/text.rt:35:5
 put-decimal-add-result-2 : (t : ℕ) → put-decimal-lts.Need-add-result-2 (
   put-decimal-below t,
   put-decimal.Post,
@@ -108,14 +97,12 @@ put-decimal-add-result-2 t c =
     let a = c .before .before .before .before .before .before .args in
     omega (arith, c .before .before .put-decimal .ensures .ends, length-front (a .x) (omega arith))
 
--- src/text.rt:25:1
 put-decimal-same-length-2 : (t : ℕ) → put-decimal-lts.Need-same-length-2 (
   put-decimal-below t,
   put-decimal.Post,
 ) (put-decimal-at t) put-decimal.Post
 put-decimal-same-length-2 t c = search needs
 
--- src/text.rt:25:1
 put-decimal-returns-2 : (t : ℕ) → put-decimal-lts.Need-returns-2 (
   put-decimal-below t,
   put-decimal.Post,

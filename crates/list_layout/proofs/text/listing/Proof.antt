@@ -10,61 +10,45 @@ use native.Mathlib.Omega.{arith}
 use borrow.Author.Needs.{needs}
 use Rattle.list_layout.proofs.text.listing.Statement.{statement}
 use Rattle.list_layout.proofs.text.listing.Tie as tie
-use Rattle.list_layout.proofs.text.listing.Reads as reads
-use Rattle.list_layout.proofs.text.listing.Lts as lts
-use Rattle.list_layout.proofs.text.put_accepted.Reads as put-accepted-reads
-use Rattle.list_layout.proofs.text.put_refused.Reads as put-refused-reads
-use Rattle.wire.proofs.layout.check.Reads as check-reads
 
--- src/text.rt:100:9
 returns : tie.Need-returns
 returns c =
     let a = c .before .before .before .args in
     (record { length-is = rw (lt-ltb (length (a .d .now)) 87040 (c .if1 .taken)); bytes-are = rw (lt-ltb (length (a .d .now)) 87040 (c .if1 .taken)) }, (omega arith, refl))
 
--- src/text.rt:103:9
 put-refused-requires : tie.Need-put-refused-requires
 put-refused-requires c κs = search needs
 
--- src/text.rt:103:9
 same-length : tie.Need-same-length
 same-length c = search needs
 
--- src/text.rt:103:9
 returns-2 : tie.Need-returns-2
 unfolding listed
 returns-2 c =
     let a = c .before .before .before .before .before .before .before .before .args in
     whole (a .s .now) (c .before .before .put-refused .ensures) (omega arith) (rw (lt-ltb 65536 (length (a .s .now)) (omega arith))) (refused-short 1 0)
 
--- src/text.rt:105:11
 check-requires : tie.Need-check-requires
 check-requires c κs = search needs
 
--- src/text.rt:106:27
 enum-known-n : tie.Need-enum-known-n
 enum-known-n c = search needs
 
--- src/text.rt:106:33
 put-accepted-requires : tie.Need-put-accepted-requires
 put-accepted-requires c κs =
     let a = c .before .before .before .before .before .before .before .before .before .args in
     let w = accepted (a .s .now) (c .before .before .n .given .0 .0) (sym (c .before .before .before .before .check .ensures) ∙ c .before .before .n .given .1) in
     (omega arith, w .long, w .few)
 
--- src/text.rt:107:26
 enum-known-k : tie.Need-enum-known-k
 enum-known-k c = search needs
 
--- src/text.rt:107:35
 put-refused-requires-2 : tie.Need-put-refused-requires-2
 put-refused-requires-2 c κs = search needs
 
--- src/text.rt:95:1
 same-length-2 : tie.Need-same-length-2
 same-length-2 c = search needs
 
--- src/text.rt:95:1
 returns-3 : tie.Need-returns-3
 unfolding listed
 returns-3 c =
@@ -76,11 +60,9 @@ returns-3 c =
     (rw (le-ltb 65536 (length (a .s .now)) (omega arith)) (sym (ap (λ u. textOf u (a .s .now)) v)))
     (accepted-short n (extentsOf (a .s .now) n) (omega (arith, length-listFrom (extentAt (a .s .now)) n 0, w .few)))
 
--- src/text.rt:95:1
 same-length-3 : tie.Need-same-length-3
 same-length-3 c = search needs
 
--- src/text.rt:95:1
 returns-4 : tie.Need-returns-4
 unfolding listed
 returns-4 c =

@@ -7,8 +7,6 @@ use native.Mathlib.Omega.{arith}
 use borrow.Author.Needs.{needs}
 use Rattle.list_layout.proofs.text.put_bytes.Statement.{statement}
 use Rattle.list_layout.proofs.text.put_bytes.Tie as tie
-use Rattle.list_layout.proofs.text.put_bytes.Reads as reads
-use Rattle.list_layout.proofs.text.put_bytes.Lts as lts
 
 abbrev Inv-loop : tie.InvT-loop
 Inv-loop d₀ at src i₀ d i = (i ≤ length src) × (length d ≡ length d₀) × (d ≡ sets d₀ at (take i src))
@@ -16,46 +14,36 @@ Inv-loop d₀ at src i₀ d i = (i ≤ length src) × (length d ≡ length d₀)
 abbrev μ-loop : tie.MeasureT-loop
 μ-loop d₀ at src i₀ d i = length src - i
 
--- src/text.rt:17:5
 loop-holds : tie.Need-loop-holds Inv-loop μ-loop
 loop-holds c = (omega arith, refl, refl)
 
--- src/text.rt:18:21
 shared-slice-read-d : tie.Need-shared-slice-read-d Inv-loop μ-loop
 shared-slice-read-d c = omega arith
 
--- src/text.rt:18:11
 add-d : tie.Need-add-d Inv-loop μ-loop
 add-d c = omega arith
 
--- src/text.rt:18:9
 slice-write-d : tie.Need-slice-write-d Inv-loop μ-loop
 slice-write-d c = omega arith
 
--- src/text.rt:19:9
 add-i : tie.Need-add-i Inv-loop μ-loop
 add-i c = omega arith
 
--- src/text.rt:17:5
 loop-less : tie.Need-loop-less Inv-loop μ-loop
 loop-less c = omega arith
 
--- src/text.rt:17:5
 loop-again : tie.Need-loop-again Inv-loop μ-loop
 loop-again c =
     let m = c .before .before .loop in
     let a = c .before .before .before .args in
     (omega arith, simp length-set (m .inv .1), rw (m .inv .2) (one-store (a .d .now) (a .src .now) (a .at) (m .i) (omega arith)))
 
--- src/text.rt:21:5
 add-result : tie.Need-add-result Inv-loop μ-loop
 add-result c = omega arith
 
--- src/text.rt:12:1
 same-length : tie.Need-same-length Inv-loop μ-loop
 same-length c = search needs
 
--- src/text.rt:12:1
 returns : tie.Need-returns Inv-loop μ-loop
 returns c =
     let m = c .before .loop in

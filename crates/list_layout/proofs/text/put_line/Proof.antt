@@ -5,64 +5,46 @@ use native.Mathlib.Omega.{arith}
 use borrow.Author.Needs.{needs}
 use Rattle.list_layout.proofs.text.put_line.Statement.{statement}
 use Rattle.list_layout.proofs.text.put_line.Tie as tie
-use Rattle.list_layout.proofs.text.put_line.Reads as reads
-use Rattle.list_layout.proofs.text.put_line.Lts as lts
-use Rattle.list_layout.proofs.text.put_number.Reads as put-number-reads
-use Rattle.xdr.proofs.be32.Reads as be32-reads
-use Rattle.xdr.proofs.be64.Reads as be64-reads
 
--- src/text.rt:53:44
 add-be64 : tie.Need-add-be64
 add-be64 c = search needs
 
--- src/text.rt:53:31
 be64-requires : tie.Need-be64-requires
 be64-requires c κs = search needs
 
--- src/text.rt:53:9
 put-number-requires : tie.Need-put-number-requires
 put-number-requires c κs = search needs
 
--- src/text.rt:54:43
 add-be64-2 : tie.Need-add-be64-2
 add-be64-2 c = search needs
 
--- src/text.rt:54:30
 be64-requires-2 : tie.Need-be64-requires-2
 be64-requires-2 c κs = search needs
 
--- src/text.rt:54:9
 put-number-requires-2 : tie.Need-put-number-requires-2
 put-number-requires-2 c κs = let p = c .before .before .before .before .put-number .ensures in omega (arith, number-ends (c .before .before .before .before .before .be64 .result) 32 p, kept p)
 
--- src/text.rt:55:43
 add-be64-3 : tie.Need-add-be64-3
 add-be64-3 c = search needs
 
--- src/text.rt:55:30
 be64-requires-3 : tie.Need-be64-requires-3
 be64-requires-3 c κs = search needs
 
--- src/text.rt:55:9
 put-number-requires-3 : tie.Need-put-number-requires-3
 put-number-requires-3 c κs =
     let p = c .before .before .before .before .before .before .before .before .before .put-number .ensures in
     let q = c .before .before .before .before .put-number2 .ensures in
     omega (arith, number-ends (c .before .before .before .before .before .before .before .before .before .before .be64 .result) 32 p, kept p, number-ends (c .before .before .before .before .before .be642 .result) 32 q, kept q)
 
--- src/text.rt:56:35
 add-be32 : tie.Need-add-be32
 add-be32 c = search needs
 
--- src/text.rt:56:22
 be32-requires : tie.Need-be32-requires
 be32-requires c κs = search needs
 
--- src/text.rt:56:22
 cast-put-number : tie.Need-cast-put-number
 cast-put-number c = search needs
 
--- src/text.rt:56:5
 put-number-requires-4 : tie.Need-put-number-requires-4
 put-number-requires-4 c κs =
     let p = c .before .before .before .before .before .before .before .before .before .before .before .before .before .before .put-number .ensures in
@@ -70,11 +52,9 @@ put-number-requires-4 c κs =
     let r = c .before .before .before .before .put-number3 .ensures in
     omega (arith, number-ends (c .before .before .before .before .before .before .before .before .before .before .before .before .before .before .before .be64 .result) 32 p, kept p, number-ends (c .before .before .before .before .before .before .before .before .before .before .be642 .result) 32 q, kept q, number-ends (c .before .before .before .before .before .be643 .result) 32 r, kept r)
 
--- src/text.rt:49:1
 same-length : tie.Need-same-length
 same-length c = search needs
 
--- src/text.rt:49:1
 returns : tie.Need-returns
 unfolding lineOf
 returns c =

@@ -8,15 +8,11 @@ use Rattle.wire.proofs.Stores.{listFrom-more}
 use Rattle.wire.specs.Layout.{extentAt}
 use Rattle.extents.specs.Extents.{listFrom}
 use lib.ListN.{length}
-use mathlib.Core.Path.{_≡_, refl, sym, ap, _∙_}
-use Prim.Native.Nat.{ℕ, _+_, _-_, _*_, _≤_}
+use mathlib.Core.Path.{_≡_}
+use Prim.Native.Nat.{_+_, _-_, _*_, _≤_}
 use native.Mathlib.Omega.{arith}
-use borrow.Author.Needs.{needs}
 use Rattle.list_layout.proofs.text.put_lines.Statement.{statement}
 use Rattle.list_layout.proofs.text.put_lines.Tie as tie
-use Rattle.list_layout.proofs.text.put_lines.Reads as reads
-use Rattle.list_layout.proofs.text.put_lines.Lts as lts
-use Rattle.list_layout.proofs.text.put_line.Reads as put-line-reads
 
 abbrev Inv-loop : tie.InvT-loop
 Inv-loop d₀ at s n to₀ i₀ d to i = (i ≤ n) × (to ≤ at + 84 * i) × Put d₀ at (linesOf (listFrom (extentAt s) i 0)) d to
@@ -24,32 +20,25 @@ Inv-loop d₀ at s n to₀ i₀ d to i = (i ≤ n) × (to ≤ at + 84 * i) × Pu
 abbrev μ-loop : tie.MeasureT-loop
 μ-loop d₀ at s n to₀ i₀ d to i = n - i
 
--- src/text.rt:66:5
 loop-holds : tie.Need-loop-holds Inv-loop μ-loop
 unfolding listFrom linesOf
 loop-holds c = let a = c .before .before .args in (omega arith, omega arith, nothing (a .d .now) (a .at))
 
--- src/text.rt:67:37
 mul-put-line : tie.Need-mul-put-line Inv-loop μ-loop
 mul-put-line c = omega arith
 
--- src/text.rt:67:33
 add-put-line : tie.Need-add-put-line Inv-loop μ-loop
 add-put-line c = omega arith
 
--- src/text.rt:67:9
 put-line-requires : tie.Need-put-line-requires Inv-loop μ-loop
 put-line-requires c κs = (omega (arith, kept (c .before .before .loop .inv .2)), omega arith)
 
--- src/text.rt:68:9
 add-i : tie.Need-add-i Inv-loop μ-loop
 add-i c = omega arith
 
--- src/text.rt:66:5
 loop-less : tie.Need-loop-less Inv-loop μ-loop
 loop-less c = omega arith
 
--- src/text.rt:66:5
 loop-again : tie.Need-loop-again Inv-loop μ-loop
 loop-again c =
     let a = c .before .before .before .before .before .before .before .before .args in
@@ -61,11 +50,9 @@ loop-again c =
       rw (add-one, listFrom-more (extentAt s) (m .i) 0, line-more (listFrom (extentAt s) (m .i) 0) (extentAt s (0 + m .i)), zero-add) (then (m .inv .2) p),
     )
 
--- src/text.rt:60:1
 same-length : tie.Need-same-length Inv-loop μ-loop
 same-length c = kept (c .before .loop .inv .2)
 
--- src/text.rt:60:1
 returns : tie.Need-returns Inv-loop μ-loop
 returns c =
     let m = c .before .loop in

@@ -4,35 +4,25 @@ use native.Mathlib.Omega.{arith}
 use borrow.Author.Needs.{needs}
 use Rattle.list_layout.proofs.text.put_refused.Statement.{statement}
 use Rattle.list_layout.proofs.text.put_refused.Tie as tie
-use Rattle.list_layout.proofs.text.put_refused.Reads as reads
-use Rattle.list_layout.proofs.text.put_refused.Lts as lts
-use Rattle.list_layout.proofs.text.put_bytes.Reads as put-bytes-reads
-use Rattle.list_layout.proofs.text.put_number.Reads as put-number-reads
 
--- src/text.rt:88:29
 slice-aggregate-put-bytes : tie.Need-slice-aggregate-put-bytes
 slice-aggregate-put-bytes c = search needs
 
--- src/text.rt:88:9
 put-bytes-requires : tie.Need-put-bytes-requires
 put-bytes-requires c κs = search needs
 
--- src/text.rt:89:9
 put-number-requires : tie.Need-put-number-requires
 put-number-requires c κs = search needs
 
--- src/text.rt:90:29
 slice-aggregate-put-bytes-2 : tie.Need-slice-aggregate-put-bytes-2
 slice-aggregate-put-bytes-2 c = search needs
 
--- src/text.rt:90:9
 put-bytes-requires-2 : tie.Need-put-bytes-requires-2
 put-bytes-requires-2 c κs =
     let p = c .before .before .before .before .before .before .before .before .put-bytes .ensures in
     let q = c .before .before .before .before .put-number .ensures in
     omega (arith, p .ends, kept p, number-ends (c .before .before .before .before .before .before .before .before .before .before .before .before .args .k) 32 q, kept q)
 
--- src/text.rt:91:5
 put-number-requires-2 : tie.Need-put-number-requires-2
 put-number-requires-2 c κs =
     let p = c .before .before .before .before .before .before .before .before .before .before .before .before .put-bytes .ensures in
@@ -40,11 +30,9 @@ put-number-requires-2 c κs =
     let r = c .before .before .before .put-bytes2 .ensures in
     omega (arith, p .ends, kept p, number-ends (c .before .before .before .before .before .before .before .before .before .before .before .before .before .before .before .before .args .k) 32 q, kept q, r .ends, kept r)
 
--- src/text.rt:84:1
 same-length : tie.Need-same-length
 same-length c = search needs
 
--- src/text.rt:84:1
 returns : tie.Need-returns
 unfolding refusedText
 returns c = then (c .before .before .before .before .before .before .before .before .before .before .before .before .before .before .before .put-bytes .ensures) (then (c .before .before .before .before .before .before .before .before .before .before .before .put-number .ensures) (then (c .before .before .before .before .before .before .put-bytes2 .ensures) (c .before .before .put-number2 .ensures)))

@@ -3,76 +3,55 @@ use lib.ListN.{getD}
 use borrow.Author.Needs.{needs}
 use Rattle.wire.proofs.columns.put_numbers.Statement.{statement}
 use Rattle.wire.proofs.columns.put_numbers.Tie as tie
-use Rattle.wire.proofs.columns.put_numbers.Reads as reads
-use Rattle.wire.proofs.columns.put_numbers.Lts as lts
-use Rattle.xdr.proofs.put32.Reads as put32-reads
-use Rattle.xdr.proofs.put64.Reads as put64-reads
 
--- src/lib.rt:237:26
 mul-put64 : tie.Need-mul-put64
 mul-put64 c = search needs
 
--- src/lib.rt:237:26
 shared-slice-read-put64 : tie.Need-shared-slice-read-put64
 shared-slice-read-put64 c = search needs
 
--- src/lib.rt:237:5
 put64-requires : tie.Need-put64-requires
 put64-requires c κs = search needs
 
--- src/lib.rt:238:22
 add-put64 : tie.Need-add-put64
 add-put64 c = search needs
 
--- src/lib.rt:238:30
 mul-put64-2 : tie.Need-mul-put64-2
 mul-put64-2 c = search needs
 
--- src/lib.rt:238:30
 shared-slice-read-put64-2 : tie.Need-shared-slice-read-put64-2
 shared-slice-read-put64-2 c = search needs
 
--- src/lib.rt:238:5
 put64-requires-2 : tie.Need-put64-requires-2
 put64-requires-2 c κs = search needs
 
--- src/lib.rt:239:22
 add-put64-2 : tie.Need-add-put64-2
 add-put64-2 c = search needs
 
--- src/lib.rt:239:31
 mul-put64-3 : tie.Need-mul-put64-3
 mul-put64-3 c = search needs
 
--- src/lib.rt:239:31
 shared-slice-read-put64-3 : tie.Need-shared-slice-read-put64-3
 shared-slice-read-put64-3 c = search needs
 
--- src/lib.rt:239:5
 put64-requires-3 : tie.Need-put64-requires-3
 put64-requires-3 c κs = search needs
 
--- src/lib.rt:240:22
 add-put32 : tie.Need-add-put32
 add-put32 c = search needs
 
--- src/lib.rt:240:31
 mul-put32 : tie.Need-mul-put32
 mul-put32 c = search needs
 
--- src/lib.rt:240:31
 shared-slice-read-put32 : tie.Need-shared-slice-read-put32
 shared-slice-read-put32 c = search needs
 
--- src/lib.rt:240:5
 put32-requires : tie.Need-put32-requires
 put32-requires c κs = search needs
 
--- src/lib.rt:233:1
 same-length : tie.Need-same-length
 same-length c = search needs
 
--- src/lib.rt:233:1
 returns : tie.Need-returns
 returns c =
     let a = c .before .before .before .before .before .before .before .before .before .before .before .before .before .before .before .before .before .before .before .before .before .before .before .before .before .args in

@@ -10,32 +10,22 @@ use native.Mathlib.Omega.{arith}
 use borrow.Author.Needs.{needs}
 use Rattle.wire.proofs.columns.put_row.Statement.{statement}
 use Rattle.wire.proofs.columns.put_row.Tie as tie
-use Rattle.wire.proofs.columns.put_row.Reads as reads
-use Rattle.wire.proofs.columns.put_row.Lts as lts
-use Rattle.wire.proofs.columns.put_device.Reads as put-device-reads
-use Rattle.wire.proofs.columns.put_numbers.Reads as put-numbers-reads
 
--- src/lib.rt:247:29
 mul-put-device : tie.Need-mul-put-device
 mul-put-device c = search needs
 
--- src/lib.rt:247:5
 put-device-requires : tie.Need-put-device-requires
 put-device-requires c κs = search needs
 
--- src/lib.rt:248:20
 add-put-numbers : tie.Need-add-put-numbers
 add-put-numbers c = search needs
 
--- src/lib.rt:248:5
 put-numbers-requires : tie.Need-put-numbers-requires
 put-numbers-requires c κs = search needs
 
--- src/lib.rt:243:1
 same-length : tie.Need-same-length
 same-length c = search needs
 
--- src/lib.rt:243:1
 returns : tie.Need-returns
 returns c =
     let a = c .before .before .before .before .before .before .before .before .before .before .before .before .before .before .args in

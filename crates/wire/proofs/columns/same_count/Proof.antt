@@ -1,33 +1,25 @@
 use lib.ListN.{length}
 use borrow.Author.Tests.{eq-eqb, ne-eqb}
-use native.Mathlib.Omega.{arith}
 use borrow.Author.Needs.{needs}
 use Rattle.wire.proofs.columns.same_count.Statement.{statement}
 use Rattle.wire.proofs.columns.same_count.Tie as tie
-use Rattle.wire.proofs.columns.same_count.Reads as reads
-use Rattle.wire.proofs.columns.same_count.Lts as lts
 
--- src/columns.rt:21:9
 returns : tie.Need-returns
 returns c = let a = c .before .args in simp (ne-eqb (length (a .lens .now)) (length (a .offs .now)) (c .if1 .taken))
 
--- src/columns.rt:24:9
 returns-2 : tie.Need-returns-2
 returns-2 c =
     let a = c .before .before .args in
     simp (eq-eqb (length (a .lens .now)) (length (a .offs .now)) (c .before .if1 .left), ne-eqb (length (a .stos .now)) (length (a .offs .now)) (c .if2 .taken))
 
--- src/columns.rt:27:9
 returns-3 : tie.Need-returns-3
 returns-3 c =
     let a = c .before .before .before .args in
     simp (eq-eqb (length (a .lens .now)) (length (a .offs .now)) (c .before .before .if1 .left), eq-eqb (length (a .stos .now)) (length (a .offs .now)) (c .before .if2 .left), ne-eqb (length (a .sts .now)) (length (a .offs .now)) (c .if3 .taken))
 
--- src/columns.rt:29:19
 mul-result : tie.Need-mul-result
 mul-result c = search needs
 
--- src/columns.rt:16:1
 returns-4 : tie.Need-returns-4
 returns-4 c =
     let a = c .before .before .before .args in

@@ -1,6 +1,6 @@
 use Rattle.wire.specs.Columns.{rowOf}
 use Rattle.extents.proofs.OnePass.{accepted-end}
-use Rattle.extents.proofs.Turns.{Reads, Scanning, starts, stops, goes-on, ends}
+use Rattle.extents.proofs.Turns.{Scanning, starts, stops, goes-on, ends}
 use mathlib.Core.Path.{refl, sym, _∙_}
 use lib.ListN.{length, getD}
 use Prim.Native.Nat.{_-_}
@@ -8,11 +8,6 @@ use native.Mathlib.Omega.{arith}
 use borrow.Author.Needs.{needs}
 use Rattle.wire.proofs.columns.scan.Statement.{statement}
 use Rattle.wire.proofs.columns.scan.Tie as tie
-use Rattle.wire.proofs.columns.scan.Reads as reads
-use Rattle.wire.proofs.columns.scan.Lts as lts
-use Rattle.extents.proofs.push.Reads as push-reads
-use Rattle.extents.proofs.refuse.Reads as refuse-reads
-use Rattle.extents.proofs.start.Reads as start-reads
 
 abbrev Inv-loop : tie.InvT-loop
 Inv-loop devs offs lens stos sts n passed₀ i₀ passed i = Scanning (rowOf devs offs lens stos sts) (length offs) passed i
@@ -20,86 +15,68 @@ Inv-loop devs offs lens stos sts n passed₀ i₀ passed i = Scanning (rowOf dev
 abbrev μ-loop : tie.MeasureT-loop
 μ-loop devs offs lens stos sts n passed₀ i₀ passed i = length offs - i
 
--- src/columns.rt:21:9
 start-requires : tie.Need-start-requires Inv-loop μ-loop
 start-requires c κs = search needs
 
--- src/columns.rt:23:5
 loop-holds : tie.Need-loop-holds Inv-loop μ-loop
 loop-holds c =
     let a = c .before .before .before .before .before .before .args in
     rw (c .start .ensures) (starts (rowOf (a .devs .now) (a .offs .now) (a .lens .now) (a .stos .now) (a .sts .now)) (length (a .offs .now)))
 
--- src/columns.rt:24:19
 mul-off : tie.Need-mul-off Inv-loop μ-loop
 mul-off c = omega arith
 
--- src/columns.rt:24:19
 shared-slice-read-off : tie.Need-shared-slice-read-off Inv-loop μ-loop
 shared-slice-read-off c = omega arith
 
--- src/columns.rt:25:19
 mul-len : tie.Need-mul-len Inv-loop μ-loop
 mul-len c = omega arith
 
--- src/columns.rt:25:19
 shared-slice-read-len : tie.Need-shared-slice-read-len Inv-loop μ-loop
 shared-slice-read-len c = omega arith
 
--- src/columns.rt:26:18
 mul-st : tie.Need-mul-st Inv-loop μ-loop
 mul-st c = omega arith
 
--- src/columns.rt:26:18
 shared-slice-read-st : tie.Need-shared-slice-read-st Inv-loop μ-loop
 shared-slice-read-st c = omega arith
 
--- src/columns.rt:27:51
 mul-refuse : tie.Need-mul-refuse Inv-loop μ-loop
 mul-refuse c = omega arith
 
--- src/columns.rt:27:51
 shared-slice-read-refuse : tie.Need-shared-slice-read-refuse Inv-loop μ-loop
 shared-slice-read-refuse c = omega arith
 
--- src/columns.rt:27:13
 refuse-requires : tie.Need-refuse-requires Inv-loop μ-loop
 refuse-requires c κs = search needs
 
--- src/columns.rt:29:13
 returns : tie.Need-returns Inv-loop μ-loop
 returns c =
     let m = c .before .before .before .before .before .before .before .loop in
     stops (m .inv) (omega arith) (record { its-offset = refl; its-length = refl; its-storage = refl; its-state = refl })
     (c .before .refuse .result) (c .before .refuse .ensures) (c .if1 .taken)
 
--- src/columns.rt:31:45
 add-push : tie.Need-add-push Inv-loop μ-loop
 add-push c =
     let a = c .before .before .before .before .before .before .before .before .before .before .before .before .before .before .args in
     let m = c .before .before .before .before .before .before .before .loop in
     record { fits = accepted-end (m .passed) (getD (a .offs .now) (m .i) 0) (getD (a .lens .now) (m .i) 0) (getD (a .stos .now) (m .i) 0) (getD (a .sts .now) (m .i) 0) (sym (c .before .refuse .ensures) ∙ c .if1 .left) }
 
--- src/columns.rt:31:9
 push-requires : tie.Need-push-requires Inv-loop μ-loop
 push-requires c κs = search needs
 
--- src/columns.rt:32:9
 add-i : tie.Need-add-i Inv-loop μ-loop
 add-i c = omega arith
 
--- src/columns.rt:23:5
 loop-less : tie.Need-loop-less Inv-loop μ-loop
 loop-less c = omega arith
 
--- src/columns.rt:23:5
 loop-again : tie.Need-loop-again Inv-loop μ-loop
 loop-again c =
     let m = c .before .before .before .before .before .before .before .before .loop in
     rw (c .push .ensures) (goes-on (m .inv) (omega arith) (record { its-offset = refl; its-length = refl; its-storage = refl; its-state = refl })
     (c .before .before .refuse .result) (c .before .before .refuse .ensures) (c .before .if1 .left))
 
--- src/columns.rt:16:1
 returns-2 : tie.Need-returns-2 Inv-loop μ-loop
 returns-2 c = ends (c .before .loop .inv) (omega arith)
 

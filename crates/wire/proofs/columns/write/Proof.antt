@@ -13,52 +13,37 @@ use native.Mathlib.Omega.{arith}
 use borrow.Author.Needs.{needs}
 use Rattle.wire.proofs.columns.write.Statement.{statement}
 use Rattle.wire.proofs.columns.write.Tie as tie
-use Rattle.wire.proofs.columns.write.Reads as reads
-use Rattle.wire.proofs.columns.write.Lts as lts
-use Rattle.wire.proofs.columns.fill.Reads as fill-reads
-use Rattle.wire.proofs.columns.same_count.Reads as same-count-reads
-use Rattle.wire.proofs.columns.scan.Reads as scan-reads
-use Rattle.xdr.proofs.put32.Reads as put32-reads
 
--- src/columns.rt:127:9
 same-count-requires : tie.Need-same-count-requires
 same-count-requires c κs = search needs
 
--- src/columns.rt:128:9
 returns : tie.Need-returns
 returns c =
     let a = c .before .before .before .before .before .before .before .before .args in
     (uneven (a .devs .now) (a .offs .now) (a .lens .now) (a .stos .now) (a .sts .now) (length (a .d .now)) (sym (c .before .same-count .ensures) ∙ not-true _ (c .if1 .taken)), refl)
 
--- src/columns.rt:132:9
 returns-2 : tie.Need-returns-2
 returns-2 c =
     let a = c .before .before .before .before .before .before .before .before .before .args in
     (too-many-rows (a .devs .now) (a .offs .now) (a .lens .now) (a .stos .now) (a .sts .now) (length (a .d .now)) (sym (c .before .before .same-count .ensures) ∙ not-false _ (c .before .if1 .left)) (omega arith), refl)
 
--- src/columns.rt:134:11
 scan-requires : tie.Need-scan-requires
 scan-requires c κs =
     let a = c .before .before .before .before .before .before .before .before .before .args in
     even-said (a .devs .now) (a .offs .now) (a .lens .now) (a .stos .now) (a .sts .now) (sym (c .before .before .same-count .ensures) ∙ not-false _ (c .before .if1 .left))
 
--- src/columns.rt:135:26
 enum-known-k : tie.Need-enum-known-k
 enum-known-k c = search needs
 
--- src/columns.rt:137:16
 enum-told : tie.Need-enum-told
 enum-told c = search needs
 
--- src/columns.rt:137:30
 mul-if3 : tie.Need-mul-if3
 mul-if3 c = search needs
 
--- src/columns.rt:137:26
 add-if3 : tie.Need-add-if3
 add-if3 c = search needs
 
--- src/columns.rt:138:17
 returns-3 : tie.Need-returns-3
 returns-3 c =
     let a = c .before .before .before .before .before .before .before .before .before .before .before .before .before .args in
@@ -70,21 +55,17 @@ returns-3 c =
       refl,
     )
 
--- src/columns.rt:140:30
 cast-put32 : tie.Need-cast-put32
 cast-put32 c = search needs
 
--- src/columns.rt:140:13
 put32-requires : tie.Need-put32-requires
 put32-requires c κs = search needs
 
--- src/columns.rt:141:13
 fill-requires : tie.Need-fill-requires
 fill-requires c κs =
     let a = c .before .before .before .before .before .before .before .before .before .before .before .before .before .before .before .before .before .before .args in
     (omega arith, even-said (a .devs .now) (a .offs .now) (a .lens .now) (a .stos .now) (a .sts .now) (sym (c .before .before .before .before .before .before .before .before .before .before .before .same-count .ensures) ∙ not-false _ (c .before .before .before .before .before .before .before .before .before .before .if1 .left)))
 
--- src/columns.rt:116:1
 returns-4 : tie.Need-returns-4
 returns-4 c =
     let a = c .before .before .before .before .before .before .before .before .before .before .before .before .before .args in
@@ -94,11 +75,9 @@ returns-4 c =
       refl,
     )
 
--- src/columns.rt:116:1
 same-length : tie.Need-same-length
 same-length c = search needs
 
--- src/columns.rt:116:1
 returns-5 : tie.Need-returns-5
 returns-5 c =
     let a = c .before .before .before .before .before .before .before .before .before .before .before .before .before .before .before .before .before .before .before .before .before .args in

@@ -4,45 +4,32 @@ use native.Mathlib.Omega.{arith}
 use borrow.Author.Needs.{needs}
 use Rattle.wire.proofs.layout.check.Statement.{statement}
 use Rattle.wire.proofs.layout.check.Tie as tie
-use Rattle.wire.proofs.layout.check.Reads as reads
-use Rattle.wire.proofs.layout.check.Lts as lts
-use Rattle.wire.proofs.layout.scan.Reads as scan-reads
-use Rattle.xdr.proofs.be32.Reads as be32-reads
 
--- src/layout.rt:41:9
 returns : tie.Need-returns
 returns c = too-short (c .before .before .args .s .now) (omega arith)
 
--- src/layout.rt:43:13
 be32-requires : tie.Need-be32-requires
 be32-requires c κs = search needs
 
--- src/layout.rt:43:13
 cast-n : tie.Need-cast-n
 cast-n c = search needs
 
--- src/layout.rt:45:9
 returns-2 : tie.Need-returns-2
 returns-2 c = too-many (c .before .before .before .before .args .s .now) (c .before .be32 .result) (c .before .be32 .ensures) (omega arith) (omega arith)
 
--- src/layout.rt:47:23
 mul-if3 : tie.Need-mul-if3
 mul-if3 c = search needs
 
--- src/layout.rt:47:19
 add-if3 : tie.Need-add-if3
 add-if3 c = search needs
 
--- src/layout.rt:48:9
 returns-3 : tie.Need-returns-3
 returns-3 c =
     wrong-length (c .before .before .before .before .before .args .s .now) (c .before .before .be32 .result) (c .before .before .be32 .ensures) (omega arith) (omega arith) (omega arith)
 
--- src/layout.rt:50:5
 scan-requires : tie.Need-scan-requires
 scan-requires c κs = search needs
 
--- src/layout.rt:37:1
 returns-4 : tie.Need-returns-4
 returns-4 c =
     c .scan .ensures

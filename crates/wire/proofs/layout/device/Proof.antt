@@ -8,8 +8,6 @@ use lib.ListN.{length, take, drop, set, getD, length-set, length-drop}
 use lib.Seq.{take-suc-set, take-suc, take-all, getD-drop}
 use Rattle.wire.proofs.layout.device.Statement.{statement}
 use Rattle.wire.proofs.layout.device.Tie as tie
-use Rattle.wire.proofs.layout.device.Reads as reads
-use Rattle.wire.proofs.layout.device.Lts as lts
 
 -- one more byte copied
 copied : (s d : List ℕ) (at i : ℕ) → i < length d → at + i < length s → take i d ≡ take i (drop at s)
@@ -24,38 +22,30 @@ Inv-loop s at d₀ i₀ d i = (i ≤ 16) × (length d ≡ 16) × (take i d ≡ t
 abbrev μ-loop : tie.MeasureT-loop
 μ-loop s at d₀ i₀ d i = 16 - i
 
--- src/lib.rt:177:5
 loop-holds : tie.Need-loop-holds Inv-loop μ-loop
 loop-holds c = (omega arith, refl, refl)
 
--- src/lib.rt:178:18
 add-d : tie.Need-add-d Inv-loop μ-loop
 add-d c = search needs
 
--- src/lib.rt:178:16
 shared-slice-read-d : tie.Need-shared-slice-read-d Inv-loop μ-loop
 shared-slice-read-d c = search needs
 
--- src/lib.rt:178:9
 array-write-d : tie.Need-array-write-d Inv-loop μ-loop
 array-write-d c = search needs
 
--- src/lib.rt:179:9
 add-i : tie.Need-add-i Inv-loop μ-loop
 add-i c = search needs
 
--- src/lib.rt:177:5
 loop-less : tie.Need-loop-less Inv-loop μ-loop
 loop-less c = search needs
 
--- src/lib.rt:177:5
 loop-again : tie.Need-loop-again Inv-loop μ-loop
 loop-again c =
     let m = c .before .before .loop in
     let a = c .before .before .before .args in
     (omega arith, simp length-set (m .inv .1), copied (a .s .now) (m .d) (a .at) (m .i) (omega arith) (omega arith) (m .inv .2))
 
--- src/lib.rt:171:1
 returns : tie.Need-returns Inv-loop μ-loop
 returns c =
     let m = c .before .loop in

@@ -1,41 +1,29 @@
 use Rattle.wire.proofs.Bodies.{by-numbers}
 use mathlib.Core.Path.{sym, _∙_}
-use native.Mathlib.Omega.{arith}
 use borrow.Author.Needs.{needs}
 use Rattle.wire.proofs.layout.extent.Statement.{statement}
 use Rattle.wire.proofs.layout.extent.Tie as tie
-use Rattle.wire.proofs.layout.extent.Reads as reads
-use Rattle.wire.proofs.layout.extent.Lts as lts
-use Rattle.wire.proofs.layout.check.Reads as check-reads
-use Rattle.wire.proofs.layout.extent_in.Reads as extent-in-reads
 
--- src/layout.rt:162:11
 check-requires : tie.Need-check-requires
 check-requires c κs = search needs
 
--- src/layout.rt:163:27
 enum-known-n : tie.Need-enum-known-n
 enum-known-n c = search needs
 
--- src/layout.rt:163:33
 extent-in-requires : tie.Need-extent-in-requires
 extent-in-requires c κs = search needs
 
--- src/layout.rt:164:26
 enum-known-k : tie.Need-enum-known-k
 enum-known-k c = search needs
 
--- src/layout.rt:164:35
 extent-in-requires-2 : tie.Need-extent-in-requires-2
 extent-in-requires-2 c κs = search needs
 
--- src/layout.rt:159:1
 returns : tie.Need-returns
 returns c =
     let a = c .before .before .before .before .before .before .args in
     c .extent-in .ensures ∙ by-numbers (a .s .now) (a .i) _ (sym (c .before .before .n .given .1) ∙ c .before .before .before .before .check .ensures)
 
--- src/layout.rt:159:1
 returns-2 : tie.Need-returns-2
 returns-2 c =
     let a = c .before .before .before .before .before .before .args in

@@ -2,49 +2,34 @@ use lib.Seq.{drop-drop}
 use borrow.Author.Needs.{needs}
 use Rattle.wire.proofs.layout.extent_at.Statement.{statement}
 use Rattle.wire.proofs.layout.extent_at.Tie as tie
-use Rattle.wire.proofs.layout.extent_at.Reads as reads
-use Rattle.wire.proofs.layout.extent_at.Lts as lts
-use Rattle.xdr.proofs.be32.Reads as be32-reads
-use Rattle.xdr.proofs.be64.Reads as be64-reads
-use Rattle.wire.proofs.layout.device.Reads as device-reads
 
--- src/lib.rt:188:9
 device-requires : tie.Need-device-requires
 device-requires c κs = search needs
 
--- src/lib.rt:191:33
 add-be64 : tie.Need-add-be64
 add-be64 c = search needs
 
--- src/lib.rt:191:17
 be64-requires : tie.Need-be64-requires
 be64-requires c κs = search needs
 
--- src/lib.rt:192:30
 add-be64-2 : tie.Need-add-be64-2
 add-be64-2 c = search needs
 
--- src/lib.rt:192:14
 be64-requires-2 : tie.Need-be64-requires-2
 be64-requires-2 c κs = search needs
 
--- src/lib.rt:193:34
 add-be64-3 : tie.Need-add-be64-3
 add-be64-3 c = search needs
 
--- src/lib.rt:193:18
 be64-requires-3 : tie.Need-be64-requires-3
 be64-requires-3 c κs = search needs
 
--- src/lib.rt:194:32
 add-be32 : tie.Need-add-be32
 add-be32 c = search needs
 
--- src/lib.rt:194:16
 be32-requires : tie.Need-be32-requires
 be32-requires c κs = search needs
 
--- src/lib.rt:184:1
 returns : tie.Need-returns
 returns c = simp (c .before .before .before .before .device .ensures, c .before .before .before .be64 .ensures, c .before .before .be642 .ensures, c .before .be643 .ensures, c .be32 .ensures, drop-drop)
 

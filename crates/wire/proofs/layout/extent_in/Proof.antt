@@ -6,41 +6,29 @@ use native.Mathlib.Omega.{arith}
 use borrow.Author.Needs.{needs}
 use Rattle.wire.proofs.layout.extent_in.Statement.{statement}
 use Rattle.wire.proofs.layout.extent_in.Tie as tie
-use Rattle.wire.proofs.layout.extent_in.Reads as reads
-use Rattle.wire.proofs.layout.extent_in.Lts as lts
-use Rattle.wire.proofs.layout.extent_at.Reads as extent-at-reads
-use Rattle.wire.proofs.layout.held.Reads as held-reads
-use Rattle.wire.proofs.layout.nothing.Reads as nothing-reads
 
--- src/layout.rt:142:9
 nothing-requires : tie.Need-nothing-requires
 nothing-requires c κs = search needs
 
--- src/layout.rt:142:9
 returns : tie.Need-returns
 unfolding extentIn
 returns c = let a = c .before .before .before .args in c .nothing .ensures ∙ simp (ne-eqb (a .rule) 0 (c .before .if1 .taken))
 
--- src/layout.rt:145:9
 nothing-requires-2 : tie.Need-nothing-requires-2
 nothing-requires-2 c κs = search needs
 
--- src/layout.rt:145:9
 returns-2 : tie.Need-returns-2
 unfolding extentIn
 returns-2 c =
     let a = c .before .before .before .before .args in
     c .nothing2 .ensures ∙ simp (eq-eqb (a .rule) 0 (c .before .before .if1 .left), le-ltb (a .i) (a .place) (c .before .if2 .taken))
 
--- src/layout.rt:147:8
 held-requires : tie.Need-held-requires
 held-requires c κs = search needs
 
--- src/layout.rt:148:9
 nothing-requires-3 : tie.Need-nothing-requires-3
 nothing-requires-3 c κs = search needs
 
--- src/layout.rt:148:9
 returns-3 : tie.Need-returns-3
 unfolding extentIn
 returns-3 c =
@@ -48,19 +36,15 @@ returns-3 c =
     c .nothing3 .ensures
     ∙ simp (eq-eqb (a .rule) 0 (c .before .before .before .before .if1 .left), le-ltb (a .i) (heldIn (a .s .now)) (omega (arith, c .before .before .held .ensures)), and-false)
 
--- src/layout.rt:150:30
 mul-extent-at : tie.Need-mul-extent-at
 mul-extent-at c = search needs
 
--- src/layout.rt:150:26
 add-extent-at : tie.Need-add-extent-at
 add-extent-at c = search needs
 
--- src/layout.rt:150:9
 extent-at-requires : tie.Need-extent-at-requires
 extent-at-requires c κs = search needs
 
--- src/layout.rt:138:1
 returns-4 : tie.Need-returns-4
 unfolding extentIn
 returns-4 c =

@@ -1,32 +1,23 @@
 use mathlib.Core.Path.{sym, ap, _∙_}
 use Rattle.extents.specs.Extents.{numberOf, placeOf}
-use native.Mathlib.Omega.{arith}
 use borrow.Author.Needs.{needs}
 use Rattle.wire.proofs.layout.sc_layout_check.Statement.{statement}
 use Rattle.wire.proofs.layout.sc_layout_check.Tie as tie
-use Rattle.wire.proofs.layout.sc_layout_check.Reads as reads
-use Rattle.wire.proofs.layout.sc_layout_check.Lts as lts
-use Rattle.wire.proofs.layout.check.Reads as check-reads
 
--- src/layout.rt:58:11
 check-requires : tie.Need-check-requires
 check-requires c κs = search needs
 
--- src/layout.rt:59:27
 enum-known-n : tie.Need-enum-known-n
 enum-known-n c = search needs
 
--- src/layout.rt:63:26
 enum-known-k : tie.Need-enum-known-k
 enum-known-k c = search needs
 
--- src/layout.rt:54:1
 returns : tie.Need-returns
 returns c =
     let v = sym (c .before .n .given .1) ∙ c .before .before .before .check .ensures in
     (ap numberOf v, ap placeOf v)
 
--- src/layout.rt:54:1
 returns-2 : tie.Need-returns-2
 returns-2 c =
     let v = sym (c .before .k .given .1) ∙ c .before .before .before .check .ensures in

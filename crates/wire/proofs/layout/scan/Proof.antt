@@ -12,13 +12,6 @@ use native.Mathlib.Omega.{arith}
 use borrow.Author.Needs.{needs}
 use Rattle.wire.proofs.layout.scan.Statement.{statement}
 use Rattle.wire.proofs.layout.scan.Tie as tie
-use Rattle.wire.proofs.layout.scan.Reads as reads
-use Rattle.wire.proofs.layout.scan.Lts as lts
-use Rattle.extents.proofs.push.Reads as push-reads
-use Rattle.extents.proofs.refuse.Reads as refuse-reads
-use Rattle.extents.proofs.start.Reads as start-reads
-use Rattle.xdr.proofs.be32.Reads as be32-reads
-use Rattle.xdr.proofs.be64.Reads as be64-reads
 
 -- the numbers that a turn reads are those of the extent at its place
 read : (s : List ℕ) (at i : ℕ) → at ≡ 4 + 44 * i → {off len sto st : ℕ}
@@ -28,56 +21,44 @@ read s at i e a b c d =
     record { its-offset = field 8 16 s at i e a; its-length = field 8 24 s at i e b; its-storage = field 8 32 s at i e c; its-state = field 4 40 s at i e d }
 
 abbrev Inv-loop : tie.InvT-loop
-Inv-loop s n passed₀ i₀ at₀ passed i at = Scanning (extentAt s) n passed i × (at ≡ 4 + 44 * i)
+Inv-loop s count passed₀ i₀ at₀ passed i at = Scanning (extentAt s) count passed i × (at ≡ 4 + 44 * i)
 
 abbrev μ-loop : tie.MeasureT-loop
-μ-loop s n passed₀ i₀ at₀ passed i at = n - i
+μ-loop s count passed₀ i₀ at₀ passed i at = count - i
 
--- src/layout.rt:17:9
 start-requires : tie.Need-start-requires Inv-loop μ-loop
 start-requires c κs = search needs
 
--- src/layout.rt:20:5
 loop-holds : tie.Need-loop-holds Inv-loop μ-loop
-loop-holds c = let a = c .before .before .args in (rw (c .start .ensures) (starts (extentAt (a .s .now)) (a .n)), refl)
+loop-holds c = let a = c .before .before .args in (rw (c .start .ensures) (starts (extentAt (a .s .now)) (a .count)), refl)
 
--- src/layout.rt:21:32
 add-be64 : tie.Need-add-be64 Inv-loop μ-loop
 add-be64 c = omega arith
 
--- src/layout.rt:21:13
 be64-requires : tie.Need-be64-requires Inv-loop μ-loop
 be64-requires c κs = search needs
 
--- src/layout.rt:22:32
 add-be64-2 : tie.Need-add-be64-2 Inv-loop μ-loop
 add-be64-2 c = omega arith
 
--- src/layout.rt:22:13
 be64-requires-2 : tie.Need-be64-requires-2 Inv-loop μ-loop
 be64-requires-2 c κs = search needs
 
--- src/layout.rt:23:32
 add-be64-3 : tie.Need-add-be64-3 Inv-loop μ-loop
 add-be64-3 c = omega arith
 
--- src/layout.rt:23:13
 be64-requires-3 : tie.Need-be64-requires-3 Inv-loop μ-loop
 be64-requires-3 c κs = search needs
 
--- src/layout.rt:24:31
 add-be32 : tie.Need-add-be32 Inv-loop μ-loop
 add-be32 c = omega arith
 
--- src/layout.rt:24:13
 be32-requires : tie.Need-be32-requires Inv-loop μ-loop
 be32-requires c κs = search needs
 
--- src/layout.rt:25:13
 refuse-requires : tie.Need-refuse-requires Inv-loop μ-loop
 refuse-requires c κs = search needs
 
--- src/layout.rt:27:13
 returns : tie.Need-returns Inv-loop μ-loop
 returns c =
     let m = c .before .before .before .before .before .before .before .loop in
@@ -86,29 +67,23 @@ returns c =
     (read (a .s .now) (m .at) (m .i) (m .inv .1) (c .before .before .before .before .before .be64 .ensures) (c .before .before .before .before .be642 .ensures) (c .before .before .before .be643 .ensures) (c .before .before .be32 .ensures))
     (c .before .refuse .result) (c .before .refuse .ensures) (c .if1 .taken)
 
--- src/layout.rt:29:45
 add-push : tie.Need-add-push Inv-loop μ-loop
 add-push c =
     let m = c .before .before .before .before .before .before .before .loop in
     record { fits = accepted-end (m .passed) (c .before .before .before .before .before .be64 .result) (c .before .before .before .before .be642 .result) (c .before .before .before .be643 .result) (c .before .before .be32 .result) (sym (c .before .refuse .ensures) ∙ c .if1 .left) }
 
--- src/layout.rt:29:9
 push-requires : tie.Need-push-requires Inv-loop μ-loop
 push-requires c κs = search needs
 
--- src/layout.rt:30:9
 add-i : tie.Need-add-i Inv-loop μ-loop
 add-i c = omega arith
 
--- src/layout.rt:31:9
 add-at : tie.Need-add-at Inv-loop μ-loop
 add-at c = omega arith
 
--- src/layout.rt:20:5
 loop-less : tie.Need-loop-less Inv-loop μ-loop
 loop-less c = omega arith
 
--- src/layout.rt:20:5
 loop-again : tie.Need-loop-again Inv-loop μ-loop
 loop-again c =
     let m = c .before .before .before .before .before .before .before .before .loop in
@@ -119,7 +94,6 @@ loop-again c =
       omega arith,
     )
 
--- src/layout.rt:13:1
 returns-2 : tie.Need-returns-2 Inv-loop μ-loop
 returns-2 c = let m = c .before .loop in ends (m .inv .0) (omega arith)
 
