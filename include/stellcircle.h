@@ -1,0 +1,44 @@
+/* stellcircle.h: the checked recovery core of a pNFS metadata server, for C and C++.
+ *
+ * Every function here is compiled from Rattle code that is proved to meet its contract. What a host has to keep to, since C checks none of it:
+ *   - a pointer is good for its count of elements and is not NULL, also where the count is 0;
+ *   - memory behind a pointer that is not const overlaps no other argument of the same call;
+ *   - no other thread reads or writes that memory during the call.
+ * No function keeps a pointer after it returns, allocates, locks or fails in any way but by its answer.
+ */
+#ifndef STELLCIRCLE_H
+#define STELLCIRCLE_H
+
+#include <stddef.h>
+#include <stdint.h>
+
+#ifdef __cplusplus
+extern "C" {
+#endif
+
+/* ---- layout bodies (RFC 8154), from libwire.a ----
+ *
+ * A body is a 4-byte count n and n extents of 44 bytes: device id (16), file offset (8), length (8), storage offset (8), state (4), big-endian.
+ * States: 0 read-write, 1 read, 2 invalid, 3 none. A refusal is the number of the first rule that a body breaks:
+ *   1  fewer than 4 bytes, or the length is not 4 + 44n     5  an end above 2^64 - 1
+ *   2  n above 1,024                                         6  out of order
+ *   3  a state above 3                                       7  an overlap with an earlier extent
+ *   4  length 0                                              8  (writing) the buffer is too short
+ */
+
+/* Checks a body. 0: accepted, and *place is n; else the refusal, and *place is the extent's place (0 for 1 and 2). */
+uint32_t sc_layout_check(const uint8_t *body, size_t body_len, uint64_t *place);
+
+/* Writes a list of extents, lent as columns (16 bytes a device id; one number each otherwise), as a body at the start of out.
+ * 0: written, and *place is how many extents; the first 4 + 44n bytes of out are the body, and the rest is as it was.
+ * Else the refusal, and *place the extent's place (0 for 1, 2 and 8), and out is as it was. Columns that do not all hold the same whole
+ * number of extents get 1 before all else; then 2 to 7, then 8. */
+uint32_t sc_layout_write(const uint8_t *devices, size_t devices_len, const uint64_t *offsets, size_t offsets_len,
+                         const uint64_t *lengths, size_t lengths_len, const uint64_t *storages, size_t storages_len,
+                         const uint32_t *states, size_t states_len, uint8_t *out, size_t out_len, uint64_t *place);
+
+#ifdef __cplusplus
+}
+#endif
+
+#endif

@@ -1,0 +1,124 @@
+/* The layout check and the layout writer through the C exports.
+ * Usage: layout FILE: each line of FILE is a body in hex, its refusal (0 accepted) and the place (or how many extents).
+ * Every accepted body is also written back from its extents, into a buffer with guard bytes; and is refused without its last byte. */
+#include "../../include/stellcircle.h"
+#include <stdio.h>
+#include <stdlib.h>
+#include <string.h>
+
+enum { MOST = 65536, GUARD = 64 };
+
+static int bad;
+static unsigned long checked, accepted, written;
+
+static void expect(int holds, unsigned long line, const char *what)
+{
+    if (!holds) {
+        printf("line %lu: %s\n", line, what);
+        bad = 1;
+    }
+}
+
+static int nibble(int c)
+{
+    if (c >= '0' && c <= '9')
+        return c - '0';
+    if (c >= 'a' && c <= 'f')
+        return c - 'a' + 10;
+    return -1;
+}
+
+static size_t unhex(const char *text, size_t n, uint8_t *out)
+{
+    for (size_t i = 0; i + 1 < n; i += 2)
+        out[i / 2] = (uint8_t)(nibble(text[i]) * 16 + nibble(text[i + 1]));
+    return n / 2;
+}
+
+static uint64_t number(const uint8_t *s, int width)
+{
+    uint64_t x = 0;
+    for (int i = 0; i < width; i++)
+        x = x << 8 | s[i];
+    return x;
+}
+
+/* Writes the n extents of an accepted body back, with room bytes of buffer, and holds the buffer to what it must be. */
+static void write_back(const uint8_t *body, size_t len, size_t n, size_t room, unsigned long line)
+{
+    static uint8_t devices[16 * 1024], out[MOST + 2 * GUARD], want[MOST + 2 * GUARD];
+    static uint64_t offsets[1024], lengths[1024], storages[1024];
+    static uint32_t states[1024];
+    uint64_t place = 77;
+    for (size_t i = 0; i < n; i++) {
+        const uint8_t *e = body + 4 + 44 * i;
+        memcpy(devices + 16 * i, e, 16);
+        offsets[i] = number(e + 16, 8);
+        lengths[i] = number(e + 24, 8);
+        storages[i] = number(e + 32, 8);
+        states[i] = (uint32_t)number(e + 40, 4);
+    }
+    memset(out, 0xa5, sizeof out);
+    memcpy(want, out, sizeof out);
+    uint32_t rule = sc_layout_write(devices, 16 * n, offsets, n, lengths, n, storages, n, states, n, out + GUARD, room, &place);
+    if (room < len) {
+        expect(rule == 8 && place == 0, line, "a short buffer is not refused by 8");
+    } else {
+        expect(rule == 0 && place == n, line, "an accepted list is not written");
+        memcpy(want + GUARD, body, len);
+    }
+    expect(memcmp(out, want, sizeof out) == 0, line, "the buffer is not what it must be");
+    if (n > 0) {
+        rule = sc_layout_write(devices, 16 * n - 1, offsets, n, lengths, n, storages, n, states, n, out + GUARD, room, &place);
+        expect(rule == 1 && place == 0, line, "uneven columns are not refused by 1");
+        expect(memcmp(out, want, sizeof out) == 0, line, "uneven columns changed the buffer");
+    }
+    written++;
+}
+
+static void check(const uint8_t *body, size_t len, uint32_t rule, uint64_t place, unsigned long line)
+{
+    uint64_t at = 77;
+    uint32_t got = sc_layout_check(body, len, &at);
+    expect(got == rule && at == place, line, "another answer");
+    checked++;
+    if (rule == 0) {
+        accepted++;
+        write_back(body, len, (size_t)place, len + 100, line);
+        write_back(body, len, (size_t)place, len, line);
+        write_back(body, len, (size_t)place, len - 1, line);
+        got = sc_layout_check(body, len - 1, &at);
+        expect(got == 1 && at == 0, line, "an accepted body without its last byte is not refused by 1");
+    }
+}
+
+int main(int argc, char **argv)
+{
+    static char text[8 * MOST];
+    static uint8_t body[4 * MOST];
+    unsigned long line = 0;
+    FILE *f = argc == 2 ? fopen(argv[1], "r") : NULL;
+    if (!f) {
+        fprintf(stderr, "usage: layout FILE\n");
+        return 2;
+    }
+    while (fgets(text, sizeof text, f)) {
+        line++;
+        if (text[0] == '#' || text[0] == '\n')
+            continue;
+        size_t hex = strcspn(text, " ");
+        unsigned rule;
+        unsigned long long place;
+        if (sscanf(text + hex, "%u %llu", &rule, &place) != 2) {
+            printf("line %lu: no answer to hold it to\n", line);
+            return 1;
+        }
+        if (hex == 1 && text[0] == '-')
+            hex = 0;
+        check(body, unhex(text, hex, body), rule, place, line);
+    }
+    fclose(f);
+    expect(checked > 0 && accepted > 0 && checked > accepted, line, "no cases of each kind");
+    printf("layout: %lu bodies checked, %lu accepted, %lu written back: %s\n", checked, accepted, written, bad ? "FAILED" : "as they must be");
+    return bad;
+}
