@@ -275,3 +275,74 @@ impl Epochs {
         self.may_reclaim(node).number()
     }
 }
+
+// ---- The same calls, each on a record where it lies.
+// Fresh: the record is written whole, whatever it held.
+#[no_mangle]
+pub extern "C" fn sc_epochs_fresh(e: &mut Epochs)
+    ensures { λ _. ⌜ now (e .exit) ≡ fresh ⌝ }
+{
+    *e = Epochs::fresh();
+}
+
+#[no_mangle]
+pub extern "C" fn sc_epochs_join(e: &mut Epochs, node: u32) -> u32
+    ensures { λ r. ⌜ (r ≡ joinOf (now (e .entry)) node .status) × (now (e .exit) ≡ joinOf (now (e .entry)) node .epochs) ⌝ }
+{
+    let s = Epochs::join(*e, node);
+    *e = s.epochs;
+    s.status
+}
+
+#[no_mangle]
+pub extern "C" fn sc_epochs_leave(e: &mut Epochs, node: u32) -> u32
+    ensures { λ r. ⌜ (r ≡ leaveOf (now (e .entry)) node .status) × (now (e .exit) ≡ leaveOf (now (e .entry)) node .epochs) ⌝ }
+{
+    let s = Epochs::leave(*e, node);
+    *e = s.epochs;
+    s.status
+}
+
+#[no_mangle]
+pub extern "C" fn sc_epochs_start(e: &mut Epochs, node: u32) -> u32
+    ensures { λ r. ⌜ (r ≡ startOf (now (e .entry)) node .status) × (now (e .exit) ≡ startOf (now (e .entry)) node .epochs) ⌝ }
+{
+    let s = Epochs::start(*e, node);
+    *e = s.epochs;
+    s.status
+}
+
+#[no_mangle]
+pub extern "C" fn sc_epochs_enforce(e: &mut Epochs, node: u32) -> u32
+    ensures { λ r. ⌜ (r ≡ enforceOf (now (e .entry)) node .status) × (now (e .exit) ≡ enforceOf (now (e .entry)) node .epochs) ⌝ }
+{
+    let s = Epochs::enforce(*e, node);
+    *e = s.epochs;
+    s.status
+}
+
+#[no_mangle]
+pub extern "C" fn sc_epochs_finish(e: &mut Epochs, node: u32) -> u32
+    ensures { λ r. ⌜ (r ≡ finishOf (now (e .entry)) node .status) × (now (e .exit) ≡ finishOf (now (e .entry)) node .epochs) ⌝ }
+{
+    let s = Epochs::finish(*e, node);
+    *e = s.epochs;
+    s.status
+}
+
+#[no_mangle]
+pub extern "C" fn sc_epochs_stop_enforcing(e: &mut Epochs, node: u32) -> u32
+    ensures { λ r. ⌜ (r ≡ stopOf (now (e .entry)) node .status) × (now (e .exit) ≡ stopOf (now (e .entry)) node .epochs) ⌝ }
+{
+    let s = Epochs::stop_enforcing(*e, node);
+    *e = s.epochs;
+    s.status
+}
+
+// May reclaim, as a number: the record is only read.
+#[no_mangle]
+pub extern "C" fn sc_epochs_may_reclaim(e: &Epochs, node: u32) -> u32
+    ensures { λ r. ⌜ r ≡ reclaimNumber (mayReclaimOf (now (e .entry)) node) ⌝ }
+{
+    Epochs::reclaim_number(*e, node)
+}
