@@ -2,7 +2,7 @@
 // First the record and what calls answer, then each call by value, then the same calls on a record where it lies, which a C server links.
 ghost use mathlib.Core.Path.{_≡_};
 ghost use Prim.Native.Nat.{_<_};
-ghost use Rattle.epochs.specs.Epochs.{fresh, flagged, joinOf, leaveOf, startOf, enforceOf, finishOf, stopOf, mayReclaimOf, reclaimNumber};
+ghost use Rattle.epochs.specs.Epochs.{fresh, accepted, flagged, joinOf, leaveOf, startOf, enforceOf, finishOf, stopOf, mayReclaimOf, reclaimNumber};
 
 #[repr(C)]
 pub struct Epochs {
@@ -112,7 +112,7 @@ impl Epochs {
     // Both flags of a node are set.
     fn flag(mut self, node: u32) -> Answered
         requires { ⌜ node < 32 ⌝ }
-        ensures { λ r. ⌜ r ≡ flagged self node ⌝ }
+        ensures { λ r. ⌜ r ≡ accepted (flagged self node) ⌝ }
     {
         self.need = masks::with(self.need, node);
         self.enforcing = masks::with(self.enforcing, node);

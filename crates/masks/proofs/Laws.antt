@@ -1,21 +1,22 @@
 -- The laws of sets of nodes, over the node and the number of nodes: callers cite these and not the text of a definition. In this order:
 --     has-of, set-lt, set-ext, of-has, is-set, has-ext     a set is its nodes, and two with the same nodes are the same
---     has-zero, has-past                      no node is in 0, and none past the last
+--     has-zero, has-past, has-below            no node is in 0, and none past the last
 --     has-plus, has-minus, plus-lt, minus-lt  a node put in or taken out, and the others; both are masks of 32 nodes
 --     empty-each, each-empty, within-each, each-within     what the two tests say of each node
+--     plus-node, plus-keeps, plus-came, minus-was, minus-out, minus-keeps, minus-same, some-empty, empty-some     the same of a node that is known to be in a set
 --     one-shl, shr-is, or-is, xor-is, zero-is, and-is     what the code computes is what the definitions say
 use mathlib.Core.Path.{_≡_, refl, sym, ap, ap₂, _∙_, subst}
-use mathlib.Core.Bool.{Bool, true, false, not, cond, _&&_, _||_, xor, false≢true}
+use mathlib.Core.Bool.{Bool, true, false, not, cond, _&&_, _||_, xor, false≢true, or-true}
 use Prim.Native.Nat.{ℕ, zero, suc, _+_, _*_, _/_, _%_, _^_, _<_, _≤_, suc-le-suc, zero-le}
 use native.Mathlib.Nat.{zero-lt-suc, mod-lt, zero-mod, zero-div, div-one, div-self, mul-mod-left, mul-div-cancel, div-add-mod', pow-suc, one-mul, mod-eq-of-lt, le-of-suc-le-suc, not-suc-le-zero, lt-of-lt-of-le, div-eq-of-lt, eq-or-lt-of-le}
 use native.Mathlib.Numerals.{one-add, add-one}
 use native.Mathlib.Omega.{arith}
 use lib.Arith.{lt-one, digits-div, digits-mod, digits-lt}
-use lib.Dec.{eqb, eqb·suc-suc, eqb·zero-suc, eqb·suc-zero}
+use lib.Dec.{eqb, leb, eqb·suc-suc, eqb·zero-suc, eqb·suc-zero}
 use lib.Pow.{pow-pos, pow-lt, pow-mono, shr-shr, shr-lt}
 use lib.Bits.{bitAnd, bitOr, bitXor, or-shr, xor-shr, and-shr, or-mod, xor-mod, and-mod, or-lt, xor-lt, and-lt, and-mask}
-use borrow.Author.Tests.{eqb-false, eqb-true, eq-eqb, ne-eqb, not-true}
-use mathlib.Core.Logic.{⊎-elim}
+use borrow.Author.Tests.{leb-true, leb-false, eqb-true, eqb-false, eq-eqb, ne-eqb, not-true, not-false}
+use mathlib.Core.Logic.{_⊎_, inl, inr, ⊎-elim}
 use Rattle.masks.specs.Mask.{nodes, digit, has, setOf, all, plus, minus, empty, within}
 
 two-pos : zero < 2
@@ -41,6 +42,19 @@ pub same-test : (a b : Bool) → (a ≡ true → b ≡ true) → (b ≡ true →
 same-test true b f g = sym (f refl)
 same-test false true f g = g refl
 same-test false false f g = refl
+
+no : (a : Bool) → (a ≡ true → ⊥) → a ≡ false
+no true f = absurd (f refl)
+no false f = refl
+
+either : (a b : Bool) → (a || b) ≡ true → {X : Type 0} → (b ≡ true → X) → (a ≡ true) ⊎ X
+either true b e f = inl refl
+either false b e f = inr (f e)
+
+absent : (a b : Bool) → (b ≡ true → a ≡ false) → (a && not b) ≡ a
+absent true true f = sym (f refl)
+absent true false f = refl
+absent false b f = refl
 
 -- ---- a digit
 digit-first : (m : ℕ) → digit m zero ≡ m % 2
@@ -124,6 +138,16 @@ pub has-past : (n m k : ℕ) → m < 2 ^ n → n ≤ k → has m k ≡ false
 unfolding has
 has-past n m k h l = ap (λ (x : ℕ). eqb (x % 2) 1) (div-eq-of-lt (lt-of-lt-of-le h (pow-mono l)))
 
+pub has-below : (n m k : ℕ) → m < 2 ^ n → has m k ≡ true → k < n
+has-below n m k h inside = ⊎-elim (λ l. absurd (false≢true (sym (has-past n m k h l) ∙ inside))) (λ l. l) (le-or-lt n k)
+  where
+    le-or-lt : (a b : ℕ) → (a ≤ b) ⊎ (b < a)
+    le-or-lt a b = tested (leb a b) refl
+      where
+        tested : (t : Bool) → leb a b ≡ t → (a ≤ b) ⊎ (b < a)
+        tested true e = inl (leb-true a b e)
+        tested false e = inr (leb-false a b e)
+
 -- ---- a node that is put in or taken out, and the others
 pub has-plus : (m node k : ℕ) → k < 32 → has (plus m node) k ≡ (has m k || eqb k node)
 unfolding plus
@@ -152,6 +176,15 @@ unfolding all
 each-all zero test f = refl
 each-all (suc n) test f = ap₂ _&&_ (each-all n test (λ k h. f k (omega arith))) (f n (omega arith))
 
+all-or : (n : ℕ) (test : ℕ → Bool) → (all n test ≡ true) ⊎ ((k : ℕ) × (k < n) × (test k ≡ false))
+unfolding all
+all-or zero test = inl refl
+all-or (suc n) test = ⊎-elim (λ before. last before (test n) refl) (λ w. inr (w .0, omega (arith, w .1), w .2)) (all-or n test)
+  where
+    last : all n test ≡ true → (b : Bool) → test n ≡ b → ((all n test && test n) ≡ true) ⊎ ((k : ℕ) × (k < suc n) × (test k ≡ false))
+    last before true e = inl (ap₂ _&&_ before e)
+    last before false e = inr (n, omega arith, e)
+
 pub empty-each : (m : ℕ) → empty m ≡ true → (k : ℕ) → k < 32 → has m k ≡ false
 unfolding empty
 empty-each m e k h = not-true (has m k) (all-each 32 (λ j. not (has m j)) e k h)
@@ -167,6 +200,36 @@ within-each m n e k h inside = sym (ap (λ (b : Bool). not b || has n k) inside)
 pub each-within : (m n : ℕ) → ((k : ℕ) → k < 32 → has m k ≡ true → has n k ≡ true) → within m n ≡ true
 unfolding within
 each-within m n f = each-all 32 (λ j. not (has m j) || has n j) (λ k h. implies (has m k) (has n k) (f k h))
+
+-- ---- the same, of a node that is known to be in a set
+pub plus-node : (m node : ℕ) → node < 32 → has (plus m node) node ≡ true
+plus-node m node h = has-plus m node node h ∙ ap (λ (b : Bool). has m node || b) (eq-eqb node node refl) ∙ or-true (has m node)
+
+pub plus-keeps : (m node k : ℕ) → k < 32 → has m k ≡ true → has (plus m node) k ≡ true
+plus-keeps m node k h inside = has-plus m node k h ∙ ap (λ (b : Bool). b || eqb k node) inside
+
+pub plus-came : (m node k : ℕ) → k < 32 → has (plus m node) k ≡ true → (has m k ≡ true) ⊎ (k ≡ node)
+plus-came m node k h inside = either (has m k) (eqb k node) (sym (has-plus m node k h) ∙ inside) (eqb-true k node)
+
+pub minus-was : (m node k : ℕ) → k < 32 → has (minus m node) k ≡ true → has m k ≡ true
+minus-was m node k h inside = and-left (has m k) (not (eqb k node)) (sym (has-minus m node k h) ∙ inside)
+
+pub minus-out : (m node k : ℕ) → k < 32 → has (minus m node) k ≡ true → k ≡ node → ⊥
+minus-out m node k h inside = eqb-false k node (not-true (eqb k node) (and-right (has m k) (not (eqb k node)) (sym (has-minus m node k h) ∙ inside)))
+
+pub minus-keeps : (m node k : ℕ) → k < 32 → has m k ≡ true → (k ≡ node → ⊥) → has (minus m node) k ≡ true
+minus-keeps m node k h inside ne = has-minus m node k h ∙ ap₂ (λ (a b : Bool). a && not b) inside (ne-eqb k node ne)
+
+pub minus-same : (m node : ℕ) → m < 2 ^ 32 → has m node ≡ false → minus m node ≡ m
+minus-same m node hm out = has-ext 32 (minus m node) m (minus-lt m node) hm (λ k h. has-minus m node k h ∙ absent (has m k) (eqb k node) (λ e. ap (has m) (eqb-true k node e) ∙ out))
+
+-- a set that has a node is not empty, and one that is not empty has one
+pub some-empty : (m k : ℕ) → k < 32 → has m k ≡ true → empty m ≡ false
+some-empty m k h inside = no (empty m) (λ e. false≢true (sym (empty-each m e k h) ∙ inside))
+
+pub empty-some : (m : ℕ) → empty m ≡ false → (k : ℕ) × (k < 32) × (has m k ≡ true)
+unfolding empty
+empty-some m e = ⊎-elim (λ all-out. absurd (false≢true (sym e ∙ all-out))) (λ w. (w .0, w .1, not-false (has m (w .0)) (w .2))) (all-or 32 (λ k. not (has m k)))
 
 -- ---- what the code computes
 digit-lt : (m k : ℕ) → digit m k < 2

@@ -1,6 +1,5 @@
 -- `Epochs::flag` meets its contract: what `masks::with` ensures of both sets.
 use borrow.Author.Needs.{needs}
-use Rattle.epochs.specs.Epochs.{flagged}
 use Rattle.epochs.proofs.Epochs.flag.Statement.{statement}
 use Rattle.epochs.proofs.Epochs.flag.Tie as tie
 
@@ -11,7 +10,6 @@ with-requires-2 : tie.Need-with-requires-2
 with-requires-2 c κs = search needs
 
 returns : tie.Need-returns
-unfolding flagged
 returns c = simp (c .before .with .ensures, c .with2 .ensures)
 
 pub flag-spec : {M : Type 1} → statement M
