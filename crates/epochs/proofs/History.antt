@@ -234,7 +234,8 @@ module _ (e : Epochs) (kept : Kept e) where
     reclaim = λ node. (
       λ yes. let y : (above node ≡ false) × (calm e ≡ false) × (needs e node ≡ true) × (ready e ≡ true) = yes-says (above node) (calm e) (member e node) (needs e node) (ready e) yes in
           (eqb-false (e .recovery) 0 (y .1), y .2, λ other f. within-each (e .members) (e .enforcing) (y .3) other (below (e .members) other (kept .members-fit) f) f),
-      λ w. simp (lt-leb 32 node (need-node node (w .1)), ne-eqb (e .recovery) 0 (w .0), kept .need-of .inside node (need-node node (w .1)) (w .1), w .1, each-within (e .members) (e .enforcing) (λ other h f. w .2 other f)));
+      λ w. simp (lt-leb 32 node (need-node node (w .1)), ne-eqb (e .recovery) 0 (w .0), kept .need-of .inside node (need-node node (w .1)) (w .1), w .1, each-within (e .members) (e .enforcing) (λ other h f. w .2 other f)),
+    );
   }
 
 pub after-any-calls : AfterAnyCalls
