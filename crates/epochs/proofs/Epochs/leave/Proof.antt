@@ -1,0 +1,38 @@
+-- `Epochs::leave` meets its contract: each answer rewrites with the tests that led there, and with what the functions of masks ensure.
+use mathlib.Core.Path.{sym, _∙_}
+use borrow.Author.Needs.{needs}
+use borrow.Author.Tests.{le-leb, lt-leb, not-true, not-false}
+use Rattle.epochs.specs.Epochs.{leaveOf, judged}
+use Rattle.epochs.proofs.Epochs.leave.Statement.{statement}
+use Rattle.epochs.proofs.Epochs.leave.Tie as tie
+
+returns : tie.Need-returns
+unfolding leaveOf judged
+returns c = simp (le-leb _ _ (c .if1 .taken))
+
+test-requires : tie.Need-test-requires
+test-requires c κs = search needs
+
+returns-2 : tie.Need-returns-2
+unfolding leaveOf judged
+returns-2 c = simp (lt-leb _ _ (c .before .before .if1 .left), sym (c .before .test .ensures) ∙ not-true _ (c .if2 .taken))
+
+test-requires-2 : tie.Need-test-requires-2
+test-requires-2 c κs = search needs
+
+returns-3 : tie.Need-returns-3
+unfolding leaveOf judged
+returns-3 c = simp (lt-leb _ _ (c .before .before .before .before .if1 .left), sym (c .before .before .before .test .ensures) ∙ not-false _ (c .before .before .if2 .left), sym (c .before .test2 .ensures) ∙ c .if3 .taken)
+
+without-requires : tie.Need-without-requires
+without-requires c κs = search needs
+
+without-requires-2 : tie.Need-without-requires-2
+without-requires-2 c κs = search needs
+
+returns-4 : tie.Need-returns-4
+unfolding leaveOf judged
+returns-4 c = simp (lt-leb _ _ (c .before .before .before .before .before .before .if1 .left), sym (c .before .before .before .before .before .test .ensures) ∙ not-false _ (c .before .before .before .before .if2 .left), sym (c .before .before .before .test2 .ensures) ∙ c .before .before .if3 .left, c .before .without .ensures, c .without2 .ensures)
+
+pub leave-spec : {M : Type 1} → statement M
+leave-spec = tie.close (tie.spec returns test-requires returns-2 test-requires-2 returns-3 without-requires without-requires-2 returns-4)

@@ -1,0 +1,42 @@
+-- `Epochs::start` meets its contract: each answer rewrites with the tests that led there, and with what the functions of masks ensure.
+use mathlib.Core.Path.{sym, _∙_}
+use borrow.Author.Needs.{needs}
+use borrow.Author.Tests.{le-leb, lt-leb, eq-eqb, ne-eqb, not-true, not-false}
+use Rattle.epochs.specs.Epochs.{startOf, judged}
+use Rattle.epochs.proofs.Epochs.start.Statement.{statement}
+use Rattle.epochs.proofs.Epochs.start.Tie as tie
+
+returns : tie.Need-returns
+unfolding startOf judged
+returns c = simp (le-leb _ _ (c .if1 .taken))
+
+test-requires : tie.Need-test-requires
+test-requires c κs = search needs
+
+returns-2 : tie.Need-returns-2
+unfolding startOf judged
+returns-2 c = simp (lt-leb _ _ (c .before .before .if1 .left), sym (c .before .test .ensures) ∙ not-true _ (c .if2 .taken))
+
+returns-3 : tie.Need-returns-3
+unfolding startOf judged
+returns-3 c = simp (lt-leb _ _ (c .before .before .before .before .before .before .if1 .left), sym (c .before .before .before .before .before .test .ensures) ∙ not-false _ (c .before .before .before .before .if2 .left), eq-eqb _ _ (c .before .before .if3 .taken), eq-eqb _ _ (c .if4 .taken))
+
+add-self : tie.Need-add-self
+add-self c = search needs
+
+flag-requires : tie.Need-flag-requires
+flag-requires c κs = search needs
+
+returns-4 : tie.Need-returns-4
+unfolding startOf judged
+returns-4 c = simp (lt-leb _ _ (c .before .before .before .before .before .before .before .before .if1 .left), sym (c .before .before .before .before .before .before .before .test .ensures) ∙ not-false _ (c .before .before .before .before .before .before .if2 .left), eq-eqb _ _ (c .before .before .before .before .if3 .taken), ne-eqb _ _ (c .before .before .if4 .left)) (c .flag .ensures)
+
+flag-requires-2 : tie.Need-flag-requires-2
+flag-requires-2 c κs = search needs
+
+returns-5 : tie.Need-returns-5
+unfolding startOf judged
+returns-5 c = simp (lt-leb _ _ (c .before .before .before .before .before .if1 .left), sym (c .before .before .before .before .test .ensures) ∙ not-false _ (c .before .before .before .if2 .left), ne-eqb _ _ (c .before .if3 .left)) (c .flag2 .ensures)
+
+pub start-spec : {M : Type 1} → statement M
+start-spec = tie.close (tie.spec returns test-requires returns-2 returns-3 add-self flag-requires returns-4 flag-requires-2 returns-5)
