@@ -1,0 +1,3 @@
+pub mod ReportExamples
+pub mod Reports
+pub mod Requests
