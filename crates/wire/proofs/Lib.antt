@@ -1,3 +1,6 @@
+pub mod Devices
+pub mod Readers
 pub mod ReportExamples
+pub mod ReportModel
 pub mod Reports
 pub mod Requests

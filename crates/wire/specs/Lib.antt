@@ -1,3 +1,5 @@
+pub mod Device
+pub mod Reader
 pub mod Report
 pub mod ReportSteps
 pub mod Request
