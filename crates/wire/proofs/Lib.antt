@@ -1,5 +1,6 @@
 pub mod Devices
 pub mod Readers
+pub mod Replies
 pub mod ReportExamples
 pub mod ReportModel
 pub mod Reports
