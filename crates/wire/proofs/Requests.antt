@@ -11,11 +11,14 @@ use lib.ListN.{length, take, drop, getD, replicate, length-drop}
 use lib.Seq.{drop-cons, drop-length, take-all}
 use lib.Dec.{ltb, leb, eqb}
 use Rattle.xdr.specs.Be.{beNat}
-use Rattle.wire.specs.Request.{sameBytes, zeros, padding, fileForm, formOf, refusalOf, anonymousIn, answerBy, answer, requestOf, bodyIn, bodyOf}
+use Rattle.wire.specs.Reader.{sameBytes, zeros, padding}
+use Rattle.wire.specs.Request.{refusalOf, unless, requestOf, bodyOf}
+use Rattle.wire.specs.RequestSteps.{fileForm, formOf, anonymousIn, judgedIn, answerIn, requestIn}
 use Rattle.wire.specs.declared.request.Form.{Form}
 use Rattle.wire.specs.declared.request.Form.the-variants as form
 use Rattle.wire.specs.declared.request.Request.{Request}
 use Rattle.wire.specs.declared.request.Request.the-variants.{Refused, Bulk, File}
+use Rattle.wire.proofs.RequestModel.{as-tested}
 
 -- lists of different lengths differ
 pub other-length : (a b : List ℕ) → (length a ≡ length b → ⊥) → false ≡ sameBytes a b
@@ -183,30 +186,30 @@ pub file-fits : (s : List ℕ) {n : ℕ} → formOf s ≡ form.File n → Fits s
 file-fits s e = rw e at (form-laid s)
 
 -- ---- steps 1 to 3
+module _ (s : List ℕ) (r : Request) {layout iomode k : ℕ} (l : layout ≡ beNat 4 (drop 4 s)) (i : iomode ≡ beNat 4 (drop 8 s)) (e : k ≡ refusalOf layout iomode) where
+  number-is : refusalOf (beNat 4 (drop 4 s)) (beNat 4 (drop 8 s)) ≡ k
+  number-is = cc
+
+  pub passes : k ≡ 0 → r ≡ judgedIn s r
+  unfolding judgedIn unless
+  passes z = simp (number-is, eq-eqb k 0 z)
+
+  pub refuses : (k ≡ 0 → ⊥) → Refused k ≡ judgedIn s r
+  unfolding judgedIn unless
+  refuses z = simp (number-is, ne-eqb k 0 z)
+
 module _ (s : List ℕ) where
   pub read-malformed : formOf s ≡ form.Malformed → Refused 10036 ≡ requestOf s
-  unfolding requestOf
-  read-malformed e = simp e
+  unfolding requestIn
+  read-malformed e = rw (as-tested s, e)
 
-  module _ (layout iomode k : ℕ) (l : layout ≡ beNat 4 (drop 4 s)) (i : iomode ≡ beNat 4 (drop 8 s)) (r : k ≡ refusalOf layout iomode) where
-    same-refusal : refusalOf (beNat 4 (drop 4 s)) (beNat 4 (drop 8 s)) ≡ k
-    same-refusal = cc
+  pub read-bulk : formOf s ≡ form.Bulk → {r : Request} → r ≡ judgedIn s Bulk → r ≡ requestOf s
+  unfolding requestIn
+  read-bulk e q = rw (as-tested s, e) q
 
-    pub bulk-refused : formOf s ≡ form.Bulk → (k ≡ 0 → ⊥) → Refused k ≡ requestOf s
-    unfolding requestOf
-    bulk-refused e h = simp (e, same-refusal, ne-eqb k 0 h)
-
-    pub bulk-read : formOf s ≡ form.Bulk → k ≡ 0 → Bulk ≡ requestOf s
-    unfolding requestOf
-    bulk-read e h = simp (e, same-refusal, eq-eqb k 0 h)
-
-    pub file-refused : {n : ℕ} → formOf s ≡ form.File n → (k ≡ 0 → ⊥) → Refused k ≡ requestOf s
-    unfolding requestOf
-    file-refused e h = simp (e, same-refusal, ne-eqb k 0 h)
-
-    pub file-read : {n : ℕ} → formOf s ≡ form.File n → k ≡ 0 → {a : Bool} → a ≡ anonymousIn s → File a n ≡ requestOf s
-    unfolding requestOf
-    file-read e h q = simp (e, same-refusal, eq-eqb k 0 h, q)
+  pub read-file : {n : ℕ} → formOf s ≡ form.File n → {a : Bool} → a ≡ anonymousIn s → {r : Request} → r ≡ judgedIn s (File a n) → r ≡ requestOf s
+  unfolding requestIn
+  read-file {n} e {a} p q = rw (as-tested s, e) (q ∙ ap (λ (b : Bool). judgedIn s (File b n)) p)
 
 -- ---- the body
 abbrev Lent : List ℕ → Request → Type 0
@@ -214,18 +217,24 @@ Lent s (Refused k) = Unit
 Lent s Bulk = Unit
 Lent s (File a n) = Fits s n
 
-lent : (s : List ℕ) (f : Form) (none : Bool) (k : ℕ) (a : Bool) → Laid s f → Lent s (answerBy f none k a)
-lent s form.Malformed b k a h = tt
-lent s form.Bulk true k a h = tt
-lent s form.Bulk false k a h = tt
-lent s (form.File n) true k a h = h
-lent s (form.File n) false k a h = tt
+lent : (s : List ℕ) (f : Form) → Laid s f → Lent s (answerIn s f)
+unfolding judgedIn unless
+lent s form.Malformed h = tt
+lent s form.Bulk h = by-refusal (eqb (refusalOf (beNat 4 (drop 4 s)) (beNat 4 (drop 8 s))) 0)
+  where
+    by-refusal : (b : Bool) → Lent s (cond b Bulk (Refused (refusalOf (beNat 4 (drop 4 s)) (beNat 4 (drop 8 s)))))
+    by-refusal true = tt
+    by-refusal false = tt
+lent s (form.File n) h = by-refusal (eqb (refusalOf (beNat 4 (drop 4 s)) (beNat 4 (drop 8 s))) 0)
+  where
+    by-refusal : (b : Bool) → Lent s (cond b (File (anonymousIn s) n) (Refused (refusalOf (beNat 4 (drop 4 s)) (beNat 4 (drop 8 s)))))
+    by-refusal true = h
+    by-refusal false = tt
 
+-- the body of an ordinary return is within the limit and within the request
 pub body-fits : (s : List ℕ) {a : Bool} {n : ℕ} → requestOf s ≡ File a n → Fits s n
-unfolding requestOf
-body-fits s e =
-    rw e at
-    (lent s (formOf s) (eqb (refusalOf (beNat 4 (drop 4 s)) (beNat 4 (drop 8 s))) 0) (refusalOf (beNat 4 (drop 4 s)) (beNat 4 (drop 8 s))) (anonymousIn s) (form-laid s))
+unfolding requestIn
+body-fits s e = rw (sym (as-tested s) ∙ e) at (lent s (formOf s) (form-laid s))
 
 pub body-refused : (s : List ℕ) {k : ℕ} → requestOf s ≡ Refused k → [] ≡ bodyOf s
 unfolding bodyOf
