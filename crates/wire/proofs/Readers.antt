@@ -36,6 +36,11 @@ at-most n m x y = by-case (ltb m n) refl
     by-case true e = rw (lt-leb n m (ltb-true m n e))
     by-case false e = rw (le-leb n m (ltb-false m n e))
 
+-- what holds of both answers of a test holds of the test
+pub by-test : {A : Type 0} (P : A → Type 0) (b : Bool) (x y : A) → (b ≡ true → P x) → (b ≡ false → P y) → P (cond b x y)
+by-test P true x y p q = p refl
+by-test P false x y p q = q refl
+
 -- two answers after the same test agree where they do once it has failed
 pub where-long : {A : Type 0} (n w : ℕ) (z : A) {x y : A} → (w ≤ n → x ≡ y) → cond (ltb n w) z x ≡ cond (ltb n w) z y
 where-long n w z {x} {y} h = by-case (ltb n w) refl

@@ -16,7 +16,7 @@ use Rattle.wire.specs.declared.request.Form.{Form}
 use Rattle.wire.specs.declared.request.Form.the-variants as form
 use Rattle.wire.specs.declared.request.Request.{Request}
 use Rattle.wire.specs.declared.request.Request.the-variants.{Refused, Bulk, File}
-use Rattle.wire.proofs.Readers.{Leads, no-bytes, number-first, opaque-first, boolean-first, then, tested, regrouped, shifted, none-left, at-most, where-long}
+use Rattle.wire.proofs.Readers.{Leads, no-bytes, number-first, opaque-first, boolean-first, then, tested, regrouped, shifted, none-left, at-most, where-long, by-test}
 
 -- ---- what is read must be all of the bytes
 abbrev closed : {A : Type 0} → Read A → (A → Request) → Request
@@ -95,7 +95,7 @@ body-closed : (n : ℕ) (u : List ℕ) (f : List ℕ → Request)
     (cond (ltb (length u) n) (Refused 10036) (cond (sameBytes (drop n u) (zeros (padding n))) (f (take n u)) (Refused 10036)))
 unfolding rest opaque
 body-closed n u f =
-    rw (after-only (leb n 4096), closed-if, at-most, after-test (ltb (length u) n), closed-if, after-test (ltb (length (drop n u)) (padding n)), padded)
+    rw (after-only (leb n 4096), closed-if, at-most n 4096, after-test (ltb (length u) n), closed-if, after-test (ltb (length (drop n u)) (padding n)), padded)
 
 answer-if : (s : List ℕ) (b : Bool) (x y : Form) → answerIn s (cond b x y) ≡ cond b (answerIn s x) (answerIn s y)
 answer-if s true x y = refl
@@ -179,3 +179,63 @@ as-tested s =
     ∙ rw (arguments-read .reads s, closed-if, closed-if, at-most (beNat 4 s) 1, i, t, closed-with (returnOf (beNat 4 (drop 12 s)) (drop 16 s)) w, answer-if, answer-if, answer-if, answer-if, answer-if)
     (where-long (length s) 16 (Refused 10036)
     (λ h. ap (λ (x : Request). cond (ltb 1 (beNat 4 s)) (Refused 10036) x) (return-agrees s h (beNat 4 (drop 12 s)))))
+
+-- ---- a body that is read lies in the request from byte 52 on
+abbrev Lies : List ℕ → Read (List ℕ) → Type 0
+Lies s Bad = Unit
+Lies s (Got body t) = take (length body) (drop 52 s) ≡ body
+
+abbrev LiesIn : List ℕ → Read Returned → Type 0
+LiesIn s Bad = Unit
+LiesIn s (Got (ofFile stateid body) t) = take (length body) (drop 52 s) ≡ body
+LiesIn s (Got ofMany t) = Unit
+
+rest-lies : (s : List ℕ) (n : ℕ) → Lies s (rest n (drop 52 s))
+unfolding rest opaque
+rest-lies s n =
+    let u = drop 52 s in
+    let p = padding n in
+    rw (after-only (leb n 4096), after-test (ltb (length u) n), after-test (ltb (length (drop n u)) p))
+    (by-test (Lies s) (leb n 4096) _ _
+    (λ _. by-test (Lies s) (ltb (length u) n) Bad _ (λ _. tt)
+    (λ h. by-test (Lies s) (ltb (length (drop n u)) p) Bad _ (λ _. tt)
+    (λ _. by-test (Lies s) (sameBytes (take p (drop n u)) (zeros p)) (Got (take n u) (drop p (drop n u))) Bad
+    (λ _. rw (length-take-le n u (ltb-false (length u) n h))) (λ _. tt)))) (λ _. tt))
+
+file-lies : (s : List ℕ) → LiesIn s (fileReturn (drop 16 s))
+file-lies s =
+    let b : drop 36 (drop 16 s) ≡ drop 52 s = drop-drop 36 16 s in
+    rw (file-read .reads (drop 16 s), b)
+    (by-test (LiesIn s) (ltb (length (drop 16 s)) 36) Bad _ (λ _. tt)
+    (λ _. named (take 16 (drop 8 (drop 8 (drop 16 s)))) (rest (beNat 4 (drop 16 (drop 8 (drop 8 (drop 16 s))))) (drop 52 s)) (rest-lies s (beNat 4 (drop 16 (drop 8 (drop 8 (drop 16 s))))))))
+  where
+    named : (stateid : List ℕ) (r : Read (List ℕ)) → Lies s r → LiesIn s (onward r (λ body. give (ofFile stateid body)))
+    named stateid Bad h = tt
+    named stateid (Got body t) h = h
+
+return-lies : (s : List ℕ) (type : ℕ) → LiesIn s (returnOf type (drop 16 s))
+unfolding returnOf
+return-lies s type = by-type (eqb type 1) (leb 2 type && leb type 3)
+  where
+    by-type : (b c : Bool) → LiesIn s (cond b fileReturn (only c ofMany) (drop 16 s))
+    by-type true c = file-lies s
+    by-type false true = tt
+    by-type false false = tt
+
+abbrev LiesAll : List ℕ → Read Arguments → Type 0
+LiesAll s Bad = Unit
+LiesAll s (Got a t) = LiesIn s (Got (a .returned) t)
+
+all-lies : (s : List ℕ) → LiesAll s (arguments s)
+all-lies s =
+    let t : drop 4 (drop 4 (drop 4 s)) ≡ drop 12 s = simp drop-drop in
+    rw (arguments-read .reads s, t)
+    (by-test (LiesAll s) (ltb (length s) 16) Bad _ (λ _. tt)
+    (λ _. by-test (LiesAll s) (leb (beNat 4 s) 1) _ Bad (λ _. given (returnOf (beNat 4 (drop 12 s)) (drop 16 s)) (return-lies s (beNat 4 (drop 12 s)))) (λ _. tt)))
+  where
+    given : (r : Read Returned) → LiesIn s r → LiesAll s (onward r (λ r. give (record { layout = beNat 4 (drop 4 s); iomode = beNat 4 (drop 4 (drop 4 s)); returned = r })))
+    given Bad h = tt
+    given (Got r t) h = h
+
+pub body-lies : (s : List ℕ) (a : Arguments) {t stateid body : List ℕ} → arguments s ≡ Got a t → a .returned ≡ ofFile stateid body → take (length body) (drop 52 s) ≡ body
+body-lies s a e r = rw (e, r) at (all-lies s)

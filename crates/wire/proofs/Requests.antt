@@ -6,19 +6,20 @@ use mathlib.Core.Bool.{Bool, true, false, cond, _&&_, _||_}
 use native.Mathlib.Omega.{arith}
 use native.Mathlib.Numerals.{add-one}
 use native.Mathlib.Nat.{suc-add}
-use borrow.Author.Tests.{lt-ltb, le-ltb, le-leb, lt-leb, eq-eqb, ne-eqb, ltb-true, ltb-false, eqb-true}
+use borrow.Author.Tests.{lt-ltb, le-ltb, le-leb, lt-leb, eq-eqb, ne-eqb, ltb-true, ltb-false, eqb-true, eqb-false}
 use lib.ListN.{length, take, drop, getD, replicate, length-drop}
 use lib.Seq.{drop-cons, drop-length, take-all}
 use lib.Dec.{ltb, leb, eqb}
 use Rattle.xdr.specs.Be.{beNat}
-use Rattle.wire.specs.Reader.{sameBytes, zeros, padding}
-use Rattle.wire.specs.Request.{refusalOf, unless, requestOf, bodyOf}
+use Rattle.wire.specs.Reader.{sameBytes, zeros, padding, Got}
+use Rattle.wire.specs.Request.{Arguments, ofFile, refusalOf, unless, arguments, requestOf, bodyOf}
 use Rattle.wire.specs.RequestSteps.{fileForm, formOf, anonymousIn, judgedIn, answerIn, requestIn}
 use Rattle.wire.specs.declared.request.Form.{Form}
 use Rattle.wire.specs.declared.request.Form.the-variants as form
 use Rattle.wire.specs.declared.request.Request.{Request}
 use Rattle.wire.specs.declared.request.Request.the-variants.{Refused, Bulk, File}
-use Rattle.wire.proofs.RequestModel.{as-tested}
+use Rattle.wire.proofs.Readers.{by-test}
+use Rattle.wire.proofs.RequestModel.{as-tested, body-lies}
 
 -- lists of different lengths differ
 pub other-length : (a b : List ℕ) → (length a ≡ length b → ⊥) → false ≡ sameBytes a b
@@ -157,10 +158,6 @@ Laid s form.Malformed = Unit
 Laid s form.Bulk = 16 ≤ length s
 Laid s (form.File n) = Fits s n
 
-by-test : (P : Form → Type 0) (b : Bool) (x y : Form) → (b ≡ true → P x) → (b ≡ false → P y) → P (cond b x y)
-by-test P true x y p q = p refl
-by-test P false x y p q = q refl
-
 file-laid : (s : List ℕ) → Laid s (fileForm s)
 unfolding fileForm
 file-laid s =
@@ -211,30 +208,53 @@ module _ (s : List ℕ) where
   unfolding requestIn
   read-file {n} e {a} p q = rw (as-tested s, e) (q ∙ ap (λ (b : Bool). judgedIn s (File b n)) p)
 
+-- a refusal of steps 1 and 2 is never 0
+abbrev Refuses : Request → Type 0
+Refuses (Refused k) = k ≡ 0 → ⊥
+Refuses Bulk = Unit
+Refuses (File a n) = Unit
+
+judged-refuses : (s : List ℕ) (r : Request) → Refuses r → Refuses (judgedIn s r)
+unfolding judgedIn unless
+judged-refuses s r h =
+    by-test Refuses (eqb (refusalOf (beNat 4 (drop 4 s)) (beNat 4 (drop 8 s))) 0) r (Refused (refusalOf (beNat 4 (drop 4 s)) (beNat 4 (drop 8 s)))) (λ _. h)
+    (λ z. eqb-false (refusalOf (beNat 4 (drop 4 s)) (beNat 4 (drop 8 s))) 0 z)
+
+form-refuses : (s : List ℕ) (f : Form) → Refuses (answerIn s f)
+form-refuses s form.Malformed = λ z. omega arith
+form-refuses s form.Bulk = judged-refuses s Bulk tt
+form-refuses s (form.File n) = judged-refuses s (File (anonymousIn s) n) tt
+
+pub refused-number : (s : List ℕ) {k : ℕ} → requestOf s ≡ Refused k → k ≡ 0 → ⊥
+unfolding requestIn
+refused-number s e = rw (sym (as-tested s) ∙ e) at (form-refuses s (formOf s))
+
 -- ---- the body
 abbrev Lent : List ℕ → Request → Type 0
 Lent s (Refused k) = Unit
 Lent s Bulk = Unit
 Lent s (File a n) = Fits s n
 
-lent : (s : List ℕ) (f : Form) → Laid s f → Lent s (answerIn s f)
+judged-lent : (s : List ℕ) (r : Request) → Lent s r → Lent s (judgedIn s r)
 unfolding judgedIn unless
+judged-lent s r h =
+    by-test (Lent s) (eqb (refusalOf (beNat 4 (drop 4 s)) (beNat 4 (drop 8 s))) 0) r (Refused (refusalOf (beNat 4 (drop 4 s)) (beNat 4 (drop 8 s)))) (λ _. h) (λ _. tt)
+
+lent : (s : List ℕ) (f : Form) → Laid s f → Lent s (answerIn s f)
 lent s form.Malformed h = tt
-lent s form.Bulk h = by-refusal (eqb (refusalOf (beNat 4 (drop 4 s)) (beNat 4 (drop 8 s))) 0)
-  where
-    by-refusal : (b : Bool) → Lent s (cond b Bulk (Refused (refusalOf (beNat 4 (drop 4 s)) (beNat 4 (drop 8 s)))))
-    by-refusal true = tt
-    by-refusal false = tt
-lent s (form.File n) h = by-refusal (eqb (refusalOf (beNat 4 (drop 4 s)) (beNat 4 (drop 8 s))) 0)
-  where
-    by-refusal : (b : Bool) → Lent s (cond b (File (anonymousIn s) n) (Refused (refusalOf (beNat 4 (drop 4 s)) (beNat 4 (drop 8 s)))))
-    by-refusal true = h
-    by-refusal false = tt
+lent s form.Bulk h = judged-lent s Bulk tt
+lent s (form.File n) h = judged-lent s (File (anonymousIn s) n) h
 
 -- the body of an ordinary return is within the limit and within the request
 pub body-fits : (s : List ℕ) {a : Bool} {n : ℕ} → requestOf s ≡ File a n → Fits s n
 unfolding requestIn
 body-fits s e = rw (sym (as-tested s) ∙ e) at (lent s (formOf s) (form-laid s))
+
+-- and is the one that the definition reads
+pub body-read : (s : List ℕ) (a : Arguments) {stateid body : List ℕ} → arguments s ≡ Got a [] → a .returned ≡ ofFile stateid body
+    → refusalOf (a .layout) (a .iomode) ≡ 0 → bodyOf s ≡ body
+unfolding bodyOf requestOf unless
+body-read s a {body = body} e r z = rw (e, z, r) (body-lies s a e r)
 
 pub body-refused : (s : List ℕ) {k : ℕ} → requestOf s ≡ Refused k → [] ≡ bodyOf s
 unfolding bodyOf
