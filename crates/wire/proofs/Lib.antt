@@ -1,7 +1,17 @@
--- The laws of the wire library. Bodies: the check of a layout body. Stores: the bytes of extents as they are stored. Rows: the answers of the writer.
--- RoundTrip, Demand2: what is written reads back, and what is read writes back.
+-- Layout bodies. Bodies: the check. Stores: the bytes of extents as they are stored. Rows: the answers of the writer. RoundTrip, Demand2: what is
+-- written reads back, and what is read writes back.
+-- LAYOUTRETURN. Readers: fields read one after another. Devices: device ids. Requests, RequestModel: the request. Reports, ReportModel: the report,
+-- with computed examples in ReportExamples. Replies: the reply.
 pub mod Bodies
 pub mod Stores
 pub mod Rows
 pub mod RoundTrip
 pub mod Demand2
+pub mod Readers
+pub mod Devices
+pub mod Requests
+pub mod RequestModel
+pub mod Reports
+pub mod ReportModel
+pub mod ReportExamples
+pub mod Replies

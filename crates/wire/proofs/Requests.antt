@@ -1,0 +1,271 @@
+-- What the code's tests say of a request.
+use Prim.Native.Nat.{ℕ, zero, suc, _+_, _-_, _*_, _%_, _≤_, _<_}
+use mathlib.Core.Path.{_≡_, refl, sym, ap, _∙_}
+use mathlib.Core.List.{List, [], _∷_}
+use mathlib.Core.Bool.{Bool, true, false, cond, _&&_, _||_}
+use native.Mathlib.Omega.{arith}
+use native.Mathlib.Numerals.{add-one}
+use native.Mathlib.Nat.{suc-add}
+use borrow.Author.Tests.{lt-ltb, le-ltb, le-leb, lt-leb, eq-eqb, ne-eqb, ltb-true, ltb-false, eqb-true, eqb-false}
+use lib.ListN.{length, take, drop, getD, replicate, length-drop}
+use lib.Seq.{drop-cons, drop-length, take-all}
+use lib.Dec.{ltb, leb, eqb}
+use Rattle.xdr.specs.Be.{beNat}
+use Rattle.wire.specs.Reader.{sameBytes, zeros, padding, Got}
+use Rattle.wire.specs.Request.{Arguments, ofFile, refusalOf, unless, arguments, requestOf, bodyOf}
+use Rattle.wire.specs.RequestSteps.{fileForm, formOf, anonymousIn, judgedIn, answerIn, requestIn}
+use Rattle.wire.specs.declared.request.Form.{Form}
+use Rattle.wire.specs.declared.request.Form.the-variants as form
+use Rattle.wire.specs.declared.request.Request.{Request}
+use Rattle.wire.specs.declared.request.Request.the-variants.{Refused, Bulk, File}
+use Rattle.wire.proofs.Readers.{by-test}
+use Rattle.wire.proofs.RequestModel.{as-tested, body-lies}
+
+-- lists of different lengths differ
+pub other-length : (a b : List ℕ) → (length a ≡ length b → ⊥) → false ≡ sameBytes a b
+unfolding sameBytes
+other-length [] [] h = absurd (h refl)
+other-length [] (x ∷ b) h = refl
+other-length (x ∷ a) [] h = refl
+other-length (x ∷ a) (y ∷ b) h = both-false (eqb x y) (sameBytes a b) (other-length a b (λ e. h (ap suc e)))
+  where
+    both-false : (p q : Bool) → false ≡ q → false ≡ p && q
+    both-false true q e = e
+    both-false false q e = refl
+
+module _ (a b : List ℕ) (i : ℕ) (ha : i < length a) (hb : i < length b) where
+  one-more : sameBytes (drop i a) (drop i b) ≡ eqb (getD a i 0) (getD b i 0) && sameBytes (drop (i + 1) a) (drop (i + 1) b)
+  unfolding sameBytes
+  one-more = rw (drop-cons a i 0 ha, drop-cons b i 0 hb, add-one)
+
+  pub differs : {t : Bool} → (getD a i 0 ≡ getD b i 0 → ⊥) → sameBytes (drop i a) (drop i b) ≡ t → false ≡ t
+  differs n h = ap (λ (x : Bool). x && sameBytes (drop (i + 1) a) (drop (i + 1) b)) (sym (ne-eqb (getD a i 0) (getD b i 0) n)) ∙ sym one-more ∙ h
+
+  pub agrees : {t : Bool} → getD a i 0 ≡ getD b i 0 → sameBytes (drop i a) (drop i b) ≡ t → sameBytes (drop (i + 1) a) (drop (i + 1) b) ≡ t
+  agrees n h = ap (λ (x : Bool). x && sameBytes (drop (i + 1) a) (drop (i + 1) b)) (sym (eq-eqb (getD a i 0) (getD b i 0) n)) ∙ sym one-more ∙ h
+
+pub all-agree : (a b : List ℕ) (i : ℕ) → i ≡ length a → i ≡ length b → {t : Bool} → sameBytes (drop i a) (drop i b) ≡ t → true ≡ t
+unfolding sameBytes
+all-agree a b i ha hb h =
+    let p : drop i a ≡ [] = ap (λ (k : ℕ). drop k a) ha ∙ drop-length a in
+    let q : drop i b ≡ [] = ap (λ (k : ℕ). drop k b) hb ∙ drop-length b in
+    rw (p, q) at h
+
+pub some-zeros : (m n : ℕ) → take m (zeros (m + n)) ≡ zeros m
+some-zeros zero n = refl
+some-zeros (suc m) n = rw suc-add (ap (λ (l : List ℕ). 0 ∷ l) (some-zeros m n))
+
+-- ---- step 2
+module _ (layout iomode : ℕ) where
+  pub none-refused : layout ≡ 4 → 1 ≤ iomode → iomode ≤ 3 → 0 ≡ refusalOf layout iomode
+  unfolding refusalOf
+  none-refused l h k = simp (eq-eqb layout 4 l, le-leb 1 iomode h, le-leb iomode 3 k)
+
+  pub iomode-low : layout ≡ 4 → iomode < 1 → 10049 ≡ refusalOf layout iomode
+  unfolding refusalOf
+  iomode-low l h = simp (eq-eqb layout 4 l, lt-leb 1 iomode h)
+
+  pub iomode-high : layout ≡ 4 → 1 ≤ iomode → 3 < iomode → 10049 ≡ refusalOf layout iomode
+  unfolding refusalOf
+  iomode-high l h k = simp (eq-eqb layout 4 l, le-leb 1 iomode h, lt-leb iomode 3 k)
+
+  pub layout-other : (layout ≡ 4 → ⊥) → 10062 ≡ refusalOf layout iomode
+  unfolding refusalOf
+  layout-other l = simp (ne-eqb layout 4 l)
+
+-- ---- step 1, return type 1
+
+-- the part of a slice from a place on
+from-on : (k : ℕ) (s : List ℕ) → take (length s - k) (drop k s) ≡ drop k s
+from-on k s = take-all (length s - k) (drop k s) (rw length-drop (omega arith))
+
+module _ (s : List ℕ) where
+  pub file-short : length s < 52 → form.Malformed ≡ fileForm s
+  unfolding fileForm
+  file-short h = simp (lt-ltb (length s) 52 h)
+
+  module _ (h : 52 ≤ length s) (n : ℕ) (e : n ≡ beNat 4 (drop 48 s)) where
+    pub file-large : 4096 < n → form.Malformed ≡ fileForm s
+    unfolding fileForm
+    file-large k = simp (← e, le-ltb (length s) 52 h, lt-ltb 4096 n k)
+
+    pub file-cut : n ≤ 4096 → length s < 52 + n → form.Malformed ≡ fileForm s
+    unfolding fileForm
+    file-cut k l = simp (← e, le-ltb (length s) 52 h, le-ltb 4096 n k, lt-ltb (length s) (52 + n) l)
+
+    file-padded : n ≤ 4096 → 52 + n ≤ length s → fileForm s ≡ cond (sameBytes (drop (52 + n) s) (zeros (padding n))) (form.File n) form.Malformed
+    unfolding fileForm
+    file-padded k l = simp (← e, le-ltb (length s) 52 h, le-ltb 4096 n k, le-ltb (length s) (52 + n) l)
+
+    few-zeros : (m : ℕ) → m ≡ padding n → take m (zeros 4) ≡ zeros (padding n)
+    few-zeros m q =
+        let f : m + (4 - m) ≡ 4 = omega arith in
+        ap (λ (k : ℕ). take m (zeros k)) (sym f) ∙ some-zeros m (4 - m) ∙ ap zeros q
+
+    module _ (k : n ≤ 4096) (l : 52 + n ≤ length s) (m : ℕ) (q : m ≡ padding n) (t : Bool) (r : t ≡ sameBytes (take (length s - (52 + n)) (drop (52 + n) s)) (take m (zeros 4))) where
+      padded : t ≡ sameBytes (drop (52 + n) s) (zeros (padding n))
+      padded = rw (← few-zeros m q, ← from-on (52 + n) s) r
+
+      pub file-whole : t ≡ true → form.File n ≡ fileForm s
+      file-whole y =
+          ap (λ (b : Bool). cond b (form.File n) form.Malformed) (sym y ∙ padded) ∙ sym (file-padded k l)
+
+      pub file-spare : t ≡ false → form.Malformed ≡ fileForm s
+      file-spare y =
+          ap (λ (b : Bool). cond b (form.File n) form.Malformed) (sym y ∙ padded) ∙ sym (file-padded k l)
+
+-- ---- step 1
+module _ (s : List ℕ) where
+  pub form-short : length s < 16 → form.Malformed ≡ formOf s
+  unfolding formOf
+  form-short h = simp (lt-ltb (length s) 16 h)
+
+  module _ (h : 16 ≤ length s) (flag : ℕ) (e : flag ≡ beNat 4 s) where
+    pub flag-large : 1 < flag → form.Malformed ≡ formOf s
+    unfolding formOf
+    flag-large k = simp (← e, le-ltb (length s) 16 h, lt-ltb 1 flag k)
+
+    module _ (k : flag ≤ 1) (t : ℕ) (q : t ≡ beNat 4 (drop 12 s)) where
+      pub form-file : t ≡ 1 → {r : Form} → r ≡ fileForm s → r ≡ formOf s
+      unfolding formOf
+      form-file y r = simp (← e, ← q, le-ltb (length s) 16 h, le-ltb 1 flag k, eq-eqb t 1 y, r)
+
+      pub form-bulk : 2 ≤ t → t ≤ 3 → length s ≡ 16 → form.Bulk ≡ formOf s
+      unfolding formOf
+      form-bulk y z l =
+          simp (← e, ← q, le-ltb (length s) 16 h, le-ltb 1 flag k, ne-eqb t 1 (λ x. omega arith), le-leb 2 t y, le-leb t 3 z, eq-eqb (length s) 16 l)
+
+      pub form-spare : 2 ≤ t → t ≤ 3 → (length s ≡ 16 → ⊥) → form.Malformed ≡ formOf s
+      unfolding formOf
+      form-spare y z l =
+          simp (← e, ← q, le-ltb (length s) 16 h, le-ltb 1 flag k, ne-eqb t 1 (λ x. omega arith), le-leb 2 t y, le-leb t 3 z, ne-eqb (length s) 16 l)
+
+      pub type-low : t < 1 → form.Malformed ≡ formOf s
+      unfolding formOf
+      type-low y = simp (← e, ← q, le-ltb (length s) 16 h, le-ltb 1 flag k, ne-eqb t 1 (λ x. omega arith), lt-leb 2 t (omega arith))
+
+      pub type-high : 3 < t → form.Malformed ≡ formOf s
+      unfolding formOf
+      type-high y = simp (← e, ← q, le-ltb (length s) 16 h, le-ltb 1 flag k, ne-eqb t 1 (λ x. omega arith), le-leb 2 t (omega arith), lt-leb t 3 y)
+
+-- ---- a form fits the bytes
+pub record Fits (s : List ℕ) (n : ℕ) : Type 0 where
+  pub limit : n ≤ 4096
+  pub within : 52 + n ≤ length s
+
+abbrev Laid : List ℕ → Form → Type 0
+Laid s form.Malformed = Unit
+Laid s form.Bulk = 16 ≤ length s
+Laid s (form.File n) = Fits s n
+
+file-laid : (s : List ℕ) → Laid s (fileForm s)
+unfolding fileForm
+file-laid s =
+    by-test (Laid s) (ltb (length s) 52) _ _ (λ _. tt)
+    (λ _. by-test (Laid s) (ltb 4096 (beNat 4 (drop 48 s))) _ _ (λ _. tt)
+    (λ h. by-test (Laid s) (ltb (length s) (52 + beNat 4 (drop 48 s))) _ _ (λ _. tt)
+    (λ k. by-test (Laid s) (sameBytes (drop (52 + beNat 4 (drop 48 s)) s) (zeros (padding (beNat 4 (drop 48 s))))) (form.File (beNat 4 (drop 48 s))) form.Malformed
+    (λ _. record { limit = ltb-false 4096 (beNat 4 (drop 48 s)) h; within = ltb-false (length s) (52 + beNat 4 (drop 48 s)) k }) (λ _. tt))))
+
+form-laid : (s : List ℕ) → Laid s (formOf s)
+unfolding formOf
+form-laid s =
+    by-test (Laid s) (ltb (length s) 16) _ _ (λ _. tt)
+    (λ h. by-test (Laid s) (ltb 1 (beNat 4 s)) _ _ (λ _. tt)
+    (λ _. by-test (Laid s) (eqb (beNat 4 (drop 12 s)) 1) _ _ (λ _. file-laid s)
+    (λ _. by-test (Laid s) (leb 2 (beNat 4 (drop 12 s)) && leb (beNat 4 (drop 12 s)) 3) _ _
+    (λ _. by-test (Laid s) (eqb (length s) 16) form.Bulk form.Malformed (λ _. ltb-false (length s) 16 h) (λ _. tt)) (λ _. tt))))
+
+pub bulk-fits : (s : List ℕ) → formOf s ≡ form.Bulk → 16 ≤ length s
+bulk-fits s e = rw e at (form-laid s)
+
+pub file-fits : (s : List ℕ) {n : ℕ} → formOf s ≡ form.File n → Fits s n
+file-fits s e = rw e at (form-laid s)
+
+-- ---- steps 1 to 3
+module _ (s : List ℕ) (r : Request) {layout iomode k : ℕ} (l : layout ≡ beNat 4 (drop 4 s)) (i : iomode ≡ beNat 4 (drop 8 s)) (e : k ≡ refusalOf layout iomode) where
+  number-is : refusalOf (beNat 4 (drop 4 s)) (beNat 4 (drop 8 s)) ≡ k
+  number-is = cc
+
+  pub passes : k ≡ 0 → r ≡ judgedIn s r
+  unfolding judgedIn unless
+  passes z = simp (number-is, eq-eqb k 0 z)
+
+  pub refuses : (k ≡ 0 → ⊥) → Refused k ≡ judgedIn s r
+  unfolding judgedIn unless
+  refuses z = simp (number-is, ne-eqb k 0 z)
+
+module _ (s : List ℕ) where
+  pub read-malformed : formOf s ≡ form.Malformed → Refused 10036 ≡ requestOf s
+  unfolding requestIn
+  read-malformed e = rw (as-tested s, e)
+
+  pub read-bulk : formOf s ≡ form.Bulk → {r : Request} → r ≡ judgedIn s Bulk → r ≡ requestOf s
+  unfolding requestIn
+  read-bulk e q = rw (as-tested s, e) q
+
+  pub read-file : {n : ℕ} → formOf s ≡ form.File n → {a : Bool} → a ≡ anonymousIn s → {r : Request} → r ≡ judgedIn s (File a n) → r ≡ requestOf s
+  unfolding requestIn
+  read-file {n} e {a} p q = rw (as-tested s, e) (q ∙ ap (λ (b : Bool). judgedIn s (File b n)) p)
+
+-- a refusal of steps 1 and 2 is never 0
+abbrev Refuses : Request → Type 0
+Refuses (Refused k) = k ≡ 0 → ⊥
+Refuses Bulk = Unit
+Refuses (File a n) = Unit
+
+judged-refuses : (s : List ℕ) (r : Request) → Refuses r → Refuses (judgedIn s r)
+unfolding judgedIn unless
+judged-refuses s r h =
+    by-test Refuses (eqb (refusalOf (beNat 4 (drop 4 s)) (beNat 4 (drop 8 s))) 0) r (Refused (refusalOf (beNat 4 (drop 4 s)) (beNat 4 (drop 8 s)))) (λ _. h)
+    (λ z. eqb-false (refusalOf (beNat 4 (drop 4 s)) (beNat 4 (drop 8 s))) 0 z)
+
+form-refuses : (s : List ℕ) (f : Form) → Refuses (answerIn s f)
+form-refuses s form.Malformed = λ z. omega arith
+form-refuses s form.Bulk = judged-refuses s Bulk tt
+form-refuses s (form.File n) = judged-refuses s (File (anonymousIn s) n) tt
+
+pub refused-number : (s : List ℕ) {k : ℕ} → requestOf s ≡ Refused k → k ≡ 0 → ⊥
+unfolding requestIn
+refused-number s e = rw (sym (as-tested s) ∙ e) at (form-refuses s (formOf s))
+
+-- ---- the body
+abbrev Lent : List ℕ → Request → Type 0
+Lent s (Refused k) = Unit
+Lent s Bulk = Unit
+Lent s (File a n) = Fits s n
+
+judged-lent : (s : List ℕ) (r : Request) → Lent s r → Lent s (judgedIn s r)
+unfolding judgedIn unless
+judged-lent s r h =
+    by-test (Lent s) (eqb (refusalOf (beNat 4 (drop 4 s)) (beNat 4 (drop 8 s))) 0) r (Refused (refusalOf (beNat 4 (drop 4 s)) (beNat 4 (drop 8 s)))) (λ _. h) (λ _. tt)
+
+lent : (s : List ℕ) (f : Form) → Laid s f → Lent s (answerIn s f)
+lent s form.Malformed h = tt
+lent s form.Bulk h = judged-lent s Bulk tt
+lent s (form.File n) h = judged-lent s (File (anonymousIn s) n) h
+
+-- the body of an ordinary return is within the limit and within the request
+pub body-fits : (s : List ℕ) {a : Bool} {n : ℕ} → requestOf s ≡ File a n → Fits s n
+unfolding requestIn
+body-fits s e = rw (sym (as-tested s) ∙ e) at (lent s (formOf s) (form-laid s))
+
+-- and is the one that the definition reads
+pub body-read : (s : List ℕ) (a : Arguments) {stateid body : List ℕ} → arguments s ≡ Got a [] → a .returned ≡ ofFile stateid body
+    → refusalOf (a .layout) (a .iomode) ≡ 0 → bodyOf s ≡ body
+unfolding bodyOf requestOf unless
+body-read s a {body = body} e r z = rw (e, z, r) (body-lies s a e r)
+
+pub body-refused : (s : List ℕ) {k : ℕ} → requestOf s ≡ Refused k → [] ≡ bodyOf s
+unfolding bodyOf
+body-refused s e = simp e
+
+pub body-bulk : (s : List ℕ) → requestOf s ≡ Bulk → [] ≡ bodyOf s
+unfolding bodyOf
+body-bulk s e = simp e
+
+pub body-file : (s : List ℕ) {a : Bool} {n : ℕ} → requestOf s ≡ File a n → take (52 + n - 52) (drop 52 s) ≡ bodyOf s
+unfolding bodyOf
+body-file s {n = n} e =
+    let q : 52 + n - 52 ≡ n = omega arith in
+    simp (e, q)

@@ -1,0 +1,22 @@
+-- By computing what the start of a report is.
+use borrow.Author.Tests.{lt-ltb, le-ltb}
+use lib.ListN.{length}
+use Rattle.wire.specs.ReportSteps.{startOf}
+use native.Mathlib.Omega.{arith}
+use borrow.Author.Needs.{needs}
+use Rattle.wire.proofs.report.start.Statement.{statement}
+use Rattle.wire.proofs.report.start.Tie as tie
+
+returns : tie.Need-returns
+unfolding startOf
+returns c = simp (lt-ltb (length (c .before .before .args .s .now)) 4 (omega arith))
+
+be32-requires : tie.Need-be32-requires
+be32-requires c κs = search needs
+
+returns-2 : tie.Need-returns-2
+unfolding startOf
+returns-2 c = simp (le-ltb (length (c .before .before .before .args .s .now)) 4 (omega arith), c .be32 .ensures)
+
+pub start-spec : {M : Type 1} → statement M
+start-spec = tie.close (tie.spec returns be32-requires returns-2)

@@ -1,0 +1,77 @@
+-- DEFINITION. The error report of a LAYOUTRETURN, which is its body (RFC 8435, section 9; paper 01, "LAYOUTRETURN").
+--     DeviceError, deviceError, ioerr, layoutreturn   the RFC's structures, a line a field
+--     Report, reportOf, statusOf                      what step 5 makes of a body
+--     over, outcome                                   what a caller makes of a report
+use Prim.Native.Nat.{ℕ}
+use mathlib.Core.List.{List, [], _∷_, _++_}
+use mathlib.Core.Bool.{cond}
+use lib.ListN.{length}
+use lib.Dec.{eqb}
+use Rattle.wire.specs.Reader.{Read, Got, Bad, Reader, _>>=_, give, number, opaque, counted}
+
+-- a device error: the place of its error record in the report, the device's sixteen bytes, and the status
+pub record DeviceError : Type 0 where
+  pub inRecord : ℕ
+  pub device : List ℕ
+  pub status : ℕ
+
+-- device_error4, in the error record at place i; the operation is not judged
+unfoldable pub deviceError : ℕ → Reader DeviceError
+deviceError i = do
+  device ← opaque 16
+  status ← number 4
+  operation ← number 4
+  give (record { inRecord = i; device = device; status = status })
+
+-- ff_ioerr4, at place i: its device errors; offset, length and stateid are not judged
+unfoldable pub ioerr : ℕ → Reader (List DeviceError)
+ioerr i = do
+  offset ← number 8
+  extent ← number 8
+  stateid ← opaque 16
+  counted (λ _. deviceError i)
+
+-- ff_layoutreturn4, up to the count of its statistics records
+pub record Returned : Type 0 where
+  pub records : List (List DeviceError)
+  pub statistics : ℕ
+
+unfoldable pub layoutreturn : Reader Returned
+layoutreturn = do
+  records ← counted ioerr
+  statistics ← number 4
+  give (record { records = records; statistics = statistics })
+
+-- ---- step 5
+-- well formed, with its device errors in their order; or malformed; or well formed up to a statistics count that isn't 0
+pub data Report : Type 0 where
+  Whole : List DeviceError → Report
+  Malformed : Report
+  Statistics : Report
+
+unfoldable pub joined : List (List DeviceError) → List DeviceError
+joined [] = []
+joined (r ∷ rs) = r ++ joined rs
+
+abbrev pub judged : Read Returned → Report
+judged Bad = Malformed
+judged (Got r rest) = cond (eqb (r .statistics) 0) (cond (eqb (length rest) 0) (Whole (joined (r .records))) Malformed) Statistics
+
+unfoldable pub reportOf : List ℕ → Report
+reportOf s = judged (layoutreturn s)
+
+-- 0, 10036 BADXDR, 10004 NOTSUPP
+abbrev pub statusOf : Report → ℕ
+statusOf (Whole xs) = 0
+statusOf Malformed = 10036
+statusOf Statistics = 10004
+
+-- ---- what a caller makes of a report: `f` over its device errors in their order, from `a` on; `bad` and `more` where it has none to give
+unfoldable pub over : {A : Type 0} → (A → DeviceError → A) → A → List DeviceError → A
+over f a [] = a
+over f a (x ∷ xs) = over f (f a x) xs
+
+unfoldable pub outcome : {A : Type 0} → (A → DeviceError → A) → A → A → A → Report → A
+outcome f bad more a (Whole xs) = over f a xs
+outcome f bad more a Malformed = bad
+outcome f bad more a Statistics = more

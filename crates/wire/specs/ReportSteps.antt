@@ -1,0 +1,135 @@
+-- MODEL of the code: what stands at a cursor of a report, and the report from a cursor on. proofs/Reports.antt proves that the steps from the
+-- start visit the device errors of `reportOf`.
+--     devices, records    the device errors and the error records still to come, and then the rest
+--     startOf, stepAt     what `start` and `step` answer
+--     nextAt              what `next` answers
+--     reportFrom          the report from a cursor on; `after` and `afterNext` say the same by what stands there and by what comes next
+--     handed              what `sc_report_next` answers and leaves in the numbers that it is lent
+use Prim.Native.Nat.{ℕ, zero, suc, _+_, _-_}
+use mathlib.Core.List.{List, [], _∷_}
+use mathlib.Core.Bool.{cond}
+use lib.ListN.{length, take, drop}
+use lib.Dec.{ltb, eqb}
+use Rattle.xdr.specs.Be.{beNat}
+use Rattle.wire.specs.Report as report
+use Rattle.wire.specs.Report.{Report, DeviceError}
+use Rattle.wire.specs.declared.report.Cursor.{Cursor}
+use Rattle.wire.specs.declared.report.Entry.{Entry}
+use Rattle.wire.specs.declared.report.Entry.the-variants.{Device, Record, End, Statistics, Malformed}
+use Rattle.wire.specs.declared.report.Found.{Found}
+use Rattle.wire.specs.declared.report.Found.the-variants.{Error, Done}
+
+-- ---- a report as it is walked
+abbrev pub naming : DeviceError → Report → Report
+naming x (report.Whole xs) = report.Whole (x ∷ xs)
+naming x report.Malformed = report.Malformed
+naming x report.Statistics = report.Statistics
+
+-- the device error that the first 24 bytes hold, in the record at place i
+abbrev pub errorIn : ℕ → List ℕ → DeviceError
+errorIn i s = record { inRecord = i; device = take 16 s; status = beNat 4 (drop 16 s) }
+
+-- the statistics count, and nothing after it
+unfoldable pub statistics : List ℕ → Report
+statistics s =
+    cond (ltb (length s) 4) report.Malformed (cond (eqb (beNat 4 s) 0) (cond (eqb (length s) 4) (report.Whole []) report.Malformed) report.Statistics)
+
+-- n device errors of the record at place i, and then what `rest` makes of the bytes after them
+unfoldable pub devices : ℕ → ℕ → (List ℕ → Report) → List ℕ → Report
+devices i zero rest s = rest s
+devices i (suc n) rest s = cond (ltb (length s) 24) report.Malformed (naming (errorIn i s) (devices i n rest (drop 24 s)))
+
+-- the last n of `total` error records, and then the statistics
+unfoldable pub records : ℕ → ℕ → List ℕ → Report
+records total zero s = statistics s
+records total (suc n) s = cond (ltb (length s) 36) report.Malformed (devices (total - suc n) (beNat 4 (drop 32 s)) (records total n) (drop 36 s))
+
+-- ---- the code's answers
+unfoldable pub startOf : List ℕ → Cursor
+startOf s =
+    cond (ltb (length s) 4) (record { at = 0; records = 0; devices = 0 }) (record { at = 4; records = beNat 4 s; devices = 0 })
+
+-- where no record is to come, by the status of what is left
+abbrev pub ending : ℕ → Entry
+ending k = cond (eqb k 0) End (cond (eqb k 10004) Statistics Malformed)
+
+unfoldable pub lastStep : List ℕ → ℕ → Entry
+lastStep s at = ending (report.statusOf (statistics (drop at s)))
+
+unfoldable pub recordStep : List ℕ → ℕ → ℕ → Entry
+recordStep s at r =
+    cond (eqb r 0) (lastStep s at)
+    (cond (ltb (length s - at) 36) Malformed (Record (record { at = at + 36; records = r - 1; devices = beNat 4 (drop (at + 32) s) })))
+
+-- the place of the record at hand: all but those to come, less one
+abbrev pub placeOf : List ℕ → ℕ → ℕ
+placeOf s r = beNat 4 s - r - 1
+
+abbrev pub deviceStep : List ℕ → ℕ → ℕ → ℕ → Entry
+deviceStep s at r d =
+    cond (eqb d 0) (recordStep s at r)
+    (cond (ltb (length s - at) 24) Malformed
+    (Device (placeOf s r) (beNat 8 (drop at s)) (beNat 8 (drop (at + 8) s)) (beNat 4 (drop (at + 16) s)) (record { at = at + 24; records = r; devices = d - 1 })))
+
+unfoldable pub stepAt : List ℕ → Cursor → Entry
+stepAt s c = deviceStep s (c .at) (c .records) (c .devices)
+
+-- ---- the first device error from a cursor on
+-- by what stands at a cursor; `k` goes on past a record's head
+abbrev pub nextBy : Entry → (Cursor → Found) → Found
+nextBy (Device i h l st next) k = Error i h l st next
+nextBy (Record next) k = k next
+nextBy End k = Done 0
+nextBy Statistics k = Done 10004
+nextBy Malformed k = Done 10036
+
+-- past at most n records' heads
+unfoldable pub nextPast : ℕ → List ℕ → Cursor → Found
+nextPast zero s c = nextBy (stepAt s c) (λ _. Done 10036)
+nextPast (suc n) s c = nextBy (stepAt s c) (nextPast n s)
+
+unfoldable pub nextAt : List ℕ → Cursor → Found
+nextAt s c = nextPast (c .records) s c
+
+-- ---- the report from a cursor on
+-- the device error at a cursor
+abbrev pub errorAt : List ℕ → Cursor → DeviceError
+errorAt s c = errorIn (placeOf s (c .records)) (drop (c .at) s)
+
+unfoldable pub reportFrom : List ℕ → Cursor → Report
+reportFrom s c = devices (placeOf s (c .records)) (c .devices) (records (beNat 4 s) (c .records)) (drop (c .at) s)
+
+-- the report from a cursor on, by what stands at the cursor
+unfoldable pub after : List ℕ → Cursor → Entry → Report
+after s c (Device i h l st next) = naming (errorAt s c) (reportFrom s next)
+after s c (Record next) = reportFrom s next
+after s c End = report.Whole []
+after s c Statistics = report.Statistics
+after s c Malformed = report.Malformed
+
+-- the same by what comes next: the device error stands in the 24 bytes before the next cursor
+abbrev pub afterNext : List ℕ → Found → Report
+afterNext s (Error i h l st next) = naming (errorIn i (drop (next .at - 24) s)) (reportFrom s next)
+afterNext s (Done k) = cond (eqb k 0) (report.Whole []) (cond (eqb k 10004) report.Statistics report.Malformed)
+
+-- ---- what C is handed: the answer, the cursor, and the place of the record, the place of the device's id in the body, and the status
+pub record Numbers : Type 0 where
+  pub answer : ℕ
+  pub at : ℕ
+  pub records : ℕ
+  pub devices : ℕ
+  pub place : ℕ
+  pub device : ℕ
+  pub status : ℕ
+
+-- a cursor of three numbers; place 0 is the start
+unfoldable pub resumedAt : List ℕ → ℕ → ℕ → ℕ → Cursor
+resumedAt s at r d = cond (eqb at 0) (startOf s) (record { at = at; records = r; devices = d })
+
+abbrev pub numbersOf : ℕ → ℕ → ℕ → Found → Numbers
+numbersOf at r d (Error i h l st next) =
+    record { answer = 1; at = next .at; records = next .records; devices = next .devices; place = i; device = next .at - 24; status = st }
+numbersOf at r d (Done k) = record { answer = k; at = at; records = r; devices = d; place = 0; device = 0; status = 0 }
+
+unfoldable pub handed : List ℕ → ℕ → ℕ → ℕ → Numbers
+handed s at r d = numbersOf at r d (nextAt s (resumedAt s at r d))
