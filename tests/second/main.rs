@@ -1,0 +1,135 @@
+//! The second program: speaks the lines of replay (man/replay.1) and prints the same, but is written from the paper alone, over maps and sets.
+//! In this order: the commands; one line; main. `words` reads words, `layout`, `layoutreturn`, `ledger` and `epochs` hold the rules, `examples` the marked ones.
+
+mod epochs;
+mod layout;
+mod layoutreturn;
+mod ledger;
+mod words;
+
+#[cfg(test)]
+mod examples;
+
+use epochs::Epochs;
+use layoutreturn::Answer;
+use ledger::Ledger;
+use std::io::{self, BufRead, Write};
+use words::{bytes, node, number, room, split, MAX_BODY, MAX_LINE, MAX_REQUEST};
+
+/// What the calls run on.
+struct Desk {
+    ledger: Ledger,
+    epochs: Epochs,
+}
+
+impl Desk {
+    fn fresh() -> Desk {
+        Desk { ledger: Ledger::fresh(), epochs: Epochs::fresh() }
+    }
+
+    /// Runs one command and gives the line that it prints; `None` where the words can't be read, and then nothing changed.
+    fn run(&mut self, words: &[&[u8]]) -> Option<String> {
+        let name = std::str::from_utf8(words[0]).ok()?;
+        match (name, &words[1..]) {
+            ("register", [f, m]) => {
+                let (file, mirrors) = (number(f)?, bytes(m, MAX_REQUEST)?);
+                Some(self.ledger.register(file, &mirrors).to_string())
+            }
+            ("open", [f, c]) => Some(self.ledger.open(number(f)?, number(c)?).to_string()),
+            ("reclaim", [f, c]) => Some(self.ledger.reclaim(number(f)?, number(c)?).to_string()),
+            ("close", [f, c]) => Some(self.ledger.close(number(f)?, number(c)?).to_string()),
+            ("repaired", [f]) => Some(self.ledger.repaired(number(f)?).to_string()),
+            ("forget", [f]) => Some(self.ledger.forget(number(f)?).to_string()),
+            ("end", []) => Some(self.ledger.end_of_grace().to_string()),
+            ("restart", []) => Some(self.ledger.restart().to_string()),
+            ("layoutreturn", [c, f, r, q]) => {
+                let (client, file, room, request) = (number(c)?, number(f)?, room(r)?, bytes(q, MAX_REQUEST)?);
+                Some(said(self.ledger.layoutreturn(client, file, room, &request)))
+            }
+            ("resilver", [f, s]) => Some(listed(self.ledger.resilver(), room(f)?, room(s)?)),
+            ("offered", [f, s]) => Some(listed(self.ledger.offered(), room(f)?, room(s)?)),
+            ("layout", [b]) => Some(laid_out(&bytes(b, MAX_BODY)?)),
+            ("fresh", []) => {
+                *self = Desk::fresh();
+                Some("0".to_string())
+            }
+            _ => self.run_on_epochs(name, &words[1..]),
+        }
+    }
+
+    fn run_on_epochs(&mut self, name: &str, arguments: &[&[u8]]) -> Option<String> {
+        let e = &mut self.epochs;
+        match (name, arguments) {
+            ("join", [n]) => Some(e.join(node(n)?).to_string()),
+            ("leave", [n]) => Some(e.leave(node(n)?).to_string()),
+            ("start", [n]) => Some(e.start(node(n)?).to_string()),
+            ("enforce", [n]) => Some(e.enforce(node(n)?).to_string()),
+            ("finish", [n]) => Some(e.finish(node(n)?).to_string()),
+            ("stop", [n]) => Some(e.stop_enforcing(node(n)?).to_string()),
+            ("may", [n]) => Some(match e.may_reclaim(node(n)?) {
+                Ok(true) => "yes".to_string(),
+                Ok(false) => "no".to_string(),
+                Err(number) => number.to_string(),
+            }),
+            ("epochs", []) => Some(e.to_string()),
+            _ => None,
+        }
+    }
+}
+
+/// The line for a LAYOUTRETURN: the number and the bytes of the reply that were written.
+fn said(answer: Answer) -> String {
+    match answer {
+        Answer::HandedOn => "handed on".to_string(),
+        Answer::NoRoom => "28".to_string(),
+        Answer::Status(0) => format!("0 {:08x}{:08x}{:032x}", 0, 1, 0),
+        Answer::Status(status) => format!("{status} {status:08x}"),
+    }
+}
+
+/// The line for a listing into lent slices of so many places.
+fn listed(list: Vec<(u64, u8)>, files: usize, sources: usize) -> String {
+    if list.len() > files || list.len() > sources {
+        return "28 0".to_string();
+    }
+    let entries: String = list.iter().map(|(file, source)| format!(" {file}:{source}")).collect();
+    format!("0 {}{entries}", list.len())
+}
+
+/// The line for a layout body.
+fn laid_out(body: &[u8]) -> String {
+    match layout::read(body) {
+        Err((number, place)) => format!("refused {number} at {place}"),
+        Ok(extents) => {
+            let entries: String = extents.iter().map(|e| format!(" {}:{}:{}:{}", e.offset, e.length, e.storage, e.state)).collect();
+            format!("extents {}{entries}", extents.len())
+        }
+    }
+}
+
+/// What one line, without its newline, prints; `None` for a line that is skipped.
+fn run_line(desk: &mut Desk, line: &[u8], line_number: u64) -> Option<String> {
+    let unread = format!("? {line_number}");
+    if line.len() > MAX_LINE {
+        return Some(unread);
+    }
+    let words = split(line);
+    if words.is_empty() || words[0][0] == b'#' {
+        return None;
+    }
+    Some(desk.run(&words).unwrap_or(unread))
+}
+
+fn main() -> io::Result<()> {
+    let (mut input, mut output) = (io::stdin().lock(), io::BufWriter::new(io::stdout().lock()));
+    let (mut desk, mut line, mut line_number) = (Desk::fresh(), Vec::new(), 0);
+    while input.read_until(b'\n', &mut line)? > 0 {
+        line_number += 1;
+        let text = line.strip_suffix(b"\n").unwrap_or(&line);
+        if let Some(answer) = run_line(&mut desk, text, line_number) {
+            writeln!(output, "{answer}")?;
+        }
+        line.clear();
+    }
+    output.flush()
+}
