@@ -1,5 +1,6 @@
 //! Cluster epochs (01, "Cluster epochs"): the two epochs, and members and their flags as sets of nodes.
 
+use crate::refuse_if;
 use std::collections::BTreeSet;
 use std::fmt;
 
@@ -27,90 +28,69 @@ impl Epochs {
 
     /// What refuses every call but join and may reclaim.
     fn member(&self, node: u32) -> Result<(), u32> {
-        if node >= NODES {
-            return Err(INVAL);
-        }
-        self.members.contains(&node).then_some(()).ok_or(NOENT)
+        in_range(node)?;
+        refuse_if(!self.members.contains(&node), NOENT)
     }
 
-    pub fn join(&mut self, node: u32) -> u32 {
-        if node >= NODES {
-            return INVAL;
-        }
-        if self.members.insert(node) {
-            0
-        } else {
-            EXIST
-        }
+    pub fn join(&mut self, node: u32) -> Result<(), u32> {
+        in_range(node)?;
+        refuse_if(self.members.contains(&node), EXIST)?;
+        self.members.insert(node);
+        Ok(())
     }
 
-    pub fn leave(&mut self, node: u32) -> u32 {
-        if let Err(number) = self.member(node) {
-            return number;
-        }
-        if self.need.contains(&node) {
-            return GRACE;
-        }
+    pub fn leave(&mut self, node: u32) -> Result<(), u32> {
+        self.member(node)?;
+        refuse_if(self.need.contains(&node), GRACE)?;
         self.members.remove(&node);
         self.enforcing.remove(&node);
-        0
+        Ok(())
     }
 
-    pub fn start(&mut self, node: u32) -> u32 {
-        if let Err(number) = self.member(node) {
-            return number;
-        }
+    pub fn start(&mut self, node: u32) -> Result<(), u32> {
+        self.member(node)?;
         if self.recovery == 0 {
-            let Some(next) = self.current.checked_add(1) else { return NOSPC };
+            let next = self.current.checked_add(1).ok_or(NOSPC)?;
             self.recovery = self.current;
             self.current = next;
         }
         self.need.insert(node);
         self.enforcing.insert(node);
-        0
+        Ok(())
     }
 
-    pub fn enforce(&mut self, node: u32) -> u32 {
-        if let Err(number) = self.member(node) {
-            return number;
-        }
-        if self.recovery == 0 {
-            return NO_GRACE;
-        }
+    pub fn enforce(&mut self, node: u32) -> Result<(), u32> {
+        self.member(node)?;
+        refuse_if(self.recovery == 0, NO_GRACE)?;
         self.enforcing.insert(node);
-        0
+        Ok(())
     }
 
-    pub fn finish(&mut self, node: u32) -> u32 {
-        if let Err(number) = self.member(node) {
-            return number;
-        }
-        if !self.need.remove(&node) {
-            return INVAL;
-        }
+    pub fn finish(&mut self, node: u32) -> Result<(), u32> {
+        self.member(node)?;
+        refuse_if(!self.need.contains(&node), INVAL)?;
+        self.need.remove(&node);
         if self.need.is_empty() {
             self.recovery = 0;
         }
-        0
+        Ok(())
     }
 
-    pub fn stop_enforcing(&mut self, node: u32) -> u32 {
-        if let Err(number) = self.member(node) {
-            return number;
-        }
-        if self.recovery != 0 {
-            return GRACE;
-        }
+    pub fn stop_enforcing(&mut self, node: u32) -> Result<(), u32> {
+        self.member(node)?;
+        refuse_if(self.recovery != 0, GRACE)?;
         self.enforcing.remove(&node);
-        0
+        Ok(())
     }
 
     pub fn may_reclaim(&self, node: u32) -> Result<bool, u32> {
-        if node >= NODES {
-            return Err(INVAL);
-        }
+        in_range(node)?;
         Ok(self.recovery != 0 && self.need.contains(&node) && self.members.is_subset(&self.enforcing))
     }
+}
+
+fn in_range(node: u32) -> Result<(), u32> {
+    refuse_if(node >= NODES, INVAL)
 }
 
 /// A set of nodes as the mask that has a 1 for each.
@@ -133,11 +113,11 @@ mod tests {
     #[test]
     fn a_full_epoch_refuses_the_first_start_only() {
         let mut e = Epochs::fresh();
-        assert_eq!((e.join(0), e.join(31)), (0, 0));
+        assert_eq!((e.join(0), e.join(31)), (Ok(()), Ok(())));
         e.current = u64::MAX;
-        assert_eq!((e.start(0), e.to_string()), (28, format!("{} 0 80000001 00000000 00000000", u64::MAX)));
+        assert_eq!((e.start(0), e.to_string()), (Err(28), format!("{} 0 80000001 00000000 00000000", u64::MAX)));
         e.recovery = u64::MAX - 1;
         e.need.insert(31);
-        assert_eq!((e.start(0), e.to_string()), (0, format!("{} {} 80000001 80000001 00000001", u64::MAX, u64::MAX - 1)));
+        assert_eq!((e.start(0), e.to_string()), (Ok(()), format!("{} {} 80000001 80000001 00000001", u64::MAX, u64::MAX - 1)));
     }
 }

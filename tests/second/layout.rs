@@ -60,7 +60,7 @@ fn judge(earlier: &[Extent], e: &Extent) -> Option<u32> {
     if passes_the_end(e.offset, e.length) || (e.state != NONE && passes_the_end(e.storage, e.length)) {
         return Some(5);
     }
-    if earlier.last().is_some_and(|before| out_of_order(before, e)) {
+    if earlier.last().into_iter().any(|before| out_of_order(before, e)) {
         return Some(6);
     }
     if earlier.iter().any(|other| share_a_byte(other, e) && !read_and_invalid(other, e)) {

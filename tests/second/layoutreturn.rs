@@ -1,24 +1,32 @@
 //! LAYOUTRETURN requests (01, "LAYOUTRETURN"): reading a request and a report, and steps 1 to 5. Steps 6 and 7 are the ledger's.
 
+use crate::refuse_if;
+
 /// A device id.
 pub type Device = [u8; 16];
 
-/// What a LAYOUTRETURN is answered.
-#[derive(Debug, PartialEq)]
-pub enum Answer {
+/// What a LAYOUTRETURN is answered, if not 0.
+pub enum Other {
+    /// A status other than 0, which is also the reply.
     Status(u32),
     /// 28: the lent reply is too short, and nothing is written.
     NoRoom,
     HandedOn,
 }
 
+impl From<u32> for Other {
+    fn from(status: u32) -> Other {
+        Other::Status(status)
+    }
+}
+
 /// The device errors of a report, in its order: device and status.
 pub type Report = Vec<(Device, u32)>;
 
-pub const BADXDR: u32 = 10_036;
-pub const NOTSUPP: u32 = 10_004;
-pub const UNKNOWN_LAYOUTTYPE: u32 = 10_062;
-pub const BADIOMODE: u32 = 10_049;
+const BADXDR: u32 = 10_036;
+const NOTSUPP: u32 = 10_004;
+const UNKNOWN_LAYOUTTYPE: u32 = 10_062;
+const BADIOMODE: u32 = 10_049;
 pub const GRACE: u32 = 10_013;
 pub const NO_GRACE: u32 = 10_033;
 const BODY_LIMIT: usize = 4_096;
@@ -35,9 +43,11 @@ impl<'a> Xdr<'a> {
     }
 
     fn opaque<const N: usize>(&mut self) -> Option<[u8; N]> {
-        let (taken, rest) = self.rest.as_slice().split_first_chunk()?;
-        self.rest = rest.iter();
-        Some(*taken)
+        let mut taken = [0; N];
+        for byte in &mut taken {
+            *byte = *self.rest.next()?;
+        }
+        Some(taken)
     }
 
     fn unsigned(&mut self) -> Option<u32> {
@@ -60,7 +70,7 @@ impl<'a> Xdr<'a> {
     fn counted_opaque(&mut self, most: usize) -> Option<Vec<u8>> {
         let length = usize::try_from(self.unsigned()?).ok().filter(|n| *n <= most)?;
         let bytes: Vec<u8> = self.rest.by_ref().take(length).copied().collect();
-        let padding = length.next_multiple_of(4) - length;
+        let padding = (4 - length % 4) % 4;
         let whole = bytes.len() == length && (0..padding).all(|_| self.rest.next() == Some(&0));
         whole.then_some(bytes)
     }
@@ -120,22 +130,18 @@ fn read_report(body: &[u8]) -> Result<Report, u32> {
 }
 
 /// Steps 1 to 5: the report that goes on to step 6, or the answer.
-pub fn judge(in_grace: bool, room: usize, request: &[u8]) -> Result<Report, Answer> {
+pub fn judge(in_grace: bool, room: usize, request: &[u8]) -> Result<Report, Other> {
     if room < 24 {
-        return Err(Answer::NoRoom);
+        return Err(Other::NoRoom);
     }
-    let request = read_request(request).ok_or(Answer::Status(BADXDR))?;
-    if request.layout_type != FLEX_FILES {
-        return Err(Answer::Status(UNKNOWN_LAYOUTTYPE));
-    }
-    if !(1..=3).contains(&request.iomode) {
-        return Err(Answer::Status(BADIOMODE));
-    }
-    let (stateid, body) = request.one_file.ok_or(Answer::HandedOn)?;
+    let request = read_request(request).ok_or(BADXDR)?;
+    refuse_if(request.layout_type != FLEX_FILES, UNKNOWN_LAYOUTTYPE)?;
+    refuse_if(!(1..=3).contains(&request.iomode), BADIOMODE)?;
+    let (stateid, body) = request.one_file.ok_or(Other::HandedOn)?;
     match (in_grace, stateid == [0; 16]) {
-        (true, false) => Err(Answer::Status(GRACE)),
-        (false, true) => Err(Answer::Status(NO_GRACE)),
-        (false, false) => Err(Answer::HandedOn),
-        (true, true) => read_report(&body).map_err(Answer::Status),
+        (true, false) => Err(GRACE.into()),
+        (false, true) => Err(NO_GRACE.into()),
+        (false, false) => Err(Other::HandedOn),
+        (true, true) => Ok(read_report(&body)?),
     }
 }

@@ -1,7 +1,8 @@
 //! The recovery record as its ledger (01, "The recovery record" and "The ledger"): rows by file number, and the calls on them.
-//! Each call answers its number and changes the ledger only where that is 0.
+//! Each call is refused with its number, and then changes nothing, or is accepted.
 
-use crate::layoutreturn::{self, Answer, Device, Report, GRACE, NO_GRACE};
+use crate::layoutreturn::{self, Device, Other, Report, GRACE, NO_GRACE};
+use crate::refuse_if;
 use std::collections::{BTreeMap, BTreeSet};
 
 const MOST_FILES: usize = 64;
@@ -48,13 +49,12 @@ impl Row {
     /// Step 7 of LAYOUTRETURN.
     fn take(&mut self, report: &Report) {
         let place_of = |device: &Device| self.mirrors.iter().position(|mirror| mirror == device);
-        let places: Option<Vec<(usize, u32)>> = report.iter().map(|(device, status)| Some((place_of(device)?, *status))).collect();
-        let Some(places) = places else {
+        if report.iter().any(|(device, _)| place_of(device).is_none()) {
             self.marked = true;
             return;
-        };
-        for (place, _) in places.iter().filter(|(_, status)| *status != 0) {
-            self.blamed.insert(*place);
+        }
+        for (device, _) in report.iter().filter(|(_, status)| *status != 0) {
+            self.blamed.extend(place_of(device));
             self.marked = true;
         }
     }
@@ -78,105 +78,90 @@ impl Ledger {
         Ledger { rows: BTreeMap::new(), in_grace: false }
     }
 
-    pub fn register(&mut self, file: u64, mirrors: &[u8]) -> u32 {
-        if self.in_grace {
-            return GRACE;
-        }
-        let Some(mirrors) = mirror_list(mirrors) else { return INVAL };
-        if self.rows.contains_key(&file) {
-            return EXIST;
-        }
-        if self.rows.len() >= MOST_FILES {
-            return NOSPC;
-        }
+    fn row(&mut self, file: u64) -> Result<&mut Row, u32> {
+        self.rows.get_mut(&file).ok_or(STALE)
+    }
+
+    /// The refusal of calls that wait for the end of grace.
+    fn not_in_grace(&self) -> Result<(), u32> {
+        refuse_if(self.in_grace, GRACE)
+    }
+
+    /// The refusal of calls that belong in grace.
+    fn in_grace(&self) -> Result<(), u32> {
+        refuse_if(!self.in_grace, NO_GRACE)
+    }
+
+    pub fn register(&mut self, file: u64, mirrors: &[u8]) -> Result<(), u32> {
+        self.not_in_grace()?;
+        let mirrors = mirror_list(mirrors).ok_or(INVAL)?;
+        refuse_if(self.rows.contains_key(&file), EXIST)?;
+        refuse_if(self.rows.len() >= MOST_FILES, NOSPC)?;
         self.rows.insert(file, Row { mirrors, ..Row::default() });
-        0
+        Ok(())
     }
 
-    pub fn open(&mut self, file: u64, client: u64) -> u32 {
-        if self.in_grace {
-            return GRACE;
-        }
-        let Some(row) = self.rows.get_mut(&file) else { return STALE };
-        if !row.intents.contains(&client) && row.intents.len() >= MOST_INTENTS {
-            return NOSPC;
-        }
+    pub fn open(&mut self, file: u64, client: u64) -> Result<(), u32> {
+        self.not_in_grace()?;
+        let row = self.row(file)?;
+        refuse_if(!row.intents.contains(&client) && row.intents.len() >= MOST_INTENTS, NOSPC)?;
         row.intents.insert(client);
-        0
+        Ok(())
     }
 
-    pub fn reclaim(&mut self, file: u64, client: u64) -> u32 {
-        if !self.in_grace {
-            return NO_GRACE;
-        }
-        let Some(row) = self.rows.get_mut(&file) else { return STALE };
-        if !row.intents.contains(&client) {
-            return RECLAIM_BAD;
-        }
+    pub fn reclaim(&mut self, file: u64, client: u64) -> Result<(), u32> {
+        self.in_grace()?;
+        let row = self.row(file)?;
+        refuse_if(!row.intents.contains(&client), RECLAIM_BAD)?;
         row.reclaimed.insert(client);
-        0
+        Ok(())
     }
 
-    pub fn close(&mut self, file: u64, client: u64) -> u32 {
-        let Some(row) = self.rows.get_mut(&file) else { return STALE };
-        if !row.intents.contains(&client) || (self.in_grace && !row.reclaimed.contains(&client)) {
-            return BAD_STATEID;
-        }
+    pub fn close(&mut self, file: u64, client: u64) -> Result<(), u32> {
+        let in_grace = self.in_grace;
+        let row = self.row(file)?;
+        refuse_if(!row.intents.contains(&client), BAD_STATEID)?;
+        refuse_if(in_grace && !row.reclaimed.contains(&client), BAD_STATEID)?;
         row.intents.remove(&client);
-        0
+        Ok(())
     }
 
-    pub fn repaired(&mut self, file: u64) -> u32 {
-        let Some(row) = self.rows.get_mut(&file) else { return STALE };
-        if !row.marked {
-            return INVAL;
-        }
-        if row.is_open() {
-            return DELAY;
-        }
+    pub fn repaired(&mut self, file: u64) -> Result<(), u32> {
+        let row = self.row(file)?;
+        refuse_if(!row.marked, INVAL)?;
+        refuse_if(row.is_open(), DELAY)?;
         row.marked = false;
         row.blamed.clear();
-        0
+        Ok(())
     }
 
-    pub fn forget(&mut self, file: u64) -> u32 {
-        if self.in_grace {
-            return GRACE;
-        }
-        let Some(row) = self.rows.get(&file) else { return STALE };
-        if row.marked || row.is_open() {
-            return DELAY;
-        }
+    pub fn forget(&mut self, file: u64) -> Result<(), u32> {
+        self.not_in_grace()?;
+        let row = self.row(file)?;
+        refuse_if(row.marked || row.is_open(), DELAY)?;
         self.rows.remove(&file);
-        0
+        Ok(())
     }
 
-    pub fn end_of_grace(&mut self) -> u32 {
-        if !self.in_grace {
-            return NO_GRACE;
-        }
+    pub fn end_of_grace(&mut self) -> Result<(), u32> {
+        self.in_grace()?;
         self.rows.values_mut().for_each(Row::end_of_grace);
         self.in_grace = false;
-        0
+        Ok(())
     }
 
-    pub fn restart(&mut self) -> u32 {
+    pub fn restart(&mut self) -> Result<(), u32> {
         self.in_grace = true;
         self.rows.values_mut().for_each(|row| row.reclaimed.clear());
-        0
+        Ok(())
     }
 
-    pub fn layoutreturn(&mut self, client: u64, file: u64, room: usize, request: &[u8]) -> Answer {
-        let report = match layoutreturn::judge(self.in_grace, room, request) {
-            Ok(report) => report,
-            Err(answer) => return answer,
-        };
-        let Some(row) = self.rows.get_mut(&file) else { return Answer::Status(STALE) };
-        if !row.intents.contains(&client) {
-            return Answer::Status(RECLAIM_BAD);
-        }
+    pub fn layoutreturn(&mut self, client: u64, file: u64, room: usize, request: &[u8]) -> Result<(), Other> {
+        let report = layoutreturn::judge(self.in_grace, room, request)?;
+        let row = self.row(file)?;
+        refuse_if(!row.intents.contains(&client), RECLAIM_BAD)?;
         row.take(&report);
-        Answer::Status(0)
+        Ok(())
     }
 
     /// The files that need repair, each with its source.

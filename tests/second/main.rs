@@ -1,5 +1,5 @@
 //! The second program: speaks the lines of replay (man/replay.1) and prints the same, but is written from the paper alone, over maps and sets.
-//! In this order: the commands; one line; main. `words` reads words, `layout`, `layoutreturn`, `ledger` and `epochs` hold the rules, `examples` the marked ones.
+//! In this order: refusals; the commands; what they print; one line; main. `words` reads words, `layout`, `layoutreturn`, `ledger` and `epochs` hold the rules, `examples` the marked ones.
 
 mod epochs;
 mod layout;
@@ -11,10 +11,19 @@ mod words;
 mod examples;
 
 use epochs::Epochs;
-use layoutreturn::Answer;
+use layoutreturn::Other;
 use ledger::Ledger;
 use std::io::{self, BufRead, Write};
 use words::{bytes, node, number, room, split, MAX_BODY, MAX_LINE, MAX_REQUEST};
+
+/// A refusal with its number, where it applies.
+pub fn refuse_if(refused: bool, number: u32) -> Result<(), u32> {
+    if refused {
+        Err(number)
+    } else {
+        Ok(())
+    }
+}
 
 /// What the calls run on.
 struct Desk {
@@ -33,15 +42,15 @@ impl Desk {
         match (name, &words[1..]) {
             ("register", [f, m]) => {
                 let (file, mirrors) = (number(f)?, bytes(m, MAX_REQUEST)?);
-                Some(self.ledger.register(file, &mirrors).to_string())
+                Some(answered(self.ledger.register(file, &mirrors)))
             }
-            ("open", [f, c]) => Some(self.ledger.open(number(f)?, number(c)?).to_string()),
-            ("reclaim", [f, c]) => Some(self.ledger.reclaim(number(f)?, number(c)?).to_string()),
-            ("close", [f, c]) => Some(self.ledger.close(number(f)?, number(c)?).to_string()),
-            ("repaired", [f]) => Some(self.ledger.repaired(number(f)?).to_string()),
-            ("forget", [f]) => Some(self.ledger.forget(number(f)?).to_string()),
-            ("end", []) => Some(self.ledger.end_of_grace().to_string()),
-            ("restart", []) => Some(self.ledger.restart().to_string()),
+            ("open", [f, c]) => Some(answered(self.ledger.open(number(f)?, number(c)?))),
+            ("reclaim", [f, c]) => Some(answered(self.ledger.reclaim(number(f)?, number(c)?))),
+            ("close", [f, c]) => Some(answered(self.ledger.close(number(f)?, number(c)?))),
+            ("repaired", [f]) => Some(answered(self.ledger.repaired(number(f)?))),
+            ("forget", [f]) => Some(answered(self.ledger.forget(number(f)?))),
+            ("end", []) => Some(answered(self.ledger.end_of_grace())),
+            ("restart", []) => Some(answered(self.ledger.restart())),
             ("layoutreturn", [c, f, r, q]) => {
                 let (client, file, room, request) = (number(c)?, number(f)?, room(r)?, bytes(q, MAX_REQUEST)?);
                 Some(said(self.ledger.layoutreturn(client, file, room, &request)))
@@ -60,12 +69,12 @@ impl Desk {
     fn run_on_epochs(&mut self, name: &str, arguments: &[&[u8]]) -> Option<String> {
         let e = &mut self.epochs;
         match (name, arguments) {
-            ("join", [n]) => Some(e.join(node(n)?).to_string()),
-            ("leave", [n]) => Some(e.leave(node(n)?).to_string()),
-            ("start", [n]) => Some(e.start(node(n)?).to_string()),
-            ("enforce", [n]) => Some(e.enforce(node(n)?).to_string()),
-            ("finish", [n]) => Some(e.finish(node(n)?).to_string()),
-            ("stop", [n]) => Some(e.stop_enforcing(node(n)?).to_string()),
+            ("join", [n]) => Some(answered(e.join(node(n)?))),
+            ("leave", [n]) => Some(answered(e.leave(node(n)?))),
+            ("start", [n]) => Some(answered(e.start(node(n)?))),
+            ("enforce", [n]) => Some(answered(e.enforce(node(n)?))),
+            ("finish", [n]) => Some(answered(e.finish(node(n)?))),
+            ("stop", [n]) => Some(answered(e.stop_enforcing(node(n)?))),
             ("may", [n]) => Some(match e.may_reclaim(node(n)?) {
                 Ok(true) => "yes".to_string(),
                 Ok(false) => "no".to_string(),
@@ -77,13 +86,18 @@ impl Desk {
     }
 }
 
+/// The line for a call that is accepted or refused.
+fn answered(call: Result<(), u32>) -> String {
+    call.err().unwrap_or(0).to_string()
+}
+
 /// The line for a LAYOUTRETURN: the number and the bytes of the reply that were written.
-fn said(answer: Answer) -> String {
-    match answer {
-        Answer::HandedOn => "handed on".to_string(),
-        Answer::NoRoom => "28".to_string(),
-        Answer::Status(0) => format!("0 {:08x}{:08x}{:032x}", 0, 1, 0),
-        Answer::Status(status) => format!("{status} {status:08x}"),
+fn said(call: Result<(), Other>) -> String {
+    match call {
+        Ok(()) => format!("0 {:08x}{:08x}{:032x}", 0, 1, 0),
+        Err(Other::Status(status)) => format!("{status} {status:08x}"),
+        Err(Other::NoRoom) => "28".to_string(),
+        Err(Other::HandedOn) => "handed on".to_string(),
     }
 }
 

@@ -231,30 +231,40 @@ impl<W: Write> Campaigns<W> {
         Ok(())
     }
 
-    /// Reports in one grace period on a few files that are open, with what they leave once it ends.
+    /// Three grace periods with reports on a few files that are open, and what each leaves: blame that is repaired and comes again.
     fn reports(&mut self) -> Done {
         let pool = self.pool(3, 2, 5);
         self.call("fresh")?;
-        for file in pool.files.clone() {
+        for file in &pool.files {
             let mirrors = hex(&pool.devices[..1 + self.r.size(4)].concat());
             self.call(&format!("register {file} {mirrors}"))?;
+        }
+        for _ in 0..3 {
+            self.open_all(&pool)?;
+            self.call("restart")?;
+            for _ in 0..self.r.below(16) {
+                let (file, client) = (self.r.pick(&pool.files), self.r.pick(&pool.clients));
+                self.layoutreturn(&pool, client, file)?;
+                self.listing("resilver", 2)?;
+            }
+            self.call("end")?;
+            for file in &pool.files {
+                self.listings(3)?;
+                self.call(&format!("repaired {file}"))?;
+            }
+        }
+        Ok(())
+    }
+
+    /// Every client opens every file, and now and then one closes it again.
+    fn open_all(&mut self, pool: &Pool) -> Done {
+        for file in &pool.files {
             for client in &pool.clients {
                 self.call(&format!("open {file} {client}"))?;
             }
             if self.r.percent(30) {
                 self.call(&format!("close {file} {}", pool.clients[0]))?;
             }
-        }
-        self.call("restart")?;
-        for _ in 0..self.r.below(40) {
-            let (file, client) = (self.r.pick(&pool.files), self.r.pick(&pool.clients));
-            self.layoutreturn(&pool, client, file)?;
-            self.listing("resilver", 2)?;
-        }
-        self.call("end")?;
-        for file in pool.files {
-            self.listings(3)?;
-            self.call(&format!("repaired {file}"))?;
         }
         Ok(())
     }
@@ -297,7 +307,19 @@ impl<W: Write> Campaigns<W> {
         for _ in 0..40 {
             let (file, client, node) = (self.r.pick(&pool.files), self.r.pick(&pool.clients), self.r.below(4));
             let mirrors = hex(&pool.devices[0]);
-            let calls = [format!("register {file} {mirrors}"), format!("open {file} {client}"), format!("close {file} {client}"), format!("join {node}"), format!("start {node}"), "restart".to_string(), "end".to_string(), "fresh".to_string(), "epochs".to_string(), "resilver 2 2".to_string(), format!("layout {:08x}", 0)];
+            let calls = [
+                format!("register {file} {mirrors}"),
+                format!("open {file} {client}"),
+                format!("close {file} {client}"),
+                format!("join {node}"),
+                format!("start {node}"),
+                "restart".to_string(),
+                "end".to_string(),
+                "fresh".to_string(),
+                "epochs".to_string(),
+                "resilver 2 2".to_string(),
+                format!("layout {:08x}", 0),
+            ];
             let line = calls[self.r.size(calls.len())].clone();
             let spoilt = spoilt(&mut self.r, &line);
             self.raw(&spoilt)?;
@@ -306,7 +328,7 @@ impl<W: Write> Campaigns<W> {
             let skipped = self.r.pick(&["", "#", "# open 1 1", " \t", "\r", "\t#x"]);
             writeln!(self.out, "{skipped}")?;
         }
-        if self.r.percent(20) {
+        if self.r.percent(60) {
             let line = at_the_limits(&mut self.r);
             self.raw(&line)?;
         }
@@ -316,7 +338,7 @@ impl<W: Write> Campaigns<W> {
     // ---- The run ----
 
     pub fn run(mut self, calls: u64) -> Done {
-        const KINDS: [(u64, u32); 8] = [(30, 0), (12, 1), (10, 2), (6, 3), (60, 4), (10, 5), (18, 6), (10, 7)];
+        const KINDS: [(u64, u32); 8] = [(30, 0), (12, 1), (10, 2), (6, 3), (50, 4), (10, 5), (18, 6), (10, 7)];
         while self.calls < calls {
             match self.r.weighted(&KINDS) {
                 0 => self.walk()?,

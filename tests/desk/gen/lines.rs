@@ -16,7 +16,11 @@ fn other_digits(r: &mut Random, word: &str) -> String {
     if number && r.percent(30) {
         return format!("00000000000000000000{word}");
     }
-    if r.percent(30) { word.to_uppercase() } else { word.to_string() }
+    if r.percent(30) {
+        word.to_uppercase()
+    } else {
+        word.to_string()
+    }
 }
 
 /// A line like this one that can't be read.
@@ -38,7 +42,8 @@ pub fn spoilt(r: &mut Random, line: &str) -> Vec<u8> {
 
 /// A word that is neither a number nor bytes.
 fn bad_word(r: &mut Random) -> String {
-    r.pick(&["18446744073709551616x", "99999999999999999999999g", "-1", "+1", "0x1", "1.", "--", "0g", "\u{e9}\u{e9}", "'", "\0\0", "1\u{b}"]).to_string()
+    r.pick(&["18446744073709551616x", "99999999999999999999999g", "-1", "+1", "0x1", "1.", "--", "0g", "\u{e9}\u{e9}", "'", "\0\0", "1\u{b}"])
+        .to_string()
 }
 
 /// Lines at the limits of numbers, rooms, bytes and length; some can be read.

@@ -13,9 +13,11 @@ use std::io::{self, BufWriter};
 
 fn main() -> io::Result<()> {
     let arguments: Vec<u64> = std::env::args().skip(1).filter_map(|word| word.parse().ok()).collect();
-    let [seed, calls] = arguments[..] else {
-        eprintln!("usage: gen SEED CALLS");
-        std::process::exit(2);
-    };
-    Campaigns::new(seed, BufWriter::new(io::stdout().lock())).run(calls)
+    match arguments[..] {
+        [seed, calls] => Campaigns::new(seed, BufWriter::new(io::stdout().lock())).run(calls),
+        _ => {
+            eprintln!("usage: gen SEED CALLS");
+            std::process::exit(2)
+        }
+    }
 }

@@ -8,8 +8,7 @@ pub struct Random {
 pub type Device = [u8; 16];
 
 /// Numbers at the edges of their widths.
-pub const EDGES: [u64; 12] =
-    [0, 1, 2, 7, 255, 256, 0xffff_ffff, 0x1_0000_0000, 0x7fff_ffff_ffff_ffff, 0x8000_0000_0000_0000, u64::MAX - 1, u64::MAX];
+pub const EDGES: [u64; 12] = [0, 1, 2, 7, 255, 256, 0xffff_ffff, 0x1_0000_0000, 0x7fff_ffff_ffff_ffff, 0x8000_0000_0000_0000, u64::MAX - 1, u64::MAX];
 
 impl Random {
     pub fn new(seed: u64) -> Random {

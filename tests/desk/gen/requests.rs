@@ -23,7 +23,11 @@ fn count(r: &mut Random, right: usize, wrong: u64) -> u32 {
     if !r.percent(wrong) {
         return right;
     }
-    if r.percent(50) { r.pick(&COUNTS) } else { right.wrapping_add(r.pick(&[1, u32::MAX])) }
+    if r.percent(50) {
+        r.pick(&COUNTS)
+    } else {
+        right.wrapping_add(r.pick(&[1, u32::MAX]))
+    }
 }
 
 fn put_record(r: &mut Random, body: &mut Vec<u8>, devices: &[Device], errors: usize, wrong: u64) {
@@ -76,7 +80,11 @@ fn stateid(r: &mut Random) -> Vec<u8> {
 
 /// A field's right value, or now and then one of its wrong ones.
 fn field(r: &mut Random, right: u32, wrong: &[u32]) -> u32 {
-    if r.percent(3) { r.pick(wrong) } else { right }
+    if r.percent(3) {
+        r.pick(wrong)
+    } else {
+        right
+    }
 }
 
 /// The fixed part and the body with its padding; the length that it states may be off.
