@@ -340,8 +340,8 @@ static bool run_layoutreturn(const struct command *c, const struct word *argumen
     (void)c;
     uint64_t client, file, room;
     struct lent request;
-    if (!read_number(argument[0], UINT64_MAX, &client) || !read_number(argument[1], UINT64_MAX, &file) || !read_number(argument[2], MAX_ROOM, &room) ||
-        !read_bytes(argument[3], MAX_REQUEST, &request))
+    if (!read_number(argument[0], UINT64_MAX, &client) || !read_number(argument[1], UINT64_MAX, &file) ||
+        !read_number(argument[2], MAX_ROOM, &room) || !read_bytes(argument[3], MAX_REQUEST, &request))
         return false;
     struct lent reply = lend((size_t)room);
     uint32_t answer = sc_record_layoutreturn(record, client, file, bytes_of(request), request.len, bytes_of(reply), reply.len);

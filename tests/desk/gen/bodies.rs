@@ -79,7 +79,8 @@ fn extents(r: &mut Random, n: usize) -> Vec<Extent> {
     (0..n)
         .map(|place| {
             let e = sound(r, &ends);
-            let e = if faulty == Some(place) || r.percent(1) && n < 100 { fault(r, &ends, e) } else { e };
+            let faults = if faulty == Some(place) { r.pick(&[1, 1, 1, 2]) } else { 0 };
+            let e = (0..faults).fold(e, |e, _| fault(r, &ends, e));
             ends.add(e);
             e
         })

@@ -300,7 +300,7 @@ impl<W: Write> Campaigns<W> {
         Ok(())
     }
 
-    /// Lines spoilt, dressed and at the limits, comments and empty lines among calls whose answers would show a change.
+    /// Lines spoilt and dressed, comments and empty lines among calls whose answers would show a change.
     fn lines(&mut self) -> Done {
         let pool = self.pool(2, 2, 3);
         self.call("fresh")?;
@@ -328,17 +328,22 @@ impl<W: Write> Campaigns<W> {
             let skipped = self.r.pick(&["", "#", "# open 1 1", " \t", "\r", "\t#x"]);
             writeln!(self.out, "{skipped}")?;
         }
-        if self.r.percent(60) {
-            let line = at_the_limits(&mut self.r);
-            self.raw(&line)?;
-        }
         Ok(())
+    }
+
+    /// Each limit from both sides, once a script.
+    fn limits(&mut self) -> Done {
+        for line in at_the_limits() {
+            self.raw(line.as_bytes())?;
+        }
+        self.call("end")
     }
 
     // ---- The run ----
 
     pub fn run(mut self, calls: u64) -> Done {
         const KINDS: [(u64, u32); 8] = [(30, 0), (12, 1), (10, 2), (6, 3), (50, 4), (10, 5), (18, 6), (10, 7)];
+        self.limits()?;
         while self.calls < calls {
             match self.r.weighted(&KINDS) {
                 0 => self.walk()?,

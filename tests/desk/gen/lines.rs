@@ -46,25 +46,26 @@ fn bad_word(r: &mut Random) -> String {
         .to_string()
 }
 
-/// Lines at the limits of numbers, rooms, bytes and length; some can be read.
-pub fn at_the_limits(r: &mut Random) -> Vec<u8> {
+/// Lines at the limits of numbers, rooms, bytes and length: each as the last that can be read, and as the first that can't.
+pub fn at_the_limits() -> Vec<String> {
     let zeros = |bytes: usize| "00".repeat(bytes);
-    let over = r.size(2);
-    let line = match r.below(14) {
-        0 => format!("open 1844674407370955161{} 1", 5 + over),
-        1 => format!("close 1 1844674407370955161{}", 5 + over),
-        2 => format!("join 429496729{}", 5 + over),
-        3 => format!("may 429496729{}", 5 + over),
-        4 => format!("resilver 6553{} 65536", 6 + over),
-        5 => format!("offered 64 6553{}", 6 + over),
-        6 => format!("layoutreturn 1 7 6553{} 00", 6 + over),
-        7 => format!("layoutreturn 1 7 24 {}", zeros(16_384 + over)),
-        8 => format!("register 7 {}", zeros(16_384 + over)),
-        9 => format!("layout {}", zeros(65_536 + over)),
-        10 => format!("restart{}", " ".repeat(262_144 - 7 + over)),
-        11 => format!("#{}", "x".repeat(262_143 + over)),
-        12 => " ".repeat(262_144 + over),
-        _ => format!("layout {}0", zeros(2)),
+    let both = |over: usize| {
+        [
+            format!("open 1844674407370955161{} 1", 5 + over),
+            format!("close 1 1844674407370955161{}", 5 + over),
+            format!("join 429496729{}", 5 + over),
+            format!("may 429496729{}", 5 + over),
+            format!("resilver 6553{} 65536", 6 + over),
+            format!("offered 64 6553{}", 6 + over),
+            format!("layoutreturn 1 7 6553{} 00", 6 + over),
+            format!("layoutreturn 1 7 24 {}", zeros(16_384 + over)),
+            format!("register 7 {}", zeros(16_384 + over)),
+            format!("layout {}", zeros(65_536 + over)),
+            format!("restart{}", " ".repeat(262_144 - 7 + over)),
+            format!("#{}", "x".repeat(262_143 + over)),
+            " ".repeat(262_144 + over),
+            format!("layout {}{}", zeros(2), "0".repeat(over)),
+        ]
     };
-    line.into_bytes()
+    [both(0), both(1)].concat()
 }
