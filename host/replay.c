@@ -1,0 +1,580 @@
+/* replay: runs calls, read as lines of text, on one recovery record, one epoch record and the wire checks, and prints one line for each.
+   In this order: limits; lent buffers; words; the record and the epochs; printing; the commands; the table of commands; lines; main.
+
+   The form of a line (man/replay.1 says the same):
+   - A line ends with a newline; the last one may lack it. Lines are numbered from 1, skipped ones included.
+   - Words stand apart by any number of spaces, tabs and carriage returns, which may also begin and end a line. Any other byte is part of a word.
+   - A line without words, or whose first word begins with '#', is skipped and prints nothing.
+   - A line of more than MAX_LINE bytes can't be read, whatever it holds.
+   - A number is one or more decimal digits; leading zeros are fine. Bytes are an even number of hex digits of either case, or '-' for none.
+   - A number or bytes past the limit of their place, an unknown command, and a word too many or too few make a line that can't be read. */
+#include "stellcircle.h"
+
+#include <inttypes.h>
+#include <stdbool.h>
+#include <stdio.h>
+#include <stdlib.h>
+#include <string.h>
+
+enum {
+    MAX_REQUEST = 16384, /* bytes of a LAYOUTRETURN request or a mirror list */
+    MAX_BODY = 65536,    /* bytes of a layout body */
+    MAX_ROOM = 65536,    /* places of a lent reply or list */
+    MAX_LINE = 262144,   /* bytes of a line, the newline not counted */
+    MAX_WORDS = 5,
+    GUARD = 64, /* bytes before and after each lent buffer; a multiple of every alignment */
+    REPLY_REFUSED = 4,
+    REPLY_ACCEPTED = 24,
+    NO_ROOM = 28,
+    MAX_EXTENTS = 1024,
+    EXTENT = 44,
+    COUNT = 4
+};
+
+enum { EXIT_TROUBLE = 1, EXIT_USAGE = 2, EXIT_BROKEN = 3 };
+
+/* Ends the run over trouble with input, output or memory. */
+static _Noreturn void trouble(const char *what)
+{
+    fprintf(stderr, "replay: %s\n", what);
+    exit(EXIT_TROUBLE);
+}
+
+/* The line that is being run, for messages. */
+static uint64_t line_number;
+
+/* Ends the run because a library wrote, or answered, what the paper forbids; the answers so far are still printed. */
+static _Noreturn void broken(const char *what)
+{
+    fflush(stdout);
+    fprintf(stderr, "replay: line %" PRIu64 ": %s\n", line_number, what);
+    exit(EXIT_BROKEN);
+}
+
+/* ---- Lent buffers: `len` bytes with GUARD bytes on either side; guards and bytes alike are filled with a pattern. ---- */
+
+struct lent {
+    uint8_t *area;
+    size_t len;
+};
+
+static uint8_t pattern(size_t i)
+{
+    return (uint8_t)(i * 167 + (i >> 8) * 31 + 13);
+}
+
+static struct lent lend(size_t len)
+{
+    struct lent l = {malloc(GUARD + len + GUARD), len};
+    if (l.area == NULL)
+        trouble("out of memory");
+    for (size_t i = 0; i < GUARD + len + GUARD; i++)
+        l.area[i] = pattern(i);
+    return l;
+}
+
+/* What the library gets: never NULL, also where len is 0. */
+static uint8_t *bytes_of(struct lent l)
+{
+    return l.area + GUARD;
+}
+
+/* Of the whole area only the first `written` lent bytes may differ from the pattern. */
+static void check_lent(struct lent l, size_t written, const char *what)
+{
+    if (written > l.len)
+        broken(what);
+    for (size_t i = 0; i < GUARD; i++)
+        if (l.area[i] != pattern(i))
+            broken(what);
+    for (size_t i = GUARD + written; i < GUARD + l.len + GUARD; i++)
+        if (l.area[i] != pattern(i))
+            broken(what);
+}
+
+static void give_back(struct lent l)
+{
+    free(l.area);
+}
+
+/* The 64-bit number that a library wrote into a lent place of 8 bytes. */
+static uint64_t number_in(struct lent l)
+{
+    uint64_t n;
+    memcpy(&n, bytes_of(l), sizeof n);
+    return n;
+}
+
+/* ---- Words ---- */
+
+struct word {
+    const uint8_t *text;
+    size_t len;
+};
+
+static bool is_blank(uint8_t c)
+{
+    return c == ' ' || c == '\t' || c == '\r';
+}
+
+static bool word_is(struct word w, const char *text)
+{
+    return w.len == strlen(text) && memcmp(w.text, text, w.len) == 0;
+}
+
+/* Splits a line; one word more than MAX_WORDS stands for any number more. */
+static size_t split(const uint8_t *line, size_t len, struct word *words)
+{
+    size_t count = 0, at = 0;
+    while (count <= MAX_WORDS) {
+        while (at < len && is_blank(line[at]))
+            at++;
+        if (at == len)
+            break;
+        size_t from = at;
+        while (at < len && !is_blank(line[at]))
+            at++;
+        words[count++] = (struct word){line + from, at - from};
+    }
+    return count;
+}
+
+static bool read_number(struct word w, uint64_t most, uint64_t *number)
+{
+    uint64_t n = 0;
+    for (size_t i = 0; i < w.len; i++) {
+        if (w.text[i] < '0' || w.text[i] > '9')
+            return false;
+        uint64_t digit = (uint64_t)(w.text[i] - '0');
+        if (n > (most - digit) / 10)
+            return false;
+        n = n * 10 + digit;
+    }
+    *number = n;
+    return w.len > 0;
+}
+
+/* The value of a hex digit, or -1. */
+static int hex_digit(uint8_t c)
+{
+    if (c >= '0' && c <= '9')
+        return c - '0';
+    if (c >= 'a' && c <= 'f')
+        return c - 'a' + 10;
+    if (c >= 'A' && c <= 'F')
+        return c - 'A' + 10;
+    return -1;
+}
+
+/* Byte i of a word of hex digits, or -1. */
+static int hex_byte(struct word w, size_t i)
+{
+    int high = hex_digit(w.text[2 * i]), low = hex_digit(w.text[2 * i + 1]);
+    return high < 0 || low < 0 ? -1 : high * 16 + low;
+}
+
+/* Reads the word's bytes into a new lent buffer, which the caller gives back; false lends nothing. */
+static bool read_bytes(struct word w, size_t most, struct lent *bytes)
+{
+    bool none = word_is(w, "-");
+    size_t len = none ? 0 : w.len / 2;
+    if (!none && (w.len % 2 != 0 || len > most))
+        return false;
+    for (size_t i = 0; i < len; i++)
+        if (hex_byte(w, i) < 0)
+            return false;
+    *bytes = lend(len);
+    for (size_t i = 0; i < len; i++)
+        bytes_of(*bytes)[i] = (uint8_t)hex_byte(w, i);
+    return true;
+}
+
+/* Takes back a buffer that was lent for reading only: each byte has to be the word's still. */
+static void take_back_bytes(struct word w, struct lent bytes, const char *what)
+{
+    check_lent(bytes, bytes.len, what);
+    for (size_t i = 0; i < bytes.len; i++)
+        if (bytes_of(bytes)[i] != hex_byte(w, i))
+            broken(what);
+    give_back(bytes);
+}
+
+/* ---- The record and the epochs that every call runs on, and a copy of each for calls that may not change it ---- */
+
+static struct lent record_held, epochs_held;
+static struct sc_record *record, *record_before;
+static struct sc_epochs *epochs, *epochs_before;
+
+static void set_up(void)
+{
+    record_held = lend(sizeof *record);
+    epochs_held = lend(sizeof *epochs);
+    record = (struct sc_record *)(void *)bytes_of(record_held);
+    epochs = (struct sc_epochs *)(void *)bytes_of(epochs_held);
+    record_before = malloc(sizeof *record);
+    epochs_before = malloc(sizeof *epochs);
+    if (record_before == NULL || epochs_before == NULL)
+        trouble("out of memory");
+}
+
+static void check_held(void)
+{
+    check_lent(record_held, record_held.len, "bytes beside the record changed");
+    check_lent(epochs_held, epochs_held.len, "bytes beside the epochs changed");
+}
+
+static void start_anew(void)
+{
+    sc_record_fresh(record);
+    sc_epochs_fresh(epochs);
+    check_held();
+}
+
+static void clean_up(void)
+{
+    give_back(record_held);
+    give_back(epochs_held);
+    free(record_before);
+    free(epochs_before);
+}
+
+/* ---- Printing ---- */
+
+static void print_hex(const uint8_t *bytes, size_t len)
+{
+    for (size_t i = 0; i < len; i++) {
+        putchar("0123456789abcdef"[bytes[i] >> 4]);
+        putchar("0123456789abcdef"[bytes[i] & 15]);
+    }
+}
+
+static void print_answer(uint32_t answer)
+{
+    check_held();
+    printf("%" PRIu32 "\n", answer);
+}
+
+/* ---- The commands: each reads its arguments, and answers false, with nothing called or printed, where it can't ---- */
+
+typedef uint32_t on_record(struct sc_record *);
+typedef uint32_t on_file(struct sc_record *, uint64_t);
+typedef uint32_t on_client(struct sc_record *, uint64_t, uint64_t);
+typedef uint32_t listing(const struct sc_record *, uint64_t *, size_t, uint8_t *, size_t, uint64_t *);
+typedef uint32_t on_node(struct sc_epochs *, uint32_t);
+
+struct command {
+    const char *name;
+    size_t arguments;
+    bool (*run)(const struct command *, const struct word *);
+    union {
+        on_record *record;
+        on_file *file;
+        on_client *client;
+        listing *list;
+        on_node *node;
+    } call;
+};
+
+static bool run_on_record(const struct command *c, const struct word *argument)
+{
+    (void)argument;
+    print_answer(c->call.record(record));
+    return true;
+}
+
+static bool run_on_file(const struct command *c, const struct word *argument)
+{
+    uint64_t file;
+    if (!read_number(argument[0], UINT64_MAX, &file))
+        return false;
+    print_answer(c->call.file(record, file));
+    return true;
+}
+
+static bool run_on_client(const struct command *c, const struct word *argument)
+{
+    uint64_t file, client;
+    if (!read_number(argument[0], UINT64_MAX, &file) || !read_number(argument[1], UINT64_MAX, &client))
+        return false;
+    print_answer(c->call.client(record, file, client));
+    return true;
+}
+
+static bool run_register(const struct command *c, const struct word *argument)
+{
+    (void)c;
+    uint64_t file;
+    struct lent mirrors;
+    if (!read_number(argument[0], UINT64_MAX, &file) || !read_bytes(argument[1], MAX_REQUEST, &mirrors))
+        return false;
+    uint32_t answer = sc_record_register(record, file, bytes_of(mirrors), mirrors.len);
+    take_back_bytes(argument[1], mirrors, "bytes in or beside the mirror list changed");
+    print_answer(answer);
+    return true;
+}
+
+/* How many bytes of the reply the paper lets this answer write. */
+static size_t reply_written(uint32_t answer)
+{
+    if (answer == SC_HANDED_ON || answer == NO_ROOM)
+        return 0;
+    return answer == 0 ? REPLY_ACCEPTED : REPLY_REFUSED;
+}
+
+static void print_reply(uint32_t answer, struct lent reply)
+{
+    size_t written = reply_written(answer);
+    check_lent(reply, written, "bytes past the written reply changed");
+    check_held();
+    if (answer == SC_HANDED_ON) {
+        puts("handed on");
+        return;
+    }
+    printf("%" PRIu32 "%s", answer, written > 0 ? " " : "");
+    print_hex(bytes_of(reply), written);
+    putchar('\n');
+}
+
+static bool run_layoutreturn(const struct command *c, const struct word *argument)
+{
+    (void)c;
+    uint64_t client, file, room;
+    struct lent request;
+    if (!read_number(argument[0], UINT64_MAX, &client) || !read_number(argument[1], UINT64_MAX, &file) ||
+        !read_number(argument[2], MAX_ROOM, &room) || !read_bytes(argument[3], MAX_REQUEST, &request))
+        return false;
+    struct lent reply = lend((size_t)room);
+    uint32_t answer = sc_record_layoutreturn(record, client, file, bytes_of(request), request.len, bytes_of(reply), reply.len);
+    take_back_bytes(argument[3], request, "bytes in or beside the request changed");
+    print_reply(answer, reply);
+    give_back(reply);
+    return true;
+}
+
+static void print_listing(uint32_t answer, uint64_t count, struct lent files, struct lent sources)
+{
+    uint64_t filled = answer == 0 ? count : 0;
+    if (filled > sources.len || filled > files.len / sizeof count)
+        broken("a listing counts more places than it was lent");
+    check_lent(files, (size_t)filled * sizeof count, "file places past the listing's count changed");
+    check_lent(sources, (size_t)filled, "source places past the listing's count changed");
+    check_held();
+    printf("%" PRIu32 " %" PRIu64, answer, count);
+    for (size_t i = 0; i < filled; i++) {
+        uint64_t file;
+        memcpy(&file, bytes_of(files) + i * sizeof file, sizeof file);
+        printf(" %" PRIu64 ":%u", file, bytes_of(sources)[i]);
+    }
+    putchar('\n');
+}
+
+static bool run_listing(const struct command *c, const struct word *argument)
+{
+    uint64_t room_files, room_sources;
+    if (!read_number(argument[0], MAX_ROOM, &room_files) || !read_number(argument[1], MAX_ROOM, &room_sources))
+        return false;
+    struct lent files = lend((size_t)room_files * sizeof(uint64_t)), sources = lend((size_t)room_sources), count = lend(sizeof(uint64_t));
+    memcpy(record_before, record, sizeof *record);
+    uint32_t answer = c->call.list(record, (uint64_t *)(void *)bytes_of(files), (size_t)room_files, bytes_of(sources), (size_t)room_sources,
+                                   (uint64_t *)(void *)bytes_of(count));
+    if (memcmp(record_before, record, sizeof *record) != 0)
+        broken("a listing changed the record");
+    check_lent(count, count.len, "bytes beside a listing's count changed");
+    print_listing(answer, number_in(count), files, sources);
+    give_back(files);
+    give_back(sources);
+    give_back(count);
+    return true;
+}
+
+/* The big-endian number of `width` bytes at `at`. */
+static uint64_t big_endian(const uint8_t *at, size_t width)
+{
+    uint64_t n = 0;
+    for (size_t i = 0; i < width; i++)
+        n = n << 8 | at[i];
+    return n;
+}
+
+/* An extent: device id (16), file offset (8), length (8), storage offset (8), state (4). */
+static void print_extent(const uint8_t *extent)
+{
+    printf(" %" PRIu64 ":%" PRIu64, big_endian(extent + 16, 8), big_endian(extent + 24, 8));
+    printf(":%" PRIu64 ":%" PRIu64, big_endian(extent + 32, 8), big_endian(extent + 40, 4));
+}
+
+static void print_body(struct lent body, uint64_t n)
+{
+    if (n > MAX_EXTENTS || body.len != COUNT + EXTENT * (size_t)n)
+        broken("a layout body is accepted with a count that is not its own");
+    printf("extents %" PRIu64, n);
+    for (size_t i = 0; i < n; i++)
+        print_extent(bytes_of(body) + COUNT + EXTENT * i);
+    putchar('\n');
+}
+
+static bool run_layout(const struct command *c, const struct word *argument)
+{
+    (void)c;
+    struct lent body;
+    if (!read_bytes(argument[0], MAX_BODY, &body))
+        return false;
+    struct lent place = lend(sizeof(uint64_t));
+    uint32_t answer = sc_layout_check(bytes_of(body), body.len, (uint64_t *)(void *)bytes_of(place));
+    check_lent(place, place.len, "bytes beside a layout check's place changed");
+    check_held();
+    if (answer == 0)
+        print_body(body, number_in(place));
+    else
+        printf("refused %" PRIu32 " at %" PRIu64 "\n", answer, number_in(place));
+    take_back_bytes(argument[0], body, "bytes in or beside the layout body changed");
+    give_back(place);
+    return true;
+}
+
+static bool read_node(struct word w, uint32_t *node)
+{
+    uint64_t n;
+    if (!read_number(w, UINT32_MAX, &n))
+        return false;
+    *node = (uint32_t)n;
+    return true;
+}
+
+static bool run_on_node(const struct command *c, const struct word *argument)
+{
+    uint32_t node;
+    if (!read_node(argument[0], &node))
+        return false;
+    print_answer(c->call.node(epochs, node));
+    return true;
+}
+
+static bool run_may(const struct command *c, const struct word *argument)
+{
+    (void)c;
+    uint32_t node;
+    if (!read_node(argument[0], &node))
+        return false;
+    memcpy(epochs_before, epochs, sizeof *epochs);
+    uint32_t answer = sc_epochs_may_reclaim(epochs, node);
+    if (memcmp(epochs_before, epochs, sizeof *epochs) != 0)
+        broken("may changed the epochs");
+    check_held();
+    if (answer <= 1)
+        puts(answer == 1 ? "yes" : "no");
+    else
+        printf("%" PRIu32 "\n", answer);
+    return true;
+}
+
+static bool run_epochs(const struct command *c, const struct word *argument)
+{
+    (void)c;
+    (void)argument;
+    printf("%" PRIu64 " %" PRIu64, epochs->current, epochs->recovery);
+    printf(" %08" PRIx32 " %08" PRIx32 " %08" PRIx32 "\n", epochs->members, epochs->need, epochs->enforcing);
+    return true;
+}
+
+static bool run_fresh(const struct command *c, const struct word *argument)
+{
+    (void)c;
+    (void)argument;
+    start_anew();
+    puts("0");
+    return true;
+}
+
+/* ---- The table of commands: name, number of arguments, how it is run, and the call where several are run alike ---- */
+
+static const struct command commands[] = {
+    {"register", 2, run_register, {NULL}},
+    {"open", 2, run_on_client, {.client = sc_record_open}},
+    {"reclaim", 2, run_on_client, {.client = sc_record_reclaim}},
+    {"close", 2, run_on_client, {.client = sc_record_close}},
+    {"repaired", 1, run_on_file, {.file = sc_record_repaired}},
+    {"forget", 1, run_on_file, {.file = sc_record_forget}},
+    {"end", 0, run_on_record, {.record = sc_record_end_grace}},
+    {"restart", 0, run_on_record, {.record = sc_record_restart}},
+    {"layoutreturn", 4, run_layoutreturn, {NULL}},
+    {"resilver", 2, run_listing, {.list = sc_record_resilver}},
+    {"offered", 2, run_listing, {.list = sc_record_offered}},
+    {"layout", 1, run_layout, {NULL}},
+    {"join", 1, run_on_node, {.node = sc_epochs_join}},
+    {"leave", 1, run_on_node, {.node = sc_epochs_leave}},
+    {"start", 1, run_on_node, {.node = sc_epochs_start}},
+    {"enforce", 1, run_on_node, {.node = sc_epochs_enforce}},
+    {"finish", 1, run_on_node, {.node = sc_epochs_finish}},
+    {"stop", 1, run_on_node, {.node = sc_epochs_stop_enforcing}},
+    {"may", 1, run_may, {NULL}},
+    {"epochs", 0, run_epochs, {NULL}},
+    {"fresh", 0, run_fresh, {NULL}},
+};
+
+static const struct command *find_command(struct word name)
+{
+    for (size_t i = 0; i < sizeof commands / sizeof commands[0]; i++)
+        if (word_is(name, commands[i].name))
+            return &commands[i];
+    return NULL;
+}
+
+/* ---- Lines ---- */
+
+struct line {
+    uint8_t text[MAX_LINE];
+    size_t len;
+    bool too_long;
+};
+
+/* Reads the next line, however long; false at the end of the input. */
+static bool read_line(FILE *in, struct line *line)
+{
+    int c;
+    line->len = 0;
+    line->too_long = false;
+    while ((c = getc(in)) != EOF && c != '\n') {
+        if (line->len < MAX_LINE)
+            line->text[line->len++] = (uint8_t)c;
+        else
+            line->too_long = true;
+    }
+    return c == '\n' || line->len > 0;
+}
+
+/* Runs a line that has words; false where it can't be read. */
+static bool run_words(const struct word *words, size_t count)
+{
+    const struct command *c = find_command(words[0]);
+    return c != NULL && count == 1 + c->arguments && c->run(c, words + 1);
+}
+
+static void run_line(const struct line *line)
+{
+    struct word words[MAX_WORDS + 1];
+    size_t count = split(line->text, line->len, words);
+    bool skipped = !line->too_long && (count == 0 || words[0].text[0] == '#');
+    if (!skipped && (line->too_long || !run_words(words, count)))
+        printf("? %" PRIu64 "\n", line_number);
+}
+
+int main(int argc, char **argv)
+{
+    static struct line line;
+    (void)argv;
+    if (argc > 1) {
+        fputs("usage: replay < SCRIPT\n", stderr);
+        return EXIT_USAGE;
+    }
+    set_up();
+    start_anew();
+    for (line_number = 1; read_line(stdin, &line); line_number++)
+        run_line(&line);
+    if (ferror(stdin))
+        trouble("standard input can't be read");
+    if (ferror(stdout) || fflush(stdout) != 0)
+        trouble("standard output can't be written");
+    clean_up();
+    return 0;
+}

@@ -1,0 +1,171 @@
+#!/usr/bin/env python3
+"""Makes scripts for replay from the captures, with the output that the captures themselves call for.
+
+    captures.py NAME CAPTURE SCRIPT EXPECTED
+
+NAME is layout-bodies, layoutreturn-damaged, linux-layoutreturn or ganesha-epochs. What is expected comes from the columns
+that other programs wrote beside each input, never from replay or the second program. In this order: layout bodies;
+LAYOUTRETURN requests, and the report that a request leaves on a file; the two LAYOUTRETURN captures; epochs; main.
+"""
+import struct
+import sys
+
+FILE, OTHER_FILE, CLIENT, OTHER_CLIENT = 7, 8, 1, 2
+LETTERS = ["a0" * 15 + "01", "b0" * 15 + "02", "c0" * 15 + "03", "d0" * 15 + "04"]
+
+
+def lines_of(path):
+    with open(path) as capture:
+        return [line.rstrip("\n") for line in capture]
+
+
+def layout_bodies(path):
+    """Columns: hex, refusal number (0 accepted), place or extent count, and more that is not about document 01."""
+    for line in lines_of(path):
+        if line.startswith("#"):
+            continue
+        body, number, place = line.split()[:3]
+        if number != "0":
+            yield f"layout {body}", f"refused {number} at {place}"
+            continue
+        fields = list(struct.iter_unpack(">16sQQQI", bytes.fromhex(body)[4:]))
+        assert len(fields) == int(place)
+        extents = "".join(f" {offset}:{length}:{storage}:{state}" for _, offset, length, storage, state in fields)
+        yield f"layout {body}", f"extents {place}{extents}"
+
+
+def said(status):
+    """What replay prints for the answer of steps 1 to 7, given as `on` or a number."""
+    if status == "on":
+        return "handed on"
+    if status == "0":
+        return "0 " + "00000000" + "00000001" + "00" * 16
+    return f"{status} {int(status):08x}"
+
+
+def source_after(mirrors, errors):
+    """The resilver list's entry once this report is accepted (01, step 7), or nothing."""
+    if any(device not in mirrors for device, _ in errors):
+        return f"{FILE}:0"
+    blamed = {mirrors.index(device) for device, status in errors if status != 0}
+    if not blamed:
+        return ""
+    return f"{FILE}:{min(set(range(len(mirrors))) - blamed, default=255)}"
+
+
+def listing(entry):
+    return f"0 1 {entry}" if entry else "0 0"
+
+
+def report(mirrors, request, in_grace, errors):
+    """A file with these mirrors and the request in grace; in_grace is the answer of steps 1 to 5, `ok` where step 6 is reached."""
+    reached = in_grace == "ok"
+    yield "fresh", "0"
+    yield f"register {FILE} {''.join(mirrors)}", "0"
+    yield f"open {FILE} {CLIENT}", "0"
+    yield "restart", "0"
+    yield f"layoutreturn {CLIENT} {OTHER_FILE} 24 {request}", said("70" if reached else in_grace)
+    yield f"layoutreturn {OTHER_CLIENT} {FILE} 25 {request}", said("10034" if reached else in_grace)
+    yield f"layoutreturn {CLIENT} {FILE} 23 {request}", "28"
+    yield "resilver 1 1", "0 0"
+    yield f"layoutreturn {CLIENT} {FILE} 24 {request}", said("0" if reached else in_grace)
+    entry = source_after(mirrors, errors) if reached else ""
+    yield "resilver 1 1", listing(entry)
+    yield "offered 1 1", "0 0"
+    yield f"reclaim {FILE} {CLIENT}", "0"
+    yield "end", "0"
+    yield f"close {FILE} {CLIENT}", "0"
+    yield "offered 1 1", listing(entry)
+
+
+def layoutreturn(request, in_grace, out_of_grace, errors):
+    """One request out of grace, then in grace with the letters' mirrors, and with the first four devices that it names."""
+    yield "fresh", "0"
+    yield f"register {FILE} {LETTERS[0]}", "0"
+    yield f"layoutreturn {CLIENT} {FILE} 24 {request}", said(out_of_grace)
+    yield from report(LETTERS, request, in_grace, errors)
+    named = list(dict.fromkeys(device for device, _ in errors))[:4]
+    if named:
+        yield from report(named, request, in_grace, errors)
+        yield from report(named[::-1], request, in_grace, errors)
+
+
+def device_errors(column):
+    """`device:status` or `device:status:operation`, with commas between; `-` for none."""
+    entries = [] if column == "-" else [entry.split(":") for entry in column.split(",")]
+    return [(entry[0], int(entry[1])) for entry in entries]
+
+
+def layoutreturn_damaged(path):
+    """Columns: hex, answer of steps 1 to 5 in grace, the same out of grace, the same with statistics read, errors, statistics."""
+    for line in lines_of(path):
+        if line.startswith("#"):
+            continue
+        request, in_grace, out_of_grace, _, errors, _ = line.split()
+        yield from layoutreturn(request, in_grace, out_of_grace, device_errors(errors))
+
+
+def answers(head, stateid, body, statistics):
+    """The answers of steps 1 to 5 in and out of grace, for a request of which an rpcgen reader gave these fields."""
+    _, layout_type, iomode, return_type = (int(number) for number in head.split())
+    assert return_type == 1 and 1 <= iomode <= 3
+    if layout_type != 4:
+        return "10062", "10062"
+    if stateid != "00000000:" + "00" * 12:
+        return "10013", "on"
+    if body == "malformed":
+        return "10036", "10033"
+    return ("ok" if statistics == "-" else "10004"), "10033"
+
+
+def linux_layoutreturn(path):
+    """Lines `= reclaim type iomode returntype | stateid | length | body .. | errors .. | stats ..`, each with the request after it."""
+    fields = None
+    for line in lines_of(path):
+        if line.startswith("="):
+            fields = [part.strip() for part in line[1:].split("|")]
+        elif not line.startswith("#"):
+            head, stateid, _, body, errors, statistics = fields
+            in_grace, out_of_grace = answers(head, stateid, body.split()[1], statistics.split()[1])
+            yield from layoutreturn(line, in_grace, out_of_grace, device_errors(errors.split()[1]))
+
+
+def may(node, recovery, need, enforcing, members):
+    """May reclaim, from the epochs that the other program left."""
+    every = int(members, 16) & ~int(enforcing, 16) == 0
+    return "yes" if recovery != "0" and int(need, 16) >> node & 1 and every else "no"
+
+
+def ganesha_epochs(path):
+    """Lines `script N`, which begins fresh, and `call node answer C R need enforcing members`."""
+    for line in lines_of(path):
+        if line.startswith("#"):
+            continue
+        if line.startswith("script"):
+            yield "fresh", "0"
+            continue
+        call, node, answer, current, recovery, need, enforcing, members = line.split()
+        yield f"{call} {node}", answer
+        yield "epochs", f"{current} {recovery} {members} {need} {enforcing}"
+        for n in (int(node), 0, 31):
+            yield f"may {n}", may(n, recovery, need, enforcing, members)
+
+
+CAPTURES = {
+    "layout-bodies": layout_bodies,
+    "layoutreturn-damaged": layoutreturn_damaged,
+    "linux-layoutreturn": linux_layoutreturn,
+    "ganesha-epochs": ganesha_epochs,
+}
+
+
+def main():
+    _, name, capture, script, expected = sys.argv
+    with open(script, "w") as calls, open(expected, "w") as answers_file:
+        for call, answer in CAPTURES[name](capture):
+            calls.write(call + "\n")
+            answers_file.write(answer + "\n")
+
+
+if __name__ == "__main__":
+    main()

@@ -1,0 +1,361 @@
+//! Campaigns: short stories of calls, each aimed at an edge of the record, the epochs, the bodies or the lines.
+//! In this order: the writer of calls; calls on the record; campaigns on the record; campaigns on epochs, bodies and lines; the run.
+
+use crate::bodies::layout_body;
+use crate::lines::{at_the_limits, dressed, spoilt};
+use crate::random::{hex, Device, Random};
+use crate::requests::request;
+use std::io::{self, Write};
+
+pub struct Campaigns<W: Write> {
+    r: Random,
+    out: W,
+    calls: u64,
+}
+
+/// The numbers that one campaign's calls draw from.
+struct Pool {
+    files: Vec<u64>,
+    clients: Vec<u64>,
+    devices: Vec<Device>,
+}
+
+type Done = io::Result<()>;
+
+/// How often each call of a walk is made.
+const WALK: [(u64, &str); 12] = [
+    (9, "register"),
+    (16, "open"),
+    (11, "reclaim"),
+    (11, "close"),
+    (6, "repaired"),
+    (6, "forget"),
+    (3, "end"),
+    (3, "restart"),
+    (20, "layoutreturn"),
+    (7, "resilver"),
+    (6, "offered"),
+    (1, "grace"),
+];
+
+impl<W: Write> Campaigns<W> {
+    pub fn new(seed: u64, out: W) -> Campaigns<W> {
+        Campaigns { r: Random::new(seed), out, calls: 0 }
+    }
+
+    fn raw(&mut self, line: &[u8]) -> Done {
+        self.calls += 1;
+        self.out.write_all(line)?;
+        self.out.write_all(b"\n")
+    }
+
+    /// Writes a call, now and then in other dress, or with a spoilt one before it that must change nothing.
+    fn call(&mut self, line: &str) -> Done {
+        match self.r.below(200) {
+            0 => {
+                let dressed = dressed(&mut self.r, line);
+                self.raw(&dressed)
+            }
+            1 => {
+                let spoilt = spoilt(&mut self.r, line);
+                self.raw(&spoilt)?;
+                self.raw(line.as_bytes())
+            }
+            _ => self.raw(line.as_bytes()),
+        }
+    }
+
+    // ---- Calls on the record ----
+
+    fn pool(&mut self, files: usize, clients: usize, devices: usize) -> Pool {
+        Pool { files: self.r.numbers(files), clients: self.r.numbers(clients), devices: self.r.devices(devices) }
+    }
+
+    /// A mirror list: mostly good, else empty, too long, with a device twice, or not of whole ids.
+    fn mirrors(&mut self, pool: &Pool) -> Vec<u8> {
+        let mut devices = pool.devices.clone();
+        self.r.shuffle(&mut devices);
+        let good = 1 + self.r.size(4.min(devices.len()));
+        match self.r.below(30) {
+            0 => devices.clear(),
+            1 => devices.truncate(5),
+            2 => {
+                devices.truncate(good);
+                let twin = self.r.pick(&devices);
+                let at = self.r.size(devices.len() + 1);
+                devices.insert(at, twin);
+            }
+            _ => devices.truncate(good),
+        }
+        let mut bytes = devices.concat();
+        if self.r.percent(3) {
+            let off = self.r.pick(&[1, 8, 15, 17]);
+            let length = if self.r.percent(50) { bytes.len().saturating_sub(off) } else { bytes.len() + off };
+            bytes.resize(length, 0x33);
+        }
+        bytes
+    }
+
+    fn register(&mut self, pool: &Pool, file: u64) -> Done {
+        let mirrors = hex(&self.mirrors(pool));
+        self.call(&format!("register {file} {mirrors}"))
+    }
+
+    fn layoutreturn(&mut self, pool: &Pool, client: u64, file: u64) -> Done {
+        let room = self.r.weighted(&[(90, 24), (2, 0), (1, 4), (3, 23), (2, 25), (1, 100)]);
+        let request = hex(&request(&mut self.r, &pool.devices));
+        self.call(&format!("layoutreturn {client} {file} {room} {request}"))
+    }
+
+    /// A listing into slices that have room for about so many.
+    fn listing(&mut self, name: &str, about: u64) -> Done {
+        let room = |r: &mut Random| r.pick(&[0, 1, 2, about.saturating_sub(1), about, about, about + 1, 64, 64, 64, 100]);
+        let (files, sources) = (room(&mut self.r), room(&mut self.r));
+        self.call(&format!("{name} {files} {sources}"))
+    }
+
+    fn listings(&mut self, about: u64) -> Done {
+        self.listing("resilver", about)?;
+        self.listing("offered", about)
+    }
+
+    fn walk_step(&mut self, pool: &Pool) -> Done {
+        let (file, client) = (self.r.pick(&pool.files), self.r.pick(&pool.clients));
+        match self.r.weighted(&WALK) {
+            "register" => self.register(pool, file),
+            "layoutreturn" => self.layoutreturn(pool, client, file),
+            name @ ("open" | "reclaim" | "close") => self.call(&format!("{name} {file} {client}")),
+            name @ ("repaired" | "forget") => self.call(&format!("{name} {file}")),
+            name @ ("resilver" | "offered") => self.listing(name, pool.files.len() as u64 / 2),
+            "grace" => self.grace(pool),
+            name => self.call(name),
+        }
+    }
+
+    /// A grace period: restart, reclaims, closes and reports, perhaps one more restart, and its end.
+    fn grace(&mut self, pool: &Pool) -> Done {
+        self.call("restart")?;
+        for _ in 0..self.r.below(2 * pool.files.len() as u64) {
+            let (file, client) = (self.r.pick(&pool.files), self.r.pick(&pool.clients));
+            match self.r.below(10) {
+                0..=3 => self.call(&format!("reclaim {file} {client}"))?,
+                4 | 5 => self.call(&format!("close {file} {client}"))?,
+                6 => self.listing("resilver", 2)?,
+                7 if self.r.percent(20) => self.call("restart")?,
+                _ => self.layoutreturn(pool, client, file)?,
+            }
+        }
+        self.call("end")
+    }
+
+    // ---- Campaigns on the record ----
+
+    /// A walk over few files, clients and devices, so that calls meet.
+    fn walk(&mut self) -> Done {
+        let (files, clients, devices) = (1 + self.r.size(5), 1 + self.r.size(4), 3 + self.r.size(4));
+        let pool = self.pool(files, clients, devices);
+        self.call("fresh")?;
+        for _ in 0..250 {
+            self.walk_step(&pool)?;
+        }
+        Ok(())
+    }
+
+    /// Ten clients on two files: intents up to eight and one more, gone and back, through grace.
+    fn intents(&mut self) -> Done {
+        let pool = self.pool(2, 10, 4);
+        self.call("fresh")?;
+        for file in &pool.files {
+            self.register(&pool, *file)?;
+        }
+        for _ in 0..6 {
+            for _ in 0..self.r.below(50) {
+                let (file, client) = (self.r.pick(&pool.files), self.r.pick(&pool.clients));
+                let name = self.r.weighted(&[(9, "open"), (1, "close")]);
+                self.call(&format!("{name} {file} {client}"))?;
+            }
+            self.grace(&pool)?;
+            self.listings(2)?;
+            let file = self.r.pick(&pool.files);
+            self.call(&format!("repaired {file}"))?;
+        }
+        Ok(())
+    }
+
+    /// A full table: 64 files and more, forgotten and registered again, opened, lost, listed and repaired.
+    fn table(&mut self) -> Done {
+        let pool = self.pool(67, 3, 5);
+        self.call("fresh")?;
+        for file in &pool.files {
+            self.register(&pool, *file)?;
+        }
+        for file in pool.files.clone() {
+            self.register(&pool, file)?;
+        }
+        for _ in 0..3 {
+            for _ in 0..self.r.below(120) {
+                let (file, client) = (self.r.pick(&pool.files), self.r.pick(&pool.clients));
+                self.call(&format!("open {file} {client}"))?;
+            }
+            self.grace(&pool)?;
+            self.listings(40)?;
+            for _ in 0..60 {
+                self.walk_step(&pool)?;
+            }
+        }
+        Ok(())
+    }
+
+    /// Every file of a full table is lost, so that the lists have 64 entries.
+    fn all_lost(&mut self) -> Done {
+        let pool = self.pool(66, 2, 4);
+        self.call("fresh")?;
+        for file in &pool.files {
+            let mirror = hex(&pool.devices[0]);
+            self.call(&format!("register {file} {mirror}"))?;
+            self.call(&format!("open {file} 1"))?;
+        }
+        self.call("restart")?;
+        for _ in 0..self.r.below(3) {
+            let file = self.r.pick(&pool.files);
+            self.call(&format!("reclaim {file} 1"))?;
+        }
+        self.call("end")?;
+        for _ in 0..6 {
+            self.listings(64)?;
+            let file = self.r.pick(&pool.files);
+            self.call(&format!("repaired {file}"))?;
+            self.call(&format!("forget {file}"))?;
+            self.register(&pool, file)?;
+        }
+        Ok(())
+    }
+
+    /// Three grace periods with reports on a few files that are open, and what each leaves: blame that is repaired and comes again.
+    fn reports(&mut self) -> Done {
+        let pool = self.pool(3, 2, 5);
+        self.call("fresh")?;
+        for file in &pool.files {
+            let mirrors = hex(&pool.devices[..1 + self.r.size(4)].concat());
+            self.call(&format!("register {file} {mirrors}"))?;
+        }
+        for _ in 0..3 {
+            self.open_all(&pool)?;
+            self.call("restart")?;
+            for _ in 0..self.r.below(16) {
+                let (file, client) = (self.r.pick(&pool.files), self.r.pick(&pool.clients));
+                self.layoutreturn(&pool, client, file)?;
+                self.listing("resilver", 2)?;
+            }
+            self.call("end")?;
+            for file in &pool.files {
+                self.listings(3)?;
+                self.call(&format!("repaired {file}"))?;
+            }
+        }
+        Ok(())
+    }
+
+    /// Every client opens every file, and now and then one closes it again.
+    fn open_all(&mut self, pool: &Pool) -> Done {
+        for file in &pool.files {
+            for client in &pool.clients {
+                self.call(&format!("open {file} {client}"))?;
+            }
+            if self.r.percent(30) {
+                self.call(&format!("close {file} {}", pool.clients[0]))?;
+            }
+        }
+        Ok(())
+    }
+
+    // ---- Campaigns on epochs, bodies and lines ----
+
+    fn epochs(&mut self) -> Done {
+        let few = [0, 1, 15, 30, 31];
+        let all: Vec<u64> = (0..32).collect();
+        let nodes = if self.r.percent(70) { &few[..2 + self.r.size(4)] } else { &all[..] };
+        self.call("fresh")?;
+        for _ in 0..self.r.size(2 * nodes.len()) {
+            let node = self.r.pick(nodes);
+            self.call(&format!("join {node}"))?;
+        }
+        for _ in 0..120 {
+            let name = self.r.weighted(&[(4, "join"), (5, "leave"), (3, "start"), (10, "enforce"), (8, "finish"), (5, "stop")]);
+            let beyond = self.r.pick(&[32, 33, 63, 64, 256, 0x8000_0000, 0xffff_ffff]);
+            let node = if self.r.percent(4) { beyond } else { self.r.pick(nodes) };
+            self.call(&format!("{name} {node}"))?;
+            self.call("epochs")?;
+            let node = if self.r.percent(10) { beyond } else { self.r.pick(nodes) };
+            self.call(&format!("may {node}"))?;
+        }
+        Ok(())
+    }
+
+    fn layouts(&mut self) -> Done {
+        for _ in 0..120 {
+            let body = hex(&layout_body(&mut self.r));
+            self.call(&format!("layout {body}"))?;
+        }
+        Ok(())
+    }
+
+    /// Lines spoilt and dressed, comments and empty lines among calls whose answers would show a change.
+    fn lines(&mut self) -> Done {
+        let pool = self.pool(2, 2, 3);
+        self.call("fresh")?;
+        for _ in 0..40 {
+            let (file, client, node) = (self.r.pick(&pool.files), self.r.pick(&pool.clients), self.r.below(4));
+            let mirrors = hex(&pool.devices[0]);
+            let calls = [
+                format!("register {file} {mirrors}"),
+                format!("open {file} {client}"),
+                format!("close {file} {client}"),
+                format!("join {node}"),
+                format!("start {node}"),
+                "restart".to_string(),
+                "end".to_string(),
+                "fresh".to_string(),
+                "epochs".to_string(),
+                "resilver 2 2".to_string(),
+                format!("layout {:08x}", 0),
+            ];
+            let line = calls[self.r.size(calls.len())].clone();
+            let spoilt = spoilt(&mut self.r, &line);
+            self.raw(&spoilt)?;
+            let dressed = dressed(&mut self.r, &line);
+            self.raw(&dressed)?;
+            let skipped = self.r.pick(&["", "#", "# open 1 1", " \t", "\r", "\t#x"]);
+            writeln!(self.out, "{skipped}")?;
+        }
+        Ok(())
+    }
+
+    /// Each limit from both sides, once a script.
+    fn limits(&mut self) -> Done {
+        for line in at_the_limits() {
+            self.raw(line.as_bytes())?;
+        }
+        self.call("end")
+    }
+
+    // ---- The run ----
+
+    pub fn run(mut self, calls: u64) -> Done {
+        const KINDS: [(u64, u32); 8] = [(30, 0), (12, 1), (10, 2), (6, 3), (50, 4), (10, 5), (18, 6), (10, 7)];
+        self.limits()?;
+        while self.calls < calls {
+            match self.r.weighted(&KINDS) {
+                0 => self.walk()?,
+                1 => self.intents()?,
+                2 => self.table()?,
+                3 => self.all_lost()?,
+                4 => self.reports()?,
+                5 => self.epochs()?,
+                6 => self.layouts()?,
+                _ => self.lines()?,
+            }
+        }
+        self.out.flush()
+    }
+}

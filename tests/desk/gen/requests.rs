@@ -1,0 +1,142 @@
+//! LAYOUTRETURN requests: error bodies, the fixed part around them, and damage to either.
+
+use crate::random::{damage, Device, Random, EDGES};
+
+/// Counts that are off, and ones whose product with 24, 36 or 60 passes 2^32.
+const COUNTS: [u32; 8] = [0, 1, 2, 0x0aaa_aaab, 0x071c_71c8, 0x0444_4445, 0x8000_0000, 0xffff_ffff];
+const STATUSES: [u32; 9] = [0, 0, 0, 5, 28, 256, 0x0100_0000, 0x8000_0000, 0xffff_ffff];
+const BODY_LIMIT: usize = 4096;
+
+fn put(bytes: &mut Vec<u8>, number: u32) {
+    bytes.extend(number.to_be_bytes());
+}
+
+fn put_range(r: &mut Random, bytes: &mut Vec<u8>) {
+    for _ in 0..2 {
+        bytes.extend(r.pick(&EDGES).to_be_bytes());
+    }
+}
+
+/// The count itself, or now and then a wrong one.
+fn count(r: &mut Random, right: usize, wrong: u64) -> u32 {
+    let right = right as u32;
+    if !r.percent(wrong) {
+        return right;
+    }
+    if r.percent(50) {
+        r.pick(&COUNTS)
+    } else {
+        right.wrapping_add(r.pick(&[1, u32::MAX]))
+    }
+}
+
+fn put_record(r: &mut Random, body: &mut Vec<u8>, devices: &[Device], errors: usize, wrong: u64) {
+    put_range(r, body);
+    body.extend(if r.percent(50) { vec![0; 16] } else { r.bytes(16) });
+    put(body, count(r, errors, wrong));
+    for _ in 0..errors {
+        body.extend(r.pick(devices));
+        put(body, r.pick(&STATUSES));
+        put(body, r.next() as u32);
+    }
+}
+
+/// Error records and statistics; `wrong` is how often, of a hundred, each count is not right.
+fn body(r: &mut Random, devices: &[Device], wrong: u64) -> Vec<u8> {
+    let records = r.pick(&[0, 1, 1, 1, 2, 2, 3, 20]);
+    let few = 1 + r.size(devices.len());
+    let mut body = Vec::new();
+    put(&mut body, count(r, records, wrong));
+    for _ in 0..records {
+        let errors = r.pick(&[0, 1, 1, 1, 2, 3]);
+        put_record(r, &mut body, &devices[..few], errors, wrong);
+    }
+    put(&mut body, count(r, 0, wrong));
+    body
+}
+
+/// A body of exactly so many bytes: as many device errors as fit, then what is left over.
+fn sized_body(r: &mut Random, devices: &[Device], size: usize) -> Vec<u8> {
+    let mut body = vec![0, 0, 0, 2];
+    let half = (size.saturating_sub(80) / 24) / 2;
+    put_record(r, &mut body, devices, half, 0);
+    put_record(r, &mut body, devices, size.saturating_sub(80) / 24 - half, 0);
+    put(&mut body, r.pick(&[0, 0, 1]));
+    let spare = if r.percent(70) { 0 } else { 0xee };
+    body.resize(size, spare);
+    body
+}
+
+fn stateid(r: &mut Random) -> Vec<u8> {
+    let mut stateid = vec![0; 16];
+    match r.below(40) {
+        0..=2 => stateid[r.size(16)] = 1 << r.below(8),
+        3 => stateid = r.bytes(16),
+        4 => stateid = vec![0xff; 16],
+        _ => {}
+    }
+    stateid
+}
+
+/// A field's right value, or now and then one of its wrong ones.
+fn field(r: &mut Random, right: u32, wrong: &[u32]) -> u32 {
+    if r.percent(3) {
+        r.pick(wrong)
+    } else {
+        right
+    }
+}
+
+/// The fixed part and the body with its padding; the length that it states may be off.
+fn request_with(r: &mut Random, body: &[u8]) -> Vec<u8> {
+    let mut q = Vec::new();
+    let reclaim = r.pick(&[0, 0, 0, 1]);
+    put(&mut q, field(r, reclaim, &[2, 256, 0x0100_0000, 0xffff_ffff]));
+    put(&mut q, field(r, 4, &[0, 1, 3, 5, 0x0104, 0x0400_0000, 0xffff_ffff]));
+    let iomode = r.pick(&[1, 2, 3]);
+    put(&mut q, field(r, iomode, &[0, 4, 0x0101, 0x0100_0000, 0xffff_ffff]));
+    let return_type = field(r, 1, &[0, 2, 2, 2, 3, 3, 3, 4, 0x0101, 0xffff_ffff]);
+    put(&mut q, return_type);
+    if return_type != 1 && r.percent(70) {
+        return q;
+    }
+    put_range(r, &mut q);
+    q.extend(stateid(r));
+    let length = body.len() as u32;
+    put(&mut q, field(r, length, &[length.wrapping_sub(1), length + 1, length.wrapping_sub(4), length + 4, 0, 0xffff_fffc, 0xffff_ffff]));
+    q.extend(body);
+    let padding = field(r, length.wrapping_neg() % 4, &[0, 1, 2, 3, 4]);
+    let fill = if r.percent(90) { 0 } else { 1 << r.below(8) };
+    q.extend(vec![0; padding as usize]);
+    if padding > 0 && fill != 0 {
+        let last = q.len() - 1 - r.size(padding as usize);
+        q[last] = fill;
+    }
+    q
+}
+
+/// A request that names these devices: mostly sound, else with wrong counts, of an edge's size, or damaged.
+pub fn request(r: &mut Random, devices: &[Device]) -> Vec<u8> {
+    let body = match r.below(20) {
+        0..=11 => body(r, devices, 0),
+        12..=14 => body(r, devices, 8),
+        15 => {
+            let off = r.size(12);
+            sized_body(r, devices, BODY_LIMIT - 8 + off)
+        }
+        16 => {
+            let small = r.size(120);
+            sized_body(r, devices, small)
+        }
+        _ => {
+            let mut body = body(r, devices, 0);
+            damage(r, &mut body);
+            body
+        }
+    };
+    let mut request = request_with(r, &body);
+    if r.percent(8) {
+        damage(r, &mut request);
+    }
+    request
+}

@@ -1,0 +1,100 @@
+#!/usr/bin/env python3
+"""Counts the answers of scripts by command, and shows whether every answer of document 01 was reached.
+
+    histogram.py COUNTS SCRIPT OUTPUT     adds a script's answers to the file COUNTS
+    histogram.py COUNTS                   prints what was counted, and exits 1 if an answer was never given
+
+Only start's 28 can't be reached by calls: it takes 2^64 - 2 starts. In this order: the answers; keys of lines; main.
+"""
+import json
+import os
+import sys
+from collections import Counter
+
+# Each command with the answers that a run has to reach.
+ANSWERS = {
+    "register": "0 10013 22 17 28",
+    "open": "0 10013 70 28",
+    "reclaim": "0 10033 70 10034",
+    "close": "0 70 10025",
+    "repaired": "0 70 22 10008",
+    "forget": "0 10013 70 10008",
+    "end": "0 10033",
+    "restart": "0",
+    "layoutreturn": "handed 0 28 10036 10062 10049 10013 10033 10004 70 10034",
+    "resilver": "0 28 source:0 source:1 source:2 source:3 source:255",
+    "offered": "0 28 source:0 source:1 source:2 source:3 source:255",
+    "layout": "extents refused:1 refused:2 refused:3 refused:4 refused:5 refused:6 refused:7",
+    "join": "0 17 22",
+    "leave": "0 2 10013 22",
+    "start": "0 2 22",
+    "enforce": "0 2 10033 22",
+    "finish": "0 2 22",
+    "stop": "0 2 10013 22",
+    "may": "yes no 22",
+    "epochs": "shown",
+    "fresh": "0",
+    "can't be read": "?",
+}
+
+
+def words_of(line):
+    return line.replace(b"\t", b" ").replace(b"\r", b" ").split()
+
+
+def keys(command, words):
+    """The answers that one output line shows."""
+    if words[0] == b"?":
+        return [("can't be read", "?")]
+    if command == "epochs":
+        return [(command, "shown")]
+    if command == "layout" and words[0] == b"refused":
+        return [(command, "refused:" + words[1].decode())]
+    sources = [("source:" + word.split(b":")[1].decode()) for word in words[2:]] if command in ("resilver", "offered") else []
+    return [(command, key) for key in [words[0].decode()] + sources]
+
+
+def calls_of(script):
+    """The words of each line that prints one; a line past the limit prints one whatever it holds."""
+    for line in script:
+        words = words_of(line.rstrip(b"\n")[:64])
+        if len(line.rstrip(b"\n")) > 262144:
+            yield b"too long"
+        elif words and not words[0].startswith(b"#"):
+            yield words[0]
+
+
+def count(script_path, output_path, counts):
+    with open(script_path, "rb") as script, open(output_path, "rb") as output:
+        calls = calls_of(script)
+        for call, answer in zip(calls, output):
+            counts.update(keys(call.decode(errors="replace"), answer.split()))
+        if next(calls, None) is not None or output.read(1):
+            sys.exit(f"histogram: {output_path} does not have a line for each call of {script_path}")
+
+
+def show(counts):
+    for command, answers in ANSWERS.items():
+        known = answers.split()
+        others = sorted(key for name, key in counts if name == command and key not in known)
+        print(f"    {command}: " + ", ".join(f"{key} {counts[command, key]}" for key in known + others))
+    missing = [f"{command} {key}" for command, answers in ANSWERS.items() for key in answers.split() if counts[command, key] == 0]
+    if missing:
+        sys.exit("histogram: never answered: " + ", ".join(missing))
+
+
+def main():
+    path, counts = sys.argv[1], Counter()
+    if os.path.exists(path):
+        with open(path) as saved:
+            counts.update({(command, key): number for command, key, number in json.load(saved)})
+    if len(sys.argv) == 2:
+        show(counts)
+        return
+    count(sys.argv[2], sys.argv[3], counts)
+    with open(path, "w") as saved:
+        json.dump([(command, key, number) for (command, key), number in counts.items()], saved)
+
+
+if __name__ == "__main__":
+    main()

@@ -1,0 +1,109 @@
+/* scribble: stands between replay and the libraries (ld's --wrap) and, after the real call, breaks the one promise that the environment's
+   SCRIBBLE names. guards.sh uses it to see that replay notices each. In this order: the choice; the record's calls; the wire check; epochs. */
+#include "stellcircle.h"
+
+#include <stdlib.h>
+#include <string.h>
+
+/* Whether this run is to break this promise. */
+static int breaks(const char *promise)
+{
+    const char *chosen = getenv("SCRIBBLE");
+    return chosen != NULL && strcmp(chosen, promise) == 0;
+}
+
+/* Changes the byte at p if the promise is the chosen one. */
+static void scribble(const char *promise, const void *p)
+{
+    if (breaks(promise))
+        *(uint8_t *)p ^= 0xff;
+}
+
+uint32_t __real_sc_record_register(struct sc_record *, uint64_t, const uint8_t *, size_t);
+uint32_t __wrap_sc_record_register(struct sc_record *, uint64_t, const uint8_t *, size_t);
+uint32_t __wrap_sc_record_register(struct sc_record *r, uint64_t file, const uint8_t *mirrors, size_t mirrors_len)
+{
+    uint32_t answer = __real_sc_record_register(r, file, mirrors, mirrors_len);
+    scribble("mirrors", mirrors);
+    scribble("mirrors-after", mirrors + mirrors_len);
+    scribble("mirrors-before", mirrors - 1);
+    scribble("record-after", r + 1);
+    scribble("record-before", (uint8_t *)r - 1);
+    return answer;
+}
+
+uint32_t __real_sc_record_layoutreturn(struct sc_record *, uint64_t, uint64_t, const uint8_t *, size_t, uint8_t *, size_t);
+uint32_t __wrap_sc_record_layoutreturn(struct sc_record *, uint64_t, uint64_t, const uint8_t *, size_t, uint8_t *, size_t);
+uint32_t __wrap_sc_record_layoutreturn(struct sc_record *r, uint64_t client, uint64_t file, const uint8_t *request, size_t request_len,
+                                       uint8_t *reply, size_t reply_len)
+{
+    uint32_t answer = __real_sc_record_layoutreturn(r, client, file, request, request_len, reply, reply_len);
+    scribble("request", request);
+    scribble("request-after", request + request_len);
+    scribble("reply-before", reply - 1);
+    scribble("reply-after", reply + reply_len);
+    if (answer == 0)
+        scribble("reply-past-24", reply + 24);
+    else if (answer == 28)
+        scribble("reply-on-28", reply);
+    else if (answer == SC_HANDED_ON)
+        scribble("reply-on-handed-on", reply);
+    else
+        scribble("reply-past-4", reply + 4);
+    return breaks("reply-of-no-room") && answer == 28 ? 10036 : answer;
+}
+
+uint32_t __real_sc_record_resilver(const struct sc_record *, uint64_t *, size_t, uint8_t *, size_t, uint64_t *);
+uint32_t __wrap_sc_record_resilver(const struct sc_record *, uint64_t *, size_t, uint8_t *, size_t, uint64_t *);
+uint32_t __wrap_sc_record_resilver(const struct sc_record *r, uint64_t *files, size_t files_len, uint8_t *sources, size_t sources_len,
+                                   uint64_t *count)
+{
+    uint32_t answer = __real_sc_record_resilver(r, files, files_len, sources, sources_len, count);
+    scribble("listing-record", r);
+    scribble("listing-count-after", count + 1);
+    scribble("listing-files-after", files + files_len);
+    scribble("listing-sources-after", sources + sources_len);
+    if (answer == 0 && *count < files_len && *count < sources_len) {
+        scribble("listing-files-past-count", files + *count);
+        scribble("listing-sources-past-count", sources + *count);
+    }
+    if (answer == 28 && files_len > 0)
+        scribble("listing-files-on-28", files);
+    if (answer == 28 && sources_len > 0)
+        scribble("listing-sources-on-28", sources);
+    if (answer == 0 && breaks("listing-counts-too-many"))
+        *count = files_len + 1;
+    return answer;
+}
+
+uint32_t __real_sc_layout_check(const uint8_t *, size_t, uint64_t *);
+uint32_t __wrap_sc_layout_check(const uint8_t *, size_t, uint64_t *);
+uint32_t __wrap_sc_layout_check(const uint8_t *body, size_t len, uint64_t *place)
+{
+    uint32_t answer = __real_sc_layout_check(body, len, place);
+    scribble("body", body);
+    scribble("body-after", body + len);
+    scribble("place-after", place + 1);
+    if (answer == 0 && breaks("body-count"))
+        *place += 1;
+    return answer;
+}
+
+uint32_t __real_sc_epochs_join(struct sc_epochs *, uint32_t);
+uint32_t __wrap_sc_epochs_join(struct sc_epochs *, uint32_t);
+uint32_t __wrap_sc_epochs_join(struct sc_epochs *e, uint32_t node)
+{
+    uint32_t answer = __real_sc_epochs_join(e, node);
+    scribble("epochs-after", e + 1);
+    scribble("epochs-before", (uint8_t *)e - 1);
+    return answer;
+}
+
+uint32_t __real_sc_epochs_may_reclaim(const struct sc_epochs *, uint32_t);
+uint32_t __wrap_sc_epochs_may_reclaim(const struct sc_epochs *, uint32_t);
+uint32_t __wrap_sc_epochs_may_reclaim(const struct sc_epochs *e, uint32_t node)
+{
+    uint32_t answer = __real_sc_epochs_may_reclaim(e, node);
+    scribble("may-epochs", e);
+    return answer;
+}

@@ -1,0 +1,113 @@
+//! The marked examples K1 to K15 (01, "Marked examples"), each as the lines that a desk would send and the lines that come back.
+
+use crate::{run_line, Desk};
+
+const A: &str = "a0a0a0a0a0a0a0a0a0a0a0a0a0a0a001";
+const B: &str = "b0b0b0b0b0b0b0b0b0b0b0b0b0b0b002";
+const C: &str = "c0c0c0c0c0c0c0c0c0c0c0c0c0c0c003";
+
+/// Runs the lines on a fresh desk and gives what the last one prints.
+fn last(lines: &[&str]) -> String {
+    let mut desk = Desk::fresh();
+    let printed = lines.iter().zip(1..).filter_map(|(line, number)| run_line(&mut desk, line.as_bytes(), number));
+    printed.last().expect("a line that prints")
+}
+
+/// The layout line of a body whose extents are state, offset and length; device and storage offset are 0.
+fn layout(extents: &[(u32, u64, u64)]) -> String {
+    let fields: String = extents.iter().map(|(state, offset, length)| format!("{:032x}{offset:016x}{length:016x}{:016x}{state:08x}", 0, 0)).collect();
+    format!("layout {:08x}{fields}", extents.len())
+}
+
+/// The layoutreturn line of client 1 for file 7 after a restart, with one record that names one device and its status.
+fn report(device: &str, status: u32) -> String {
+    let body = format!("{:08x}{:016x}{:016x}{:032x}{:08x}{device}{status:08x}{:08x}{:08x}", 1, 0, u64::MAX, 0, 1, 38, 0);
+    assert_eq!(body.len() / 2, 68);
+    let request = format!("{:08x}{:08x}{:08x}{:08x}{:016x}{:016x}{:032x}{:08x}{body}", 0, 4, 3, 1, 0, u64::MAX, 0, 68);
+    assert_eq!(request.len() / 2, 120);
+    format!("layoutreturn 1 7 24 {request}")
+}
+
+fn registered() -> String {
+    format!("register 7 {A}{B}")
+}
+
+#[test]
+fn k1_four_zero_bytes() {
+    assert_eq!(last(&["layout 00000000"]), "extents 0");
+}
+
+#[test]
+fn k2_three_bytes() {
+    assert_eq!(last(&["layout 000000"]), "refused 1 at 0");
+}
+
+#[test]
+fn k3_count_1025_and_nothing_more() {
+    assert_eq!(last(&["layout 00000401"]), "refused 2 at 0");
+}
+
+#[test]
+fn k4_read_write_extents_that_touch() {
+    assert_eq!(last(&[&layout(&[(0, 0, 10), (0, 10, 10)])]), "extents 2 0:10:0:0 10:10:0:0");
+}
+
+#[test]
+fn k5_invalid_over_read() {
+    assert_eq!(last(&[&layout(&[(1, 0, 100), (2, 0, 10)])]), "extents 2 0:100:0:1 0:10:0:2");
+}
+
+#[test]
+fn k6_read_after_invalid() {
+    assert_eq!(last(&[&layout(&[(2, 0, 10), (1, 0, 100)])]), "refused 6 at 1");
+}
+
+#[test]
+fn k7_read_over_an_earlier_read() {
+    assert_eq!(last(&[&layout(&[(1, 0, 100), (2, 0, 10), (1, 50, 10)])]), "refused 7 at 2");
+}
+
+#[test]
+fn k8_hole_at_the_last_offset() {
+    assert_eq!(last(&[&layout(&[(3, u64::MAX - 1, 1)])]), "extents 1 18446744073709551614:1:0:3");
+}
+
+#[test]
+fn k9_hole_past_the_last_offset() {
+    assert_eq!(last(&[&layout(&[(3, u64::MAX, 1)])]), "refused 5 at 0");
+}
+
+#[test]
+fn k10_nobody_reclaims() {
+    assert_eq!(last(&[&registered(), "open 7 1", "restart", "end", "resilver 1 1"]), "0 1 7:0");
+}
+
+#[test]
+fn k11_the_client_reclaims() {
+    assert_eq!(last(&[&registered(), "open 7 1", "restart", "reclaim 7 1", "end", "resilver 1 1"]), "0 0");
+}
+
+#[test]
+fn k12_the_client_reports_a_mirror() {
+    let history = [&registered(), "open 7 1", "restart", "reclaim 7 1", &report(A, 5), "end"];
+    let and = |more: &[&str]| last(&[&history, more].concat());
+    assert_eq!(and(&["resilver 1 1"]), "0 1 7:1");
+    assert_eq!(and(&["offered 1 1"]), "0 0");
+    assert_eq!(and(&["close 7 1", "offered 1 1"]), "0 1 7:1");
+}
+
+#[test]
+fn k13_the_client_reports_an_unknown_device() {
+    assert_eq!(last(&[&registered(), "open 7 1", "restart", "reclaim 7 1", &report(C, 5), "end", "resilver 1 1"]), "0 1 7:0");
+}
+
+#[test]
+fn k14_two_nodes_start() {
+    assert_eq!(last(&["join 0", "join 1", "start 0", "start 1", "epochs"]), "2 1 00000003 00000003 00000003");
+}
+
+#[test]
+fn k15_two_nodes_finish() {
+    assert_eq!(last(&["join 0", "join 1", "start 0", "start 1", "finish 0", "epochs"]), "2 1 00000003 00000002 00000003");
+    assert_eq!(last(&["join 0", "join 1", "start 0", "start 1", "finish 0", "finish 1", "epochs"]), "2 0 00000003 00000000 00000003");
+}

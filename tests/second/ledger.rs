@@ -1,0 +1,181 @@
+//! The recovery record as its ledger (01, "The recovery record" and "The ledger"): rows by file number, and the calls on them.
+//! Each call is refused with its number, and then changes nothing, or is accepted.
+
+use crate::layoutreturn::{self, Device, Other, Report, GRACE, NO_GRACE};
+use crate::refuse_if;
+use std::collections::{BTreeMap, BTreeSet};
+
+const MOST_FILES: usize = 64;
+const MOST_MIRRORS: usize = 4;
+const MOST_INTENTS: usize = 8;
+const NO_SOURCE: u8 = 255;
+
+const EXIST: u32 = 17;
+const INVAL: u32 = 22;
+const NOSPC: u32 = 28;
+const STALE: u32 = 70;
+const DELAY: u32 = 10_008;
+const BAD_STATEID: u32 = 10_025;
+const RECLAIM_BAD: u32 = 10_034;
+
+/// What is known of one registered file.
+#[derive(Default)]
+struct Row {
+    mirrors: Vec<Device>,
+    intents: BTreeSet<u64>,
+    reclaimed: BTreeSet<u64>,
+    marked: bool,
+    blamed: BTreeSet<usize>,
+}
+
+impl Row {
+    fn is_open(&self) -> bool {
+        !self.intents.is_empty()
+    }
+
+    /// The lowest mirror place not blamed.
+    fn source(&self) -> u8 {
+        let place = (0..self.mirrors.len()).find(|place| !self.blamed.contains(place));
+        place.map_or(NO_SOURCE, |place| place as u8)
+    }
+
+    fn end_of_grace(&mut self) {
+        if self.is_open() && self.reclaimed.is_empty() {
+            self.marked = true;
+        }
+        self.intents = self.intents.intersection(&self.reclaimed).copied().collect();
+    }
+
+    /// Step 7 of LAYOUTRETURN.
+    fn take(&mut self, report: &Report) {
+        let place_of = |device: &Device| self.mirrors.iter().position(|mirror| mirror == device);
+        if report.iter().any(|(device, _)| place_of(device).is_none()) {
+            self.marked = true;
+            return;
+        }
+        for (device, _) in report.iter().filter(|(_, status)| *status != 0) {
+            self.blamed.extend(place_of(device));
+            self.marked = true;
+        }
+    }
+}
+
+/// The mirror devices of a list that is not bad.
+fn mirror_list(bytes: &[u8]) -> Option<Vec<Device>> {
+    let ids: Vec<Device> = bytes.chunks(16).map(|id| id.try_into().ok()).collect::<Option<_>>()?;
+    let different: BTreeSet<&Device> = ids.iter().collect();
+    let good = (1..=MOST_MIRRORS).contains(&ids.len()) && different.len() == ids.len();
+    good.then_some(ids)
+}
+
+pub struct Ledger {
+    rows: BTreeMap<u64, Row>,
+    in_grace: bool,
+}
+
+impl Ledger {
+    pub fn fresh() -> Ledger {
+        Ledger { rows: BTreeMap::new(), in_grace: false }
+    }
+
+    fn row(&mut self, file: u64) -> Result<&mut Row, u32> {
+        self.rows.get_mut(&file).ok_or(STALE)
+    }
+
+    /// The refusal of calls that wait for the end of grace.
+    fn not_in_grace(&self) -> Result<(), u32> {
+        refuse_if(self.in_grace, GRACE)
+    }
+
+    /// The refusal of calls that belong in grace.
+    fn in_grace(&self) -> Result<(), u32> {
+        refuse_if(!self.in_grace, NO_GRACE)
+    }
+
+    pub fn register(&mut self, file: u64, mirrors: &[u8]) -> Result<(), u32> {
+        self.not_in_grace()?;
+        let mirrors = mirror_list(mirrors).ok_or(INVAL)?;
+        refuse_if(self.rows.contains_key(&file), EXIST)?;
+        refuse_if(self.rows.len() >= MOST_FILES, NOSPC)?;
+        self.rows.insert(file, Row { mirrors, ..Row::default() });
+        Ok(())
+    }
+
+    pub fn open(&mut self, file: u64, client: u64) -> Result<(), u32> {
+        self.not_in_grace()?;
+        let row = self.row(file)?;
+        refuse_if(!row.intents.contains(&client) && row.intents.len() >= MOST_INTENTS, NOSPC)?;
+        row.intents.insert(client);
+        Ok(())
+    }
+
+    pub fn reclaim(&mut self, file: u64, client: u64) -> Result<(), u32> {
+        self.in_grace()?;
+        let row = self.row(file)?;
+        refuse_if(!row.intents.contains(&client), RECLAIM_BAD)?;
+        row.reclaimed.insert(client);
+        Ok(())
+    }
+
+    pub fn close(&mut self, file: u64, client: u64) -> Result<(), u32> {
+        let in_grace = self.in_grace;
+        let row = self.row(file)?;
+        refuse_if(!row.intents.contains(&client), BAD_STATEID)?;
+        refuse_if(in_grace && !row.reclaimed.contains(&client), BAD_STATEID)?;
+        row.intents.remove(&client);
+        Ok(())
+    }
+
+    pub fn repaired(&mut self, file: u64) -> Result<(), u32> {
+        let row = self.row(file)?;
+        refuse_if(!row.marked, INVAL)?;
+        refuse_if(row.is_open(), DELAY)?;
+        row.marked = false;
+        row.blamed.clear();
+        Ok(())
+    }
+
+    pub fn forget(&mut self, file: u64) -> Result<(), u32> {
+        self.not_in_grace()?;
+        let row = self.row(file)?;
+        refuse_if(row.marked || row.is_open(), DELAY)?;
+        self.rows.remove(&file);
+        Ok(())
+    }
+
+    pub fn end_of_grace(&mut self) -> Result<(), u32> {
+        self.in_grace()?;
+        self.rows.values_mut().for_each(Row::end_of_grace);
+        self.in_grace = false;
+        Ok(())
+    }
+
+    pub fn restart(&mut self) -> Result<(), u32> {
+        self.in_grace = true;
+        self.rows.values_mut().for_each(|row| row.reclaimed.clear());
+        Ok(())
+    }
+
+    pub fn layoutreturn(&mut self, client: u64, file: u64, room: usize, request: &[u8]) -> Result<(), Other> {
+        let report = layoutreturn::judge(self.in_grace, room, request)?;
+        let row = self.row(file)?;
+        refuse_if(!row.intents.contains(&client), RECLAIM_BAD)?;
+        row.take(&report);
+        Ok(())
+    }
+
+    /// The files that need repair, each with its source.
+    pub fn resilver(&self) -> Vec<(u64, u8)> {
+        self.marked_rows(|_| true)
+    }
+
+    /// The files that need repair and have no intent.
+    pub fn offered(&self) -> Vec<(u64, u8)> {
+        self.marked_rows(|row| !row.is_open())
+    }
+
+    fn marked_rows(&self, wanted: impl Fn(&Row) -> bool) -> Vec<(u64, u8)> {
+        let rows = self.rows.iter().filter(|(_, row)| row.marked && wanted(row));
+        rows.map(|(file, row)| (*file, row.source())).collect()
+    }
+}

@@ -1,0 +1,149 @@
+//! The second program: speaks the lines of replay (man/replay.1) and prints the same, but is written from the paper alone, over maps and sets.
+//! In this order: refusals; the commands; what they print; one line; main. `words` reads words, `layout`, `layoutreturn`, `ledger` and `epochs` hold the rules, `examples` the marked ones.
+
+mod epochs;
+mod layout;
+mod layoutreturn;
+mod ledger;
+mod words;
+
+#[cfg(test)]
+mod examples;
+
+use epochs::Epochs;
+use layoutreturn::Other;
+use ledger::Ledger;
+use std::io::{self, BufRead, Write};
+use words::{bytes, node, number, room, split, MAX_BODY, MAX_LINE, MAX_REQUEST};
+
+/// A refusal with its number, where it applies.
+pub fn refuse_if(refused: bool, number: u32) -> Result<(), u32> {
+    if refused {
+        Err(number)
+    } else {
+        Ok(())
+    }
+}
+
+/// What the calls run on.
+struct Desk {
+    ledger: Ledger,
+    epochs: Epochs,
+}
+
+impl Desk {
+    fn fresh() -> Desk {
+        Desk { ledger: Ledger::fresh(), epochs: Epochs::fresh() }
+    }
+
+    /// Runs one command and gives the line that it prints; `None` where the words can't be read, and then nothing changed.
+    fn run(&mut self, words: &[&[u8]]) -> Option<String> {
+        let name = std::str::from_utf8(words[0]).ok()?;
+        match (name, &words[1..]) {
+            ("register", [f, m]) => {
+                let (file, mirrors) = (number(f)?, bytes(m, MAX_REQUEST)?);
+                Some(answered(self.ledger.register(file, &mirrors)))
+            }
+            ("open", [f, c]) => Some(answered(self.ledger.open(number(f)?, number(c)?))),
+            ("reclaim", [f, c]) => Some(answered(self.ledger.reclaim(number(f)?, number(c)?))),
+            ("close", [f, c]) => Some(answered(self.ledger.close(number(f)?, number(c)?))),
+            ("repaired", [f]) => Some(answered(self.ledger.repaired(number(f)?))),
+            ("forget", [f]) => Some(answered(self.ledger.forget(number(f)?))),
+            ("end", []) => Some(answered(self.ledger.end_of_grace())),
+            ("restart", []) => Some(answered(self.ledger.restart())),
+            ("layoutreturn", [c, f, r, q]) => {
+                let (client, file, room, request) = (number(c)?, number(f)?, room(r)?, bytes(q, MAX_REQUEST)?);
+                Some(said(self.ledger.layoutreturn(client, file, room, &request)))
+            }
+            ("resilver", [f, s]) => Some(listed(self.ledger.resilver(), room(f)?, room(s)?)),
+            ("offered", [f, s]) => Some(listed(self.ledger.offered(), room(f)?, room(s)?)),
+            ("layout", [b]) => Some(laid_out(&bytes(b, MAX_BODY)?)),
+            ("fresh", []) => {
+                *self = Desk::fresh();
+                Some("0".to_string())
+            }
+            _ => self.run_on_epochs(name, &words[1..]),
+        }
+    }
+
+    fn run_on_epochs(&mut self, name: &str, arguments: &[&[u8]]) -> Option<String> {
+        let e = &mut self.epochs;
+        match (name, arguments) {
+            ("join", [n]) => Some(answered(e.join(node(n)?))),
+            ("leave", [n]) => Some(answered(e.leave(node(n)?))),
+            ("start", [n]) => Some(answered(e.start(node(n)?))),
+            ("enforce", [n]) => Some(answered(e.enforce(node(n)?))),
+            ("finish", [n]) => Some(answered(e.finish(node(n)?))),
+            ("stop", [n]) => Some(answered(e.stop_enforcing(node(n)?))),
+            ("may", [n]) => Some(match e.may_reclaim(node(n)?) {
+                Ok(true) => "yes".to_string(),
+                Ok(false) => "no".to_string(),
+                Err(number) => number.to_string(),
+            }),
+            ("epochs", []) => Some(e.to_string()),
+            _ => None,
+        }
+    }
+}
+
+/// The line for a call that is accepted or refused.
+fn answered(call: Result<(), u32>) -> String {
+    call.err().unwrap_or(0).to_string()
+}
+
+/// The line for a LAYOUTRETURN: the number and the bytes of the reply that were written.
+fn said(call: Result<(), Other>) -> String {
+    match call {
+        Ok(()) => format!("0 {:08x}{:08x}{:032x}", 0, 1, 0),
+        Err(Other::Status(status)) => format!("{status} {status:08x}"),
+        Err(Other::NoRoom) => "28".to_string(),
+        Err(Other::HandedOn) => "handed on".to_string(),
+    }
+}
+
+/// The line for a listing into lent slices of so many places.
+fn listed(list: Vec<(u64, u8)>, files: usize, sources: usize) -> String {
+    if list.len() > files || list.len() > sources {
+        return "28 0".to_string();
+    }
+    let entries: String = list.iter().map(|(file, source)| format!(" {file}:{source}")).collect();
+    format!("0 {}{entries}", list.len())
+}
+
+/// The line for a layout body.
+fn laid_out(body: &[u8]) -> String {
+    match layout::read(body) {
+        Err((number, place)) => format!("refused {number} at {place}"),
+        Ok(extents) => {
+            let entries: String = extents.iter().map(|e| format!(" {}:{}:{}:{}", e.offset, e.length, e.storage, e.state)).collect();
+            format!("extents {}{entries}", extents.len())
+        }
+    }
+}
+
+/// What one line, without its newline, prints; `None` for a line that is skipped.
+fn run_line(desk: &mut Desk, line: &[u8], line_number: u64) -> Option<String> {
+    let unread = format!("? {line_number}");
+    if line.len() > MAX_LINE {
+        return Some(unread);
+    }
+    let words = split(line);
+    if words.is_empty() || words[0][0] == b'#' {
+        return None;
+    }
+    Some(desk.run(&words).unwrap_or(unread))
+}
+
+fn main() -> io::Result<()> {
+    let (mut input, mut output) = (io::stdin().lock(), io::BufWriter::new(io::stdout().lock()));
+    let (mut desk, mut line, mut line_number) = (Desk::fresh(), Vec::new(), 0);
+    while input.read_until(b'\n', &mut line)? > 0 {
+        line_number += 1;
+        let text = line.strip_suffix(b"\n").unwrap_or(&line);
+        if let Some(answer) = run_line(&mut desk, text, line_number) {
+            writeln!(output, "{answer}")?;
+        }
+        line.clear();
+    }
+    output.flush()
+}
