@@ -4,7 +4,7 @@
  */
 #define _POSIX_C_SOURCE 199309L
 #include <stdint.h>
-#include "parts/epochs.h"
+#include "stellcircle.h"
 #include "epochs_plain.h"
 #include <stdio.h>
 #include <string.h>

@@ -1,5 +1,5 @@
 #include <stdint.h>
-#include "parts/epochs.h"
+#include "stellcircle.h"
 #include "epochs_plain.h"
 
 static uint32_t bit(uint32_t node) { return (uint32_t)1 << node; }

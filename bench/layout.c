@@ -1,6 +1,6 @@
 /* The layout check and the writer, beside plain C by gcc -O2 and clang -O2, in one process and in turn. */
 #include "bench.h"
-#include "../include/stellcircle.h"
+#include "stellcircle.h"
 #include <string.h>
 
 #define PLAIN(P) \

@@ -4,7 +4,7 @@
  * Prints one line, and ends with 1 where anything differs.
  */
 #include <stdint.h>
-#include "parts/epochs.h"
+#include "stellcircle.h"
 #include "reference.h"
 #include <inttypes.h>
 #include <stdio.h>

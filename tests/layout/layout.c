@@ -1,7 +1,7 @@
 /* The layout check and the layout writer through the C exports.
  * Usage: layout FILE: each line of FILE is a body in hex, its refusal (0 accepted) and the place (or how many extents).
  * Every accepted body is also written back from its extents, into a buffer with guard bytes; and is refused without its last byte. */
-#include "../../include/stellcircle.h"
+#include "stellcircle.h"
 #include <stdio.h>
 #include <stdlib.h>
 #include <string.h>

@@ -1,0 +1,7 @@
+#!/bin/sh
+# Builds the test of the layout check and writer and runs it on the captured bodies. The archive comes from `rt staticlib wire`.
+set -e
+cd "$(dirname "$0")/../.."
+mkdir -p target/tests
+gcc -std=c11 -O2 -Wall -Wextra -Wpedantic -Werror -Iinclude -o target/tests/layout tests/layout/layout.c target/staticlib/libwire.a
+target/tests/layout tests/captures/layout-bodies.txt
