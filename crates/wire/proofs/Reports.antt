@@ -321,6 +321,27 @@ module _ (s : List ℕ) (c : Cursor) where
   unfolding nextAt
   next-malformed e = next-now (c .records) s c Malformed (Done 10036) e (λ k. refl)
 
+-- what the code's tests say of it
+over-by : (p : Report) (k : Cursor → Found) → nextBy (ending (statusOf p)) k ≡ Done (statusOf p)
+over-by (report.Whole xs) k = refl
+over-by report.Malformed k = refl
+over-by report.Statistics k = refl
+
+module _ (s : List ℕ) (c : Cursor) (z : c .devices ≡ 0) where
+  pub next-over : c .records ≡ 0 → {k : ℕ} → k ≡ statusOf (statistics (drop (c .at) s)) → Done k ≡ nextAt s c
+  unfolding nextAt lastStep
+  next-over r e =
+      ap Done e
+      ∙ sym (next-now (c .records) s c (lastStep s (c .at)) (Done (statusOf (statistics (drop (c .at) s)))) (sym (no-device s c z (no-record s (c .at) r refl))) (over-by (statistics (drop (c .at) s))))
+
+  module _ (r : c .records ≡ 0 → ⊥) where
+    pub next-cut : length s - c .at < 36 → Done 10036 ≡ nextAt s c
+    next-cut h = sym (next-malformed s c (sym (no-device s c z (record-short s (c .at) r h))))
+
+    pub next-on : 36 ≤ length s - c .at → {n : ℕ} → n ≡ beNat 4 (drop (c .at + 32) s)
+        → nextAt s c ≡ nextAt s (record { at = c .at + 36; records = c .records - 1; devices = n })
+    next-on h e = next-record s c (sym (no-device s c z (record-found s (c .at) r h e)))
+
 -- what comes next is what the report from the cursor on begins with, and lies past the cursor, within the bytes
 abbrev Comes : List ℕ → Cursor → Found → Type 0
 Comes s c (Error i h l st next) = Forward s c next

@@ -158,37 +158,33 @@ pub fn step(s: &[u8], c: Cursor) -> Entry
 pub fn next(s: &[u8], c: Cursor) -> Found
     ensures { λ r. ⌜ r ≡ nextAt (now (s .entry)) c ⌝ }
 {
-    let mut c = c;
-    loop {
-        match step(s, c) {
-            Entry::Device {
-                record,
-                high,
-                low,
-                status,
-                next,
-            } => {
-                return Found::Error {
-                    record,
-                    high,
-                    low,
-                    status,
-                    next,
-                };
-            }
-            Entry::Record(next) => {
-                c = next;
-            }
-            Entry::End => {
-                return Found::Done(0);
-            }
-            Entry::Statistics => {
-                return Found::Done(10004);
-            }
-            Entry::Malformed => {
-                return Found::Done(10036);
-            }
+    let mut at = c.at;
+    let mut records = c.records;
+    let mut devices = c.devices;
+    while devices == 0 {
+        if records == 0 {
+            return Found::Done(last_status(s, at));
         }
+        if left(s, at) < 36 {
+            return Found::Done(10036);
+        }
+        devices = xdr::be32(s, at + 32);
+        at += 36;
+        records -= 1;
+    }
+    if left(s, at) < 24 {
+        return Found::Done(10036);
+    }
+    Found::Error {
+        record: place(xdr::be32(s, 0), records),
+        high: xdr::be64(s, at),
+        low: xdr::be64(s, at + 8),
+        status: xdr::be32(s, at + 16),
+        next: Cursor {
+            at: at + 24,
+            records,
+            devices: devices - 1,
+        },
     }
 }
 
