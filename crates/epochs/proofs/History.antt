@@ -3,22 +3,21 @@
 --     counts                  C rises exactly at a start that is accepted where R is 0
 --     Kept, keeps             what each call keeps of a record: masks of 32 nodes, flags on members, R is 0 or C - 1, and R is 0 exactly where nobody has NEED
 --     sound, after-any-calls  the claim, by induction over the calls
-use Prim.Native.Nat.{ℕ, suc, _+_, _-_, _<_, _≤_, _^_}
+use Prim.Native.Nat.{ℕ, _+_, _<_, _≤_, _^_}
 use native.Mathlib.Nat.{add-assoc}
 use native.Mathlib.Omega.{arith}
 use mathlib.Core.Path.{_≡_, refl, sym, ap, _∙_, subst}
-use mathlib.Core.Logic.{_⊎_, inl, inr, ⊎-elim, _↔_}
+use mathlib.Core.Logic.{_⊎_, inl, inr, ⊎-elim}
 use mathlib.Core.Bool.{Bool, true, false, not, cond, _&&_, true≢false, false≢true}
 use mathlib.Core.List.{List, [], _∷_}
-use lib.Dec.{eqb, leb}
-use borrow.Author.Tests.{eqb-true, eqb-false, eq-eqb, ne-eqb, leb-false, lt-leb, not-false}
-use Rattle.masks.specs.Mask.{has, all, plus, minus, empty, within}
+use lib.Dec.{eqb}
+use borrow.Author.Tests.{eqb-false, eq-eqb, ne-eqb, leb-false, lt-leb, not-false}
+use Rattle.masks.specs.Mask.{has, plus, minus, empty}
 use Rattle.masks.proofs.Laws.{plus-lt, minus-lt, has-zero, has-below, each-empty, plus-node, plus-keeps, plus-came, minus-was, minus-out, minus-keeps, minus-same, some-empty, empty-some, within-each, each-within}
 use Rattle.epochs.specs.declared.Epochs.{Epochs}
 use Rattle.epochs.specs.declared.Answered.{Answered}
-use Rattle.epochs.specs.declared.MayReclaim.{MayReclaim}
 use Rattle.epochs.specs.declared.MayReclaim.the-variants.{Yes, No, NoSuchNode}
-use Rattle.epochs.specs.Epochs.{member, needs, enforces, calm, spent, above, ready, fresh, Rule, _⇒_, joinRules, leaveRules, startRules, enforceRules, finishRules, stopRules, joined, departed, raisedEpoch, begun, flagged, enforced, finished, stopped, accepted, refused, judged, joinOf, leaveOf, startOf, enforceOf, finishOf, stopOf, mayReclaimOf, reclaimNumber}
+use Rattle.epochs.specs.Epochs.{member, needs, calm, above, ready, fresh, Rule, _⇒_, joinRules, leaveRules, startRules, enforceRules, finishRules, stopRules, joined, departed, raisedEpoch, begun, flagged, enforced, finished, stopped, accepted, refused, judged, joinOf, leaveOf, startOf, enforceOf, finishOf, stopOf, mayReclaimOf, reclaimNumber}
 use Rattle.epochs.specs.History.{Call, join, leave, start, enforce, finish, stopEnforcing, mayReclaim, called, after, isStart, raises, raised, Sound, AfterAnyCalls}
 
 -- ---- a call is refused by one of its rules, or none applies

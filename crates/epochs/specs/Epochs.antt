@@ -7,7 +7,7 @@
 --     mayReclaimOf, reclaimNumber     the call that only asks, and the number of each of its answers
 -- A record's three sets of nodes are masks: `has`, `plus`, `minus`, `empty` and `within` of the crate masks say which nodes are in them.
 use Prim.Native.Nat.{ℕ, _+_, _-_, _^_}
-use mathlib.Core.Bool.{Bool, true, false, not, cond, _&&_}
+use mathlib.Core.Bool.{Bool, not, cond, _&&_}
 use mathlib.Core.List.{List, [], _∷_}
 use lib.Dec.{eqb, leb}
 use Rattle.masks.specs.Mask.{has, plus, minus, empty, within}

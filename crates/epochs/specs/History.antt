@@ -4,7 +4,7 @@
 --     raises, raised   whether a call is a start that is accepted where R is 0; how many of a list are
 --     Sound            what holds of a record
 --     AfterAnyCalls    the claim, which proofs/History.antt proves
-use Prim.Native.Nat.{ℕ, _+_, _-_, _<_}
+use Prim.Native.Nat.{ℕ, _+_, _-_}
 use mathlib.Core.Path.{_≡_}
 use mathlib.Core.Logic.{_⊎_, _↔_}
 use mathlib.Core.Bool.{Bool, true, false, cond, _&&_}

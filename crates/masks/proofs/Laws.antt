@@ -7,8 +7,8 @@
 --     one-shl, shr-is, or-is, xor-is, zero-is, and-is     what the code computes is what the definitions say
 use mathlib.Core.Path.{_≡_, refl, sym, ap, ap₂, _∙_, subst}
 use mathlib.Core.Bool.{Bool, true, false, not, cond, _&&_, _||_, xor, false≢true, or-true}
-use Prim.Native.Nat.{ℕ, zero, suc, _+_, _*_, _/_, _%_, _^_, _<_, _≤_, suc-le-suc, zero-le}
-use native.Mathlib.Nat.{zero-lt-suc, mod-lt, zero-mod, zero-div, div-one, div-self, mul-mod-left, mul-div-cancel, div-add-mod', pow-suc, one-mul, mod-eq-of-lt, le-of-suc-le-suc, not-suc-le-zero, lt-of-lt-of-le, div-eq-of-lt, eq-or-lt-of-le}
+use Prim.Native.Nat.{ℕ, zero, suc, _+_, _*_, _/_, _%_, _^_, _<_, _≤_, suc-le-suc}
+use native.Mathlib.Nat.{zero-lt-suc, mod-lt, zero-div, div-one, mul-mod-left, mul-div-cancel, div-add-mod', pow-suc, one-mul, mod-eq-of-lt, le-of-suc-le-suc, not-suc-le-zero, lt-of-lt-of-le, div-eq-of-lt, eq-or-lt-of-le}
 use native.Mathlib.Numerals.{one-add, add-one}
 use native.Mathlib.Omega.{arith}
 use lib.Arith.{lt-one, digits-div, digits-mod, digits-lt}
@@ -17,7 +17,7 @@ use lib.Pow.{pow-pos, pow-lt, pow-mono, shr-shr, shr-lt}
 use lib.Bits.{bitAnd, bitOr, bitXor, or-shr, xor-shr, and-shr, or-mod, xor-mod, and-mod, or-lt, xor-lt, and-lt, and-mask}
 use borrow.Author.Tests.{leb-true, leb-false, eqb-true, eqb-false, eq-eqb, ne-eqb, not-true, not-false}
 use mathlib.Core.Logic.{_⊎_, inl, inr, ⊎-elim}
-use Rattle.masks.specs.Mask.{nodes, digit, has, setOf, all, plus, minus, empty, within}
+use Rattle.masks.specs.Mask.{digit, has, setOf, all, plus, minus, empty, within}
 
 two-pos : zero < 2
 two-pos = zero-lt-suc 1

@@ -6,7 +6,7 @@
 --     empty, within    whether no node is in a set, and whether each node of one is in another
 -- Laws of these, proved once over the node, are in proofs/Laws.antt.
 use Prim.Native.Nat.{ℕ, zero, suc, _+_, _*_, _/_, _%_, _^_}
-use mathlib.Core.Bool.{Bool, true, false, not, cond, _&&_, _||_}
+use mathlib.Core.Bool.{Bool, true, not, cond, _&&_, _||_}
 use lib.Dec.{eqb}
 
 abbrev pub nodes : ℕ
