@@ -1,168 +1,212 @@
 -- The steps of a cursor visit the device errors of a report, in their order: from each cursor on, the report is what stands at the cursor
 -- and then the report from the next cursor on. Each step goes forward, within the bytes.
+-- In order: that law; what the code's tests say of a step; a caller's fold; the walk as a list; the status, record by record.
 use Prim.Native.Nat.{ℕ, zero, suc, _+_, _-_, _*_, _≤_, _<_}
 use mathlib.Core.Path.{_≡_, refl, sym, ap, _∙_}
 use mathlib.Core.List.{List, [], _∷_}
 use mathlib.Core.Bool.{Bool, true, false, cond}
 use native.Mathlib.Omega.{arith}
 use native.Mathlib.Nat.{add-zero}
-use lib.ListN.{length, drop, length-drop}
+use lib.ListN.{length, take, drop, length-drop}
 use lib.Seq.{drop-drop}
 use lib.Dec.{ltb, eqb}
 use borrow.Author.Tests.{lt-ltb, le-ltb, eq-eqb, ne-eqb, ltb-true, ltb-false}
 use Rattle.xdr.specs.Be.{beNat}
-use Rattle.wire.specs.Report.{Report, Named, statistics, devices, records, reportOf, naming, namedAt, statusOf, over, outcome}
+use Rattle.wire.specs.Device.{halves}
+use Rattle.wire.specs.Report.{Report, DeviceError, reportOf, statusOf, over, outcome}
 use Rattle.wire.specs.Report as report
-use Rattle.wire.specs.ReportSteps.{startOf, stepAt, lastStep, recordStep, deviceStep, reportFrom, after}
+use Rattle.wire.specs.ReportSteps.{naming, errorIn, statistics, devices, records, startOf, stepAt, ending, lastStep, recordStep, placeOf, deviceStep, errorAt, reportFrom, after}
 use Rattle.wire.specs.declared.report.Cursor.{Cursor}
 use Rattle.wire.specs.declared.report.Entry.{Entry}
 use Rattle.wire.specs.declared.report.Entry.the-variants.{Device, Record, End, Statistics, Malformed}
+use Rattle.wire.proofs.Devices.{halves-taken}
+use Rattle.wire.proofs.ReportModel.{as-walked}
 
-after-cond : (s : List ℕ) (b : Bool) (x y : Entry) → after s (cond b x y) ≡ cond b (after s x) (after s y)
-after-cond s true x y = refl
-after-cond s false x y = refl
+-- ---- the law of a walk
+after-cond : (s : List ℕ) (c : Cursor) (b : Bool) (x y : Entry) → after s c (cond b x y) ≡ cond b (after s c x) (after s c y)
+after-cond s c true x y = refl
+after-cond s c false x y = refl
 
-at-last : (s : List ℕ) (at : ℕ) → statistics (drop at s) ≡ after s (lastStep s at)
-unfolding statistics after
-at-last s at = simp (after-cond, length-drop)
+at-last : (s : List ℕ) (c : Cursor) → statistics (drop (c .at) s) ≡ after s c (lastStep s (c .at))
+unfolding statistics after lastStep
+at-last s c = by-tests (ltb (length (drop (c .at) s)) 4) (eqb (beNat 4 (drop (c .at) s)) 0) (eqb (length (drop (c .at) s)) 4)
+  where
+    found : Bool → Bool → Bool → Report
+    found short none whole = cond short report.Malformed (cond none (cond whole (report.Whole []) report.Malformed) report.Statistics)
 
-at-record : (s : List ℕ) (at r : ℕ) → records r (drop at s) ≡ after s (recordStep s at r)
-unfolding records after reportFrom
-at-record s at zero = at-last s at
-at-record s at (suc r) =
+    by-tests : (x y z : Bool) → found x y z ≡ after s c (ending (statusOf (found x y z)))
+    by-tests true y z = refl
+    by-tests false true true = refl
+    by-tests false true false = refl
+    by-tests false false z = refl
+
+at-record : (s : List ℕ) (c : Cursor) (r : ℕ) → records (beNat 4 s) r (drop (c .at) s) ≡ after s c (recordStep s (c .at) r)
+unfolding records after reportFrom recordStep
+at-record s c zero = at-last s c
+at-record s c (suc r) =
     let n : eqb (suc r) 0 ≡ false = ne-eqb (suc r) 0 (λ h. omega arith) in
     let p : suc r - 1 ≡ r = omega arith in
-    simp (n, p, after-cond, length-drop, drop-drop)
+    let i : beNat 4 s - suc r ≡ beNat 4 s - r - 1 = omega arith in
+    simp (n, p, i, after-cond, length-drop, drop-drop)
 
-at-device : (s : List ℕ) (at r d : ℕ) → devices d (records r) (drop at s) ≡ after s (deviceStep s at r d)
+at-device : (s : List ℕ) (c : Cursor) (d : ℕ)
+    → devices (placeOf s (c .records)) d (records (beNat 4 s) (c .records)) (drop (c .at) s) ≡ after s c (deviceStep s (c .at) (c .records) d)
 unfolding devices after reportFrom
-at-device s at r zero = at-record s at r
-at-device s at r (suc d) =
+at-device s c zero = at-record s c (c .records)
+at-device s c (suc d) =
     let n : eqb (suc d) 0 ≡ false = ne-eqb (suc d) 0 (λ h. omega arith) in
     let p : suc d - 1 ≡ d = omega arith in
     simp (n, p, after-cond, length-drop, drop-drop)
 
--- the law of a walk: the report from a cursor on is what stands there and then the report from the next cursor on
-pub unrolled : (s : List ℕ) (c : Cursor) → reportFrom s c ≡ after s (stepAt s c)
+-- the report from a cursor on is what stands there and then the report from the next cursor on
+pub unrolled : (s : List ℕ) (c : Cursor) → reportFrom s c ≡ after s c (stepAt s c)
 unfolding reportFrom stepAt
-unrolled s c = at-device s (c .at) (c .records) (c .devices)
+unrolled s c = at-device s c (c .devices)
 
-from-cond : (s : List ℕ) (b : Bool) (x y : Cursor) → reportFrom s (cond b x y) ≡ cond b (reportFrom s x) (reportFrom s y)
-from-cond s true x y = refl
-from-cond s false x y = refl
-
-same-if : (b : Bool) (x y z : Report) → cond b (cond b x y) z ≡ cond b x z
-same-if true x y z = refl
-same-if false x y z = refl
-
-starts : (s : List ℕ)
-    → cond (ltb (length s) 4) (reportFrom s (record { at = 0; records = 0; devices = 0 })) (reportFrom s (record { at = 4; records = beNat 4 s; devices = 0 }))
-    ≡ cond (ltb (length s) 4) report.Malformed (records (beNat 4 s) (drop 4 s))
+starts : (s : List ℕ) (b : Bool) → ltb (length s) 4 ≡ b
+    → reportFrom s (cond b (record { at = 0; records = 0; devices = 0 }) (record { at = 4; records = beNat 4 s; devices = 0 }))
+    ≡ cond b report.Malformed (records (beNat 4 s) (beNat 4 s) (drop 4 s))
 unfolding reportFrom devices records statistics
-starts s = same-if (ltb (length s) 4) _ _ _
+starts s true e = rw e
+starts s false e = refl
 
 -- the walk begins with the whole report
 pub begins : (s : List ℕ) → reportFrom s (startOf s) ≡ reportOf s
-unfolding startOf reportOf
-begins s = rw from-cond (starts s)
+unfolding startOf
+begins s = starts s (ltb (length s) 4) refl ∙ sym (as-walked s)
 
 -- ---- what the code's tests say of a step
-module _ (s : List ℕ) (c : Cursor) (room : ℕ) (e : room ≡ length s - c .at) where
-  pub device-short : (c .devices ≡ 0 → ⊥) → room < 24 → Malformed ≡ stepAt s c
-  unfolding stepAt
-  device-short d h = simp (ne-eqb (c .devices) 0 d, lt-ltb (length s - c .at) 24 (omega arith))
+module _ (s : List ℕ) (at : ℕ) where
+  pub last-short : length s - at < 4 → 10036 ≡ statusOf (statistics (drop at s))
+  unfolding statistics
+  last-short h = simp (lt-ltb (length (drop at s)) 4 (rw length-drop h))
 
-  pub device-found : (c .devices ≡ 0 → ⊥) → 24 ≤ room → {hi lo st : ℕ} → hi ≡ beNat 8 (drop (c .at) s) → lo ≡ beNat 8 (drop (c .at + 8) s)
-      → st ≡ beNat 4 (drop (c .at + 16) s) → Device hi lo st (record { at = c .at + 24; records = c .records; devices = c .devices - 1 }) ≡ stepAt s c
-  unfolding stepAt
-  device-found d h p q r = simp (ne-eqb (c .devices) 0 d, le-ltb (length s - c .at) 24 (omega arith), p, q, r)
+  module _ (h : 4 ≤ length s - at) {n : ℕ} (e : n ≡ beNat 4 (drop at s)) where
+    pub statistics-found : (n ≡ 0 → ⊥) → 10004 ≡ statusOf (statistics (drop at s))
+    unfolding statistics
+    statistics-found z = simp (← e, le-ltb (length (drop at s)) 4 (rw length-drop h), ne-eqb n 0 z)
 
-  pub record-short : c .devices ≡ 0 → (c .records ≡ 0 → ⊥) → room < 36 → Malformed ≡ stepAt s c
-  unfolding stepAt
-  record-short d r h = simp (eq-eqb (c .devices) 0 d, ne-eqb (c .records) 0 r, lt-ltb (length s - c .at) 36 (omega arith))
+    pub end-found : n ≡ 0 → length s - at ≡ 4 → 0 ≡ statusOf (statistics (drop at s))
+    unfolding statistics
+    end-found z x = simp (← e, le-ltb (length (drop at s)) 4 (rw length-drop h), eq-eqb n 0 z, eq-eqb (length (drop at s)) 4 (rw length-drop x))
 
-  pub record-found : c .devices ≡ 0 → (c .records ≡ 0 → ⊥) → 36 ≤ room → {n : ℕ} → n ≡ beNat 4 (drop (c .at + 32) s)
-      → Record (record { at = c .at + 36; records = c .records - 1; devices = n }) ≡ stepAt s c
-  unfolding stepAt
-  record-found d r h p = simp (eq-eqb (c .devices) 0 d, ne-eqb (c .records) 0 r, le-ltb (length s - c .at) 36 (omega arith), p)
-
-  pub last-short : c .devices ≡ 0 → c .records ≡ 0 → room < 4 → Malformed ≡ stepAt s c
-  unfolding stepAt
-  last-short d r h = simp (eq-eqb (c .devices) 0 d, eq-eqb (c .records) 0 r, lt-ltb (length s - c .at) 4 (omega arith))
-
-  module _ (d : c .devices ≡ 0) (r : c .records ≡ 0) (h : 4 ≤ room) (n : ℕ) (p : n ≡ beNat 4 (drop (c .at) s)) where
-    pub statistics-found : (n ≡ 0 → ⊥) → Statistics ≡ stepAt s c
-    unfolding stepAt
-    statistics-found z =
-        simp (eq-eqb (c .devices) 0 d, eq-eqb (c .records) 0 r, le-ltb (length s - c .at) 4 (omega arith), ne-eqb (beNat 4 (drop (c .at) s)) 0 (λ y. z (p ∙ y)))
-
-    pub end-found : n ≡ 0 → room ≡ 4 → End ≡ stepAt s c
-    unfolding stepAt
-    end-found z x =
-        simp (eq-eqb (c .devices) 0 d, eq-eqb (c .records) 0 r, le-ltb (length s - c .at) 4 (omega arith), eq-eqb (beNat 4 (drop (c .at) s)) 0 (sym p ∙ z), eq-eqb (length s - c .at) 4 (sym e ∙ x))
-
-    pub spare-bytes : n ≡ 0 → (room ≡ 4 → ⊥) → Malformed ≡ stepAt s c
-    unfolding stepAt
+    pub spare-bytes : n ≡ 0 → (length s - at ≡ 4 → ⊥) → 10036 ≡ statusOf (statistics (drop at s))
+    unfolding statistics
     spare-bytes z x =
-        simp (eq-eqb (c .devices) 0 d, eq-eqb (c .records) 0 r, le-ltb (length s - c .at) 4 (omega arith), eq-eqb (beNat 4 (drop (c .at) s)) 0 (sym p ∙ z), ne-eqb (length s - c .at) 4 (λ y. x (e ∙ y)))
+        simp (← e, le-ltb (length (drop at s)) 4 (rw length-drop h), eq-eqb n 0 z, ne-eqb (length (drop at s)) 4 (λ y. x (rw length-drop at y)))
+
+  -- by the status of what is left
+  module _ {k : ℕ} (e : k ≡ statusOf (statistics (drop at s))) where
+    pub ends-well : k ≡ 0 → End ≡ lastStep s at
+    unfolding lastStep
+    ends-well z = simp (← e, eq-eqb k 0 z)
+
+    pub ends-counted : k ≡ 10004 → Statistics ≡ lastStep s at
+    unfolding lastStep
+    ends-counted z = simp (← e, ne-eqb k 0 (λ y. omega arith), eq-eqb k 10004 z)
+
+    pub ends-badly : (k ≡ 0 → ⊥) → (k ≡ 10004 → ⊥) → Malformed ≡ lastStep s at
+    unfolding lastStep
+    ends-badly y z = simp (← e, ne-eqb k 0 y, ne-eqb k 10004 z)
+
+  pub no-record : {r : ℕ} → r ≡ 0 → {x : Entry} → x ≡ lastStep s at → x ≡ recordStep s at r
+  unfolding recordStep
+  no-record {r} z x = simp (eq-eqb r 0 z, x)
+
+  module _ {r : ℕ} (z : r ≡ 0 → ⊥) where
+    pub record-short : length s - at < 36 → Malformed ≡ recordStep s at r
+    unfolding recordStep
+    record-short h = simp (ne-eqb r 0 z, lt-ltb (length s - at) 36 h)
+
+    pub record-found : 36 ≤ length s - at → {n : ℕ} → n ≡ beNat 4 (drop (at + 32) s)
+        → Record (record { at = at + 36; records = r - 1; devices = n }) ≡ recordStep s at r
+    unfolding recordStep
+    record-found h p = simp (ne-eqb r 0 z, le-ltb (length s - at) 36 h, p)
+
+module _ (s : List ℕ) (c : Cursor) where
+  pub no-device : c .devices ≡ 0 → {x : Entry} → x ≡ recordStep s (c .at) (c .records) → x ≡ stepAt s c
+  unfolding stepAt
+  no-device z x = simp (eq-eqb (c .devices) 0 z, x)
+
+  module _ (z : c .devices ≡ 0 → ⊥) where
+    pub device-short : length s - c .at < 24 → Malformed ≡ stepAt s c
+    unfolding stepAt
+    device-short h = simp (ne-eqb (c .devices) 0 z, lt-ltb (length s - c .at) 24 h)
+
+    pub device-found : 24 ≤ length s - c .at → {i hi lo st : ℕ} → i ≡ placeOf s (c .records) → hi ≡ beNat 8 (drop (c .at) s)
+        → lo ≡ beNat 8 (drop (c .at + 8) s) → st ≡ beNat 4 (drop (c .at + 16) s)
+        → Device i hi lo st (record { at = c .at + 24; records = c .records; devices = c .devices - 1 }) ≡ stepAt s c
+    unfolding stepAt
+    device-found h i p q r = simp (ne-eqb (c .devices) 0 z, le-ltb (length s - c .at) 24 h, i, p, q, r)
 
 -- ---- a step takes at least 24 bytes and stays within the bytes: a walk of s makes at most length s / 24 + 1 steps, whatever the counts say
 pub record Forward (s : List ℕ) (c next : Cursor) : Type 0 where
   pub further : c .at + 24 ≤ next .at
   pub within : next .at ≤ length s
 
-abbrev ForwardBy : List ℕ → Cursor → Entry → Type 0
-ForwardBy s c (Device h l st next) = Forward s c next
-ForwardBy s c (Record next) = Forward s c next
-ForwardBy s c End = Unit
-ForwardBy s c Statistics = Unit
-ForwardBy s c Malformed = Unit
+-- and what it gives of a device error is what the definition says of it
+pub record Given (x : DeviceError) (i h l st : ℕ) : Type 0 where
+  pub place : x .inRecord ≡ i
+  pub device : halves (x .device) ≡ record { high = h; low = l }
+  pub status : x .status ≡ st
+
+abbrev Stepped : List ℕ → Cursor → Entry → Type 0
+Stepped s c (Device i h l st next) = Forward s c next × Given (errorAt s c) i h l st
+Stepped s c (Record next) = Forward s c next
+Stepped s c End = Unit
+Stepped s c Statistics = Unit
+Stepped s c Malformed = Unit
 
 by-test : (P : Entry → Type 0) (b : Bool) (x y : Entry) → (b ≡ true → P x) → (b ≡ false → P y) → P (cond b x y)
 by-test P true x y p q = p refl
 by-test P false x y p q = q refl
 
-stays : (s : List ℕ) (c : Cursor) (short none whole : Bool) → ForwardBy s c (cond short Malformed (cond none (cond whole End Malformed) Statistics))
-stays s c true n w = tt
-stays s c false false w = tt
-stays s c false true true = tt
-stays s c false true false = tt
+ends-stepped : (s : List ℕ) (c : Cursor) (k : ℕ) → Stepped s c (ending k)
+ends-stepped s c k =
+    by-test (Stepped s c) (eqb k 0) End (cond (eqb k 10004) Statistics Malformed) (λ _. tt)
+    (λ _. by-test (Stepped s c) (eqb k 10004) Statistics Malformed (λ _. tt) (λ _. tt))
 
-forwards : (s : List ℕ) (c : Cursor) → ForwardBy s c (stepAt s c)
-unfolding stepAt
-forwards s c =
-    by-test (ForwardBy s c) (eqb (c .devices) 0) _ _
-    (λ _. by-test (ForwardBy s c) (eqb (c .records) 0) _ _ (λ _. stays s c (ltb (length s - c .at) 4) (eqb (beNat 4 (drop (c .at) s)) 0) (eqb (length s - c .at) 4))
-    (λ _. by-test (ForwardBy s c) (ltb (length s - c .at) 36) _ _ (λ _. tt)
+given-at : (s : List ℕ) (c : Cursor)
+    → Given (errorAt s c) (placeOf s (c .records)) (beNat 8 (drop (c .at) s)) (beNat 8 (drop (c .at + 8) s)) (beNat 4 (drop (c .at + 16) s))
+given-at s c = record { place = refl; device = simp (halves-taken, drop-drop); status = simp drop-drop }
+
+stepped : (s : List ℕ) (c : Cursor) → Stepped s c (stepAt s c)
+unfolding stepAt recordStep lastStep
+stepped s c =
+    by-test (Stepped s c) (eqb (c .devices) 0) _ _
+    (λ _. by-test (Stepped s c) (eqb (c .records) 0) _ _ (λ _. ends-stepped s c (statusOf (statistics (drop (c .at) s))))
+    (λ _. by-test (Stepped s c) (ltb (length s - c .at) 36) _ _ (λ _. tt)
     (λ h. record { further = omega arith; within = omega (arith, ltb-false (length s - c .at) 36 h) })))
-    (λ _. by-test (ForwardBy s c) (ltb (length s - c .at) 24) _ _ (λ _. tt)
-    (λ h. record { further = omega arith; within = omega (arith, ltb-false (length s - c .at) 24 h) }))
+    (λ _. by-test (Stepped s c) (ltb (length s - c .at) 24) _ _ (λ _. tt)
+    (λ h. (record { further = omega arith; within = omega (arith, ltb-false (length s - c .at) 24 h) }, given-at s c)))
 
-pub device-forward : (s : List ℕ) (c : Cursor) {h l st : ℕ} {next : Cursor} → stepAt s c ≡ Device h l st next → Forward s c next
-device-forward s c e = rw e at (forwards s c)
+module _ (s : List ℕ) (c : Cursor) {next : Cursor} where
+  pub device-forward : {i h l st : ℕ} → stepAt s c ≡ Device i h l st next → Forward s c next
+  device-forward e = (rw e at (stepped s c)) .0
 
-pub record-forward : (s : List ℕ) (c : Cursor) {next : Cursor} → stepAt s c ≡ Record next → Forward s c next
-record-forward s c e = rw e at (forwards s c)
+  pub device-given : {i h l st : ℕ} → stepAt s c ≡ Device i h l st next → Given (errorAt s c) i h l st
+  device-given e = (rw e at (stepped s c)) .1
+
+  pub record-forward : stepAt s c ≡ Record next → Forward s c next
+  record-forward e = rw e at (stepped s c)
 
 -- ---- what a caller folds over the device errors: the laws of one turn, for any state `A` and any `f`. With the invariant
--- `outcome f bad more a (reportFrom s c) ≡ answer` a turn keeps the answer, and each way out gives it.
-
-one-named : {A : Type 0} (f : A → Named → A) (bad more a : A) (x : Named) (p : Report)
+-- `outcome f bad more a (reportFrom s c) ≡ answer` a turn keeps the answer, and each way out gives it. `device-given` says which
+-- place, halves and status the device error `errorAt s c` has.
+one-named : {A : Type 0} (f : A → DeviceError → A) (bad more a : A) (x : DeviceError) (p : Report)
     → outcome f bad more a (naming x p) ≡ outcome f bad more (f a x) p
 unfolding outcome over
 one-named f bad more a x (report.Whole xs) = refl
 one-named f bad more a x report.Malformed = refl
 one-named f bad more a x report.Statistics = refl
 
-turn : (s : List ℕ) (c : Cursor) {e : Entry} → stepAt s c ≡ e → reportFrom s c ≡ after s e
-turn s c h = unrolled s c ∙ ap (after s) h
+turn : (s : List ℕ) (c : Cursor) {e : Entry} → stepAt s c ≡ e → reportFrom s c ≡ after s c e
+turn s c h = unrolled s c ∙ ap (after s c) h
 
-module _ {A : Type 0} (f : A → Named → A) (bad more a : A) (s : List ℕ) (c : Cursor) {answer : A} (inv : outcome f bad more a (reportFrom s c) ≡ answer) where
-  pub fold-device : {h l st : ℕ} {next : Cursor} → stepAt s c ≡ Device h l st next
-      → outcome f bad more (f a (record { high = h; low = l; status = st })) (reportFrom s next) ≡ answer
+module _ {A : Type 0} (f : A → DeviceError → A) (bad more a : A) (s : List ℕ) (c : Cursor) {answer : A} (inv : outcome f bad more a (reportFrom s c) ≡ answer) where
+  pub fold-device : {i h l st : ℕ} {next : Cursor} → stepAt s c ≡ Device i h l st next → outcome f bad more (f a (errorAt s c)) (reportFrom s next) ≡ answer
   unfolding after
-  fold-device {h} {l} {st} {next} e =
-      sym (one-named f bad more a (record { high = h; low = l; status = st }) (reportFrom s next)) ∙ sym (ap (outcome f bad more a) (turn s c e)) ∙ inv
+  fold-device {next = next} e = sym (one-named f bad more a (errorAt s c) (reportFrom s next)) ∙ sym (ap (outcome f bad more a) (turn s c e)) ∙ inv
 
   pub fold-record : {next : Cursor} → stepAt s c ≡ Record next → outcome f bad more a (reportFrom s next) ≡ answer
   unfolding after
@@ -181,57 +225,41 @@ module _ {A : Type 0} (f : A → Named → A) (bad more a : A) (s : List ℕ) (c
   fold-malformed e = sym (ap (outcome f bad more a) (turn s c e)) ∙ inv
 
 -- a walk begins
-pub fold-begins : {A : Type 0} (f : A → Named → A) (bad more a : A) (s : List ℕ) {c : Cursor} → c ≡ startOf s
+pub fold-begins : {A : Type 0} (f : A → DeviceError → A) (bad more a : A) (s : List ℕ) {c : Cursor} → c ≡ startOf s
     → outcome f bad more a (reportFrom s c) ≡ outcome f bad more a (reportOf s)
 fold-begins f bad more a s e = ap (λ (x : Cursor). outcome f bad more a (reportFrom s x)) e ∙ ap (outcome f bad more a) (begins s)
 
--- the status is a fold that keeps 0
-abbrev pub kept : ℕ → Named → ℕ
-kept a x = a
-
-pub status-is : (p : Report) → outcome kept 10036 10004 0 p ≡ statusOf p
-unfolding outcome over
-status-is (report.Whole xs) = still xs
-  where
-    still : (xs : List Named) → over kept 0 xs ≡ 0
-    still [] = refl
-    still (x ∷ xs) = still xs
-status-is report.Malformed = refl
-status-is report.Statistics = refl
-
 -- ---- the walk as a list: the device errors that the steps from a cursor on give, where they end well, are those of the report
-pub data Walk (s : List ℕ) : Cursor → List Named → Type 0 where
+pub data Walk (s : List ℕ) : Cursor → List DeviceError → Type 0 where
   ends : {c : Cursor} → stepAt s c ≡ End → Walk s c []
-  gives : {c next : Cursor} {h l st : ℕ} {xs : List Named} → stepAt s c ≡ Device h l st next → Walk s next xs
-      → Walk s c (record { high = h; low = l; status = st } ∷ xs)
-  enters : {c next : Cursor} {xs : List Named} → stepAt s c ≡ Record next → Walk s next xs → Walk s c xs
+  gives : {c next : Cursor} {i h l st : ℕ} {xs : List DeviceError} → stepAt s c ≡ Device i h l st next → Walk s next xs → Walk s c (errorAt s c ∷ xs)
+  enters : {c next : Cursor} {xs : List DeviceError} → stepAt s c ≡ Record next → Walk s next xs → Walk s c xs
 
-visits : (s : List ℕ) {c : Cursor} {xs : List Named} → Walk s c xs → reportFrom s c ≡ report.Whole xs
+visits : (s : List ℕ) {c : Cursor} {xs : List DeviceError} → Walk s c xs → reportFrom s c ≡ report.Whole xs
 unfolding after
 visits s {c} (ends e) = turn s c e
-visits s {c} (gives {h = h} {l = l} {st = st} e w) = turn s c e ∙ ap (naming (record { high = h; low = l; status = st })) (visits s w)
+visits s {c} (gives e w) = turn s c e ∙ ap (naming (errorAt s c)) (visits s w)
 visits s {c} (enters e w) = turn s c e ∙ visits s w
 
-pub visits-all : (s : List ℕ) {xs : List Named} → Walk s (startOf s) xs → reportOf s ≡ report.Whole xs
+pub visits-all : (s : List ℕ) {xs : List DeviceError} → Walk s (startOf s) xs → reportOf s ≡ report.Whole xs
 visits-all s w = sym (begins s) ∙ visits s w
 
 -- and a report that is whole is walked to its end
-same-rest : (x : Named) (p : Report) (xs : List Named) (P : List Named → Type 0) → naming x p ≡ report.Whole xs
-    → ((ys : List Named) → p ≡ report.Whole ys → P (x ∷ ys)) → P xs
+same-rest : (x : DeviceError) (p : Report) (xs : List DeviceError) (P : List DeviceError → Type 0) → naming x p ≡ report.Whole xs
+    → ((ys : List DeviceError) → p ≡ report.Whole ys → P (x ∷ ys)) → P xs
 same-rest x (report.Whole ys) xs P e k =
     let q : x ∷ ys ≡ xs = cc in
     rw q at (k ys refl)
 same-rest x report.Malformed xs P e k = let z : _≡_ {A = ℕ} 0 1 = cc in absurd (omega arith)
 same-rest x report.Statistics xs P e k = let z : _≡_ {A = ℕ} 0 1 = cc in absurd (omega arith)
 
-step-on : (n : ℕ) (s : List ℕ) (c : Cursor) (xs : List Named) → length s - c .at < suc n → reportFrom s c ≡ report.Whole xs
-    → ((next : Cursor) (ys : List Named) → length s - next .at < n → reportFrom s next ≡ report.Whole ys → Walk s next ys)
+step-on : (n : ℕ) (s : List ℕ) (c : Cursor) (xs : List DeviceError) → length s - c .at < suc n → reportFrom s c ≡ report.Whole xs
+    → ((next : Cursor) (ys : List DeviceError) → length s - next .at < n → reportFrom s next ≡ report.Whole ys → Walk s next ys)
     → (t : Entry) → stepAt s c ≡ t → Walk s c xs
 unfolding after
-step-on n s c xs h e go (Device hi lo st next) q =
+step-on n s c xs h e go (Device i hi lo st next) q =
     let f = device-forward s c q in
-    same-rest (record { high = hi; low = lo; status = st }) (reportFrom s next) xs (Walk s c) (sym (turn s c q) ∙ e)
-    (λ ys r. gives q (go next ys (omega arith) r))
+    same-rest (errorAt s c) (reportFrom s next) xs (Walk s c) (sym (turn s c q) ∙ e) (λ ys r. gives q (go next ys (omega arith) r))
 step-on n s c xs h e go (Record next) q =
     let f = record-forward s c q in
     enters q (go next xs (omega arith) (sym (turn s c q) ∙ e))
@@ -241,9 +269,67 @@ step-on n s c xs h e go End q =
 step-on n s c xs h e go Statistics q = let z : _≡_ {A = ℕ} 0 1 = cc (turn s c q) in absurd (omega arith)
 step-on n s c xs h e go Malformed q = let z : _≡_ {A = ℕ} 0 1 = cc (turn s c q) in absurd (omega arith)
 
-walked : (n : ℕ) (s : List ℕ) (c : Cursor) (xs : List Named) → length s - c .at < n → reportFrom s c ≡ report.Whole xs → Walk s c xs
+walked : (n : ℕ) (s : List ℕ) (c : Cursor) (xs : List DeviceError) → length s - c .at < n → reportFrom s c ≡ report.Whole xs → Walk s c xs
 walked zero s c xs h e = absurd (omega arith)
 walked (suc n) s c xs h e = step-on n s c xs h e (λ next ys. walked n s next ys) (stepAt s c) refl
 
-pub all-visited : (s : List ℕ) {xs : List Named} → reportOf s ≡ report.Whole xs → Walk s (startOf s) xs
+pub all-visited : (s : List ℕ) {xs : List DeviceError} → reportOf s ≡ report.Whole xs → Walk s (startOf s) xs
 all-visited s {xs} e = walked (suc (length s - startOf s .at)) s (startOf s) xs (omega arith) (begins s ∙ e)
+
+-- ---- the status, record by record: device errors are passed by their count
+named-status : (x : DeviceError) (p : Report) → statusOf (naming x p) ≡ statusOf p
+named-status x (report.Whole xs) = refl
+named-status x report.Malformed = refl
+named-status x report.Statistics = refl
+
+devices-passed : (i d : ℕ) (rest : List ℕ → Report) (s : List ℕ) → 24 * d ≤ length s → statusOf (devices i d rest s) ≡ statusOf (rest (drop (24 * d) s))
+unfolding devices
+devices-passed i zero rest s h = refl
+devices-passed i (suc d) rest s h =
+    let n : 24 + 24 * d ≡ 24 * suc d = omega arith in
+    rw (le-ltb (length s) 24 (omega arith), named-status (errorIn i s) (devices i d rest (drop 24 s)), devices-passed i d rest (drop 24 s) (rw length-drop (omega arith)), drop-drop, n)
+
+devices-cut : (i d : ℕ) (rest : List ℕ → Report) (s : List ℕ) → length s < 24 * d → statusOf (devices i d rest s) ≡ 10036
+unfolding devices
+devices-cut i zero rest s h = absurd (omega arith)
+devices-cut i (suc d) rest s h = by-size (ltb (length s) 24) refl (λ g. devices-cut i d rest (drop 24 s) (rw length-drop (omega arith)))
+  where
+    by-size : (b : Bool) → ltb (length s) 24 ≡ b → (24 ≤ length s → statusOf (devices i d rest (drop 24 s)) ≡ 10036)
+        → statusOf (cond b report.Malformed (naming (errorIn i s) (devices i d rest (drop 24 s)))) ≡ 10036
+    by-size true e go = refl
+    by-size false e go = named-status (errorIn i s) (devices i d rest (drop 24 s)) ∙ go (ltb-false (length s) 24 e)
+
+pub status-short : (s : List ℕ) → length s < 4 → 10036 ≡ statusOf (reportOf s)
+status-short s h = rw (as-walked s, lt-ltb (length s) 4 h)
+
+pub status-begins : (s : List ℕ) → 4 ≤ length s → {n : ℕ} → n ≡ beNat 4 s → statusOf (records (beNat 4 s) n (drop 4 s)) ≡ statusOf (reportOf s)
+status-begins s h e = rw (as-walked s, le-ltb (length s) 4 h, e)
+
+-- with the invariant `statusOf (records total r (drop at s)) ≡ answer` a turn keeps the answer, and each way out gives it
+pub status-last : (s : List ℕ) (total at r : ℕ) {answer : ℕ} → statusOf (records total r (drop at s)) ≡ answer → r ≡ 0 → {k : ℕ} → k ≡ statusOf (statistics (drop at s)) → k ≡ answer
+unfolding records
+status-last s total at zero inv z e = e ∙ inv
+status-last s total at (suc r) inv z e = absurd (omega arith)
+
+pub status-cut : (s : List ℕ) (total at r : ℕ) {answer : ℕ} → statusOf (records total r (drop at s)) ≡ answer → (r ≡ 0 → ⊥) → length s - at < 36 → 10036 ≡ answer
+unfolding records
+status-cut s total at zero inv z h = absurd (z refl)
+status-cut s total at (suc r) inv z h = rw (lt-ltb (length (drop at s)) 36 (rw length-drop h)) at inv
+
+module _ (s : List ℕ) (total at n : ℕ) (e : n ≡ beNat 4 (drop (at + 32) s)) (h : 36 ≤ length s - at) where
+  record-status : (r : ℕ) → statusOf (records total (suc r) (drop at s)) ≡ statusOf (devices (total - suc r) n (records total r) (drop (at + 36) s))
+  unfolding records
+  record-status r = rw (le-ltb (length (drop at s)) 36 (rw length-drop h), drop-drop, ← e, drop-drop)
+
+  pub status-over : (r : ℕ) {answer : ℕ} → statusOf (records total r (drop at s)) ≡ answer → (r ≡ 0 → ⊥) → length s - at - 36 < 24 * n → 10036 ≡ answer
+  status-over zero inv z g = absurd (z refl)
+  status-over (suc r) inv z g =
+      sym (devices-cut (total - suc r) n (records total r) (drop (at + 36) s) (rw length-drop (omega arith))) ∙ sym (record-status r) ∙ inv
+
+  pub status-on : (r : ℕ) {answer : ℕ} → statusOf (records total r (drop at s)) ≡ answer → (r ≡ 0 → ⊥) → 24 * n ≤ length s - at - 36
+      → statusOf (records total (r - 1) (drop (at + 36 + 24 * n) s)) ≡ answer
+  status-on zero inv z g = absurd (z refl)
+  status-on (suc r) inv z g =
+      let p : suc r - 1 ≡ r = omega arith in
+      rw (p, ← drop-drop (24 * n) (at + 36) s, ← devices-passed (total - suc r) n (records total r) (drop (at + 36) s) (rw length-drop (omega arith)))
+      (sym (record-status r) ∙ inv)

@@ -1,49 +1,64 @@
--- DEFINITION. The body of a LAYOUTRETURN of RFC 8435: a counted list of error records, then a counted list of statistics records. An error
--- record is an offset (8), a length (8), a stateid (16) and a counted list of device errors of 24 bytes: device (16), status (4), operation (4).
-use Prim.Native.Nat.{ℕ, zero, suc, _+_, _-_, _*_}
-use mathlib.Core.List.{List, [], _∷_}
-use mathlib.Core.Bool.{Bool, true, false, cond}
-use lib.ListN.{length, drop}
-use lib.Dec.{ltb, eqb}
-use Rattle.xdr.specs.Be.{beNat}
+-- DEFINITION. The error report of a LAYOUTRETURN, which is its body (RFC 8435, section 9; paper 01, "LAYOUTRETURN").
+--     DeviceError, deviceError, ioerr, layoutreturn   the RFC's structures, a line a field
+--     Report, reportOf, statusOf                      what step 5 makes of a body
+--     over, outcome                                   what a caller makes of a report
+use Prim.Native.Nat.{ℕ}
+use mathlib.Core.List.{List, [], _∷_, _++_}
+use mathlib.Core.Bool.{cond}
+use lib.ListN.{length}
+use lib.Dec.{eqb}
+use Rattle.wire.specs.Reader.{Read, Got, Short, Reader, _>>=_, give, number, opaque, counted}
 
--- a device error: the two halves of the device's id, and the status
-pub record Named : Type 0 where
-  pub high : ℕ
-  pub low : ℕ
+-- a device error: the place of its error record in the report, the device's sixteen bytes, and the status
+pub record DeviceError : Type 0 where
+  pub inRecord : ℕ
+  pub device : List ℕ
   pub status : ℕ
 
+-- device_error4, in the error record at place i; the operation is not judged
+unfoldable pub deviceError : ℕ → Reader DeviceError
+deviceError i = do
+  device ← opaque 16
+  status ← number 4
+  operation ← number 4
+  give (record { inRecord = i; device = device; status = status })
+
+-- ff_ioerr4, at place i: its device errors; offset, length and stateid are not judged
+unfoldable pub ioerr : ℕ → Reader (List DeviceError)
+ioerr i = do
+  offset ← number 8
+  extent ← number 8
+  stateid ← opaque 16
+  counted (λ _. deviceError i)
+
+-- ff_layoutreturn4, up to the count of its statistics records
+pub record Returned : Type 0 where
+  pub records : List (List DeviceError)
+  pub statistics : ℕ
+
+unfoldable pub layoutreturn : Reader Returned
+layoutreturn = do
+  records ← counted ioerr
+  statistics ← number 4
+  give (record { records = records; statistics = statistics })
+
+-- ---- step 5
 -- well formed, with its device errors in their order; or malformed; or well formed up to a statistics count that isn't 0
 pub data Report : Type 0 where
-  Whole : List Named → Report
+  Whole : List DeviceError → Report
   Malformed : Report
   Statistics : Report
 
-abbrev pub naming : Named → Report → Report
-naming x (Whole xs) = Whole (x ∷ xs)
-naming x Malformed = Malformed
-naming x Statistics = Statistics
+unfoldable pub joined : List (List DeviceError) → List DeviceError
+joined [] = []
+joined (r ∷ rs) = r ++ joined rs
 
--- the device error that the first 24 bytes hold
-abbrev pub namedAt : List ℕ → Named
-namedAt s = record { high = beNat 8 s; low = beNat 8 (drop 8 s); status = beNat 4 (drop 16 s) }
-
--- the statistics count, and nothing after it
-unfoldable pub statistics : List ℕ → Report
-statistics s = cond (ltb (length s) 4) Malformed (cond (eqb (beNat 4 s) 0) (cond (eqb (length s) 4) (Whole []) Malformed) Statistics)
-
--- n device errors, and then what `rest` makes of the bytes after them
-unfoldable pub devices : ℕ → (List ℕ → Report) → List ℕ → Report
-devices zero rest s = rest s
-devices (suc n) rest s = cond (ltb (length s) 24) Malformed (naming (namedAt s) (devices n rest (drop 24 s)))
-
--- n error records, and then the statistics
-unfoldable pub records : ℕ → List ℕ → Report
-records zero s = statistics s
-records (suc n) s = cond (ltb (length s) 36) Malformed (devices (beNat 4 (drop 32 s)) (records n) (drop 36 s))
+abbrev pub judged : Read Returned → Report
+judged Short = Malformed
+judged (Got r rest) = cond (eqb (r .statistics) 0) (cond (eqb (length rest) 0) (Whole (joined (r .records))) Malformed) Statistics
 
 unfoldable pub reportOf : List ℕ → Report
-reportOf s = cond (ltb (length s) 4) Malformed (records (beNat 4 s) (drop 4 s))
+reportOf s = judged (layoutreturn s)
 
 -- 0, 10036 BADXDR, 10004 NOTSUPP
 abbrev pub statusOf : Report → ℕ
@@ -52,11 +67,11 @@ statusOf Malformed = 10036
 statusOf Statistics = 10004
 
 -- ---- what a caller makes of a report: `f` over its device errors in their order, from `a` on; `bad` and `more` where it has none to give
-unfoldable pub over : {A : Type 0} → (A → Named → A) → A → List Named → A
+unfoldable pub over : {A : Type 0} → (A → DeviceError → A) → A → List DeviceError → A
 over f a [] = a
 over f a (x ∷ xs) = over f (f a x) xs
 
-unfoldable pub outcome : {A : Type 0} → (A → Named → A) → A → A → A → Report → A
+unfoldable pub outcome : {A : Type 0} → (A → DeviceError → A) → A → A → A → Report → A
 outcome f bad more a (Whole xs) = over f a xs
 outcome f bad more a Malformed = bad
 outcome f bad more a Statistics = more

@@ -1,45 +1,87 @@
--- MODEL of the code: what stands at a cursor of a report. `proofs/Steps.antt` proves that the steps visit the device errors of `Report`.
-use Prim.Native.Nat.{ℕ, zero, suc, _+_, _-_, _*_}
+-- MODEL of the code: what stands at a cursor of a report, and the report from a cursor on. proofs/Reports.antt proves that the steps from the
+-- start visit the device errors of `reportOf`.
+--     devices, records    the device errors and the error records still to come, and then the rest
+--     startOf, stepAt     what `start` and `step` answer
+--     reportFrom, after   the report from a cursor on; the same by what stands there
+use Prim.Native.Nat.{ℕ, zero, suc, _+_, _-_}
 use mathlib.Core.List.{List, [], _∷_}
-use mathlib.Core.Bool.{Bool, true, false, cond}
-use lib.ListN.{length, drop}
+use mathlib.Core.Bool.{cond}
+use lib.ListN.{length, take, drop}
 use lib.Dec.{ltb, eqb}
 use Rattle.xdr.specs.Be.{beNat}
 use Rattle.wire.specs.Report as report
+use Rattle.wire.specs.Report.{Report, DeviceError}
 use Rattle.wire.specs.declared.report.Cursor.{Cursor}
 use Rattle.wire.specs.declared.report.Entry.{Entry}
 use Rattle.wire.specs.declared.report.Entry.the-variants.{Device, Record, End, Statistics, Malformed}
 
+-- ---- a report as it is walked
+abbrev pub naming : DeviceError → Report → Report
+naming x (report.Whole xs) = report.Whole (x ∷ xs)
+naming x report.Malformed = report.Malformed
+naming x report.Statistics = report.Statistics
+
+-- the device error that the first 24 bytes hold, in the record at place i
+abbrev pub errorIn : ℕ → List ℕ → DeviceError
+errorIn i s = record { inRecord = i; device = take 16 s; status = beNat 4 (drop 16 s) }
+
+-- the statistics count, and nothing after it
+unfoldable pub statistics : List ℕ → Report
+statistics s =
+    cond (ltb (length s) 4) report.Malformed (cond (eqb (beNat 4 s) 0) (cond (eqb (length s) 4) (report.Whole []) report.Malformed) report.Statistics)
+
+-- n device errors of the record at place i, and then what `rest` makes of the bytes after them
+unfoldable pub devices : ℕ → ℕ → (List ℕ → Report) → List ℕ → Report
+devices i zero rest s = rest s
+devices i (suc n) rest s = cond (ltb (length s) 24) report.Malformed (naming (errorIn i s) (devices i n rest (drop 24 s)))
+
+-- the last n of `total` error records, and then the statistics
+unfoldable pub records : ℕ → ℕ → List ℕ → Report
+records total zero s = statistics s
+records total (suc n) s = cond (ltb (length s) 36) report.Malformed (devices (total - suc n) (beNat 4 (drop 32 s)) (records total n) (drop 36 s))
+
+-- ---- the code's answers
 unfoldable pub startOf : List ℕ → Cursor
 startOf s =
     cond (ltb (length s) 4) (record { at = 0; records = 0; devices = 0 }) (record { at = 4; records = beNat 4 s; devices = 0 })
 
-abbrev pub lastStep : List ℕ → ℕ → Entry
-lastStep s at =
-    cond (ltb (length s - at) 4) Malformed (cond (eqb (beNat 4 (drop at s)) 0) (cond (eqb (length s - at) 4) End Malformed) Statistics)
+-- where no record is to come, by the status of what is left
+abbrev pub ending : ℕ → Entry
+ending k = cond (eqb k 0) End (cond (eqb k 10004) Statistics Malformed)
 
-abbrev pub recordStep : List ℕ → ℕ → ℕ → Entry
+unfoldable pub lastStep : List ℕ → ℕ → Entry
+lastStep s at = ending (report.statusOf (statistics (drop at s)))
+
+unfoldable pub recordStep : List ℕ → ℕ → ℕ → Entry
 recordStep s at r =
     cond (eqb r 0) (lastStep s at)
     (cond (ltb (length s - at) 36) Malformed (Record (record { at = at + 36; records = r - 1; devices = beNat 4 (drop (at + 32) s) })))
+
+-- the place of the record at hand: all but those to come, less one
+abbrev pub placeOf : List ℕ → ℕ → ℕ
+placeOf s r = beNat 4 s - r - 1
 
 abbrev pub deviceStep : List ℕ → ℕ → ℕ → ℕ → Entry
 deviceStep s at r d =
     cond (eqb d 0) (recordStep s at r)
     (cond (ltb (length s - at) 24) Malformed
-    (Device (beNat 8 (drop at s)) (beNat 8 (drop (at + 8) s)) (beNat 4 (drop (at + 16) s)) (record { at = at + 24; records = r; devices = d - 1 })))
+    (Device (placeOf s r) (beNat 8 (drop at s)) (beNat 8 (drop (at + 8) s)) (beNat 4 (drop (at + 16) s)) (record { at = at + 24; records = r; devices = d - 1 })))
 
 unfoldable pub stepAt : List ℕ → Cursor → Entry
 stepAt s c = deviceStep s (c .at) (c .records) (c .devices)
 
--- the report from a cursor on
-unfoldable pub reportFrom : List ℕ → Cursor → report.Report
-reportFrom s c = report.devices (c .devices) (report.records (c .records)) (drop (c .at) s)
+-- ---- the report from a cursor on
+-- the device error at a cursor
+abbrev pub errorAt : List ℕ → Cursor → DeviceError
+errorAt s c = errorIn (placeOf s (c .records)) (drop (c .at) s)
+
+unfoldable pub reportFrom : List ℕ → Cursor → Report
+reportFrom s c = devices (placeOf s (c .records)) (c .devices) (records (beNat 4 s) (c .records)) (drop (c .at) s)
 
 -- the report from a cursor on, by what stands at the cursor
-unfoldable pub after : List ℕ → Entry → report.Report
-after s (Device h l st next) = report.naming (record { high = h; low = l; status = st }) (reportFrom s next)
-after s (Record next) = reportFrom s next
-after s End = report.Whole []
-after s Statistics = report.Statistics
-after s Malformed = report.Malformed
+unfoldable pub after : List ℕ → Cursor → Entry → Report
+after s c (Device i h l st next) = naming (errorAt s c) (reportFrom s next)
+after s c (Record next) = reportFrom s next
+after s c End = report.Whole []
+after s c Statistics = report.Statistics
+after s c Malformed = report.Malformed

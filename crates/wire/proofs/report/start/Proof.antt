@@ -1,24 +1,19 @@
+-- By computing what the start of a report is.
 use borrow.Author.Tests.{lt-ltb, le-ltb}
-use Rattle.wire.specs.ReportSteps.{startOf}
 use lib.ListN.{length}
+use Rattle.wire.specs.ReportSteps.{startOf}
 use native.Mathlib.Omega.{arith}
 use borrow.Author.Needs.{needs}
 use Rattle.wire.proofs.report.start.Statement.{statement}
 use Rattle.wire.proofs.report.start.Tie as tie
-use Rattle.wire.proofs.report.start.Reads as reads
-use Rattle.wire.proofs.report.start.Lts as lts
-use Rattle.xdr.proofs.be32.Reads as be32-reads
 
--- src/lib.rt:45:9
 returns : tie.Need-returns
 unfolding startOf
 returns c = simp (lt-ltb (length (c .before .before .args .s .now)) 4 (omega arith))
 
--- src/lib.rt:53:18
 be32-requires : tie.Need-be32-requires
 be32-requires c κs = search needs
 
--- src/lib.rt:41:1
 returns-2 : tie.Need-returns-2
 unfolding startOf
 returns-2 c = simp (le-ltb (length (c .before .before .before .args .s .now)) 4 (omega arith), c .be32 .ensures)

@@ -1,0 +1,53 @@
+-- Rests on the laws of a step at a record.
+use Rattle.wire.proofs.Reports.{no-record, record-short, record-found}
+use native.Mathlib.Omega.{arith}
+use borrow.Author.Needs.{needs}
+use Rattle.wire.proofs.report.record_step.Statement.{statement}
+use Rattle.wire.proofs.report.record_step.Tie as tie
+
+last-step-requires : tie.Need-last-step-requires
+last-step-requires c κs = search needs
+
+returns : tie.Need-returns
+returns c =
+    let a = c .before .before .before .args in
+    no-record (a .s .now) (a .at) (omega arith) (c .last-step .ensures)
+
+left-requires : tie.Need-left-requires
+left-requires c κs = search needs
+
+returns-2 : tie.Need-returns-2
+returns-2 c =
+    let a = c .before .before .before .before .args in
+    record-short (a .s .now) (a .at) (λ h. omega arith) (omega arith)
+
+add-t5 : tie.Need-add-t5
+add-t5 c = search needs
+
+sub-t6 : tie.Need-sub-t6
+sub-t6 c = search needs
+
+add-be32 : tie.Need-add-be32
+add-be32 c = search needs
+
+be32-requires : tie.Need-be32-requires
+be32-requires c κs = search needs
+
+returns-3 : tie.Need-returns-3
+returns-3 c =
+    let a = c .before .before .before .before .before .args in
+    record-found (a .s .now) (a .at) (λ h. omega arith) (omega arith) (c .be32 .ensures)
+
+pub record-step-spec : {M : Type 1} → statement M
+record-step-spec =
+    tie.close
+    (tie.spec
+    last-step-requires
+    returns
+    left-requires
+    returns-2
+    add-t5
+    sub-t6
+    add-be32
+    be32-requires
+    returns-3)
