@@ -11,7 +11,8 @@ use lib.Seq.{getD-set-same, getD-set-other}
 use borrow.Author.Tests.{eq-eqb, ne-eqb}
 use Rattle.files.specs.Lists.{any, has, with, fill}
 use Rattle.files.specs.Places.{bump, first, placeOr}
-use Rattle.files.specs.Devices.{Device, sameDevice, isMirror, placeOf}
+use Rattle.wire.specs.Device.{Device}
+use Rattle.files.specs.Devices.{sameDevice, isMirror, placeOf}
 use Rattle.files.specs.Mirrors.{noMirror, noMirrors, isDevice, isGood, unblamed, blamedMirror, mirrorOf, placedMirrors, sourceIn}
 use Rattle.files.specs.Blame.{blameAt}
 use Rattle.files.specs.declared.mirrors.Mirror.{Mirror}

@@ -13,7 +13,8 @@ use borrow.Author.Tests.{eqb-true, eqb-false, leb-true, leb-false, eq-eqb, ne-eq
 use Rattle.xdr.specs.Be.{beNat}
 use Rattle.files.specs.Lists.{any, none, fill}
 use Rattle.files.specs.Places.{first}
-use Rattle.files.specs.Devices.{Device, sameDevice, deviceIn, devicesIn, mirrorsIn, isMirror, twice, badMirrors}
+use Rattle.wire.specs.Device.{Device, halves}
+use Rattle.files.specs.Devices.{sameDevice, devicesIn, mirrorsIn, isMirror, twice, badMirrors}
 use Rattle.files.specs.Mirrors.{noMirror, newMirror, mirrorOf, isAt, isDevice, wholeList, refusedList, placedMirrors, enrolledOf}
 use Rattle.files.specs.declared.mirrors.Mirror.{Mirror}
 use Rattle.files.specs.declared.enrol.Enrolled.{Enrolled}
@@ -28,13 +29,13 @@ unfolding devicesIn
 devices-length zero s = refl
 devices-length (suc n) s = ap suc (devices-length n (drop 16 s))
 
-devices-snoc : (n : ℕ) (s : List ℕ) → devicesIn (suc n) s ≡ devicesIn n s ++ deviceIn (drop (16 * n) s) ∷ []
+devices-snoc : (n : ℕ) (s : List ℕ) → devicesIn (suc n) s ≡ devicesIn n s ++ halves (drop (16 * n) s) ∷ []
 unfolding devicesIn
 devices-snoc zero s = refl
 devices-snoc (suc n) s =
     let e : 16 + 16 * n ≡ 16 * suc n = omega arith in
     let q : drop (16 * n) (drop 16 s) ≡ drop (16 * suc n) s = drop-drop (16 * n) 16 s ∙ ap (λ k. drop k s) e in
-    ap {B = List Device} (λ t. deviceIn s ∷ t) (devices-snoc n (drop 16 s) ∙ ap (λ t. devicesIn n (drop 16 s) ++ deviceIn t ∷ []) q)
+    ap {B = List Device} (λ t. halves s ∷ t) (devices-snoc n (drop 16 s) ∙ ap (λ t. devicesIn n (drop 16 s) ++ halves t ∷ []) q)
 
 -- ---- a device twice
 same-sym : (d e : Device) → sameDevice d e ≡ sameDevice e d
@@ -55,7 +56,7 @@ twice-snoc (e ∷ es) d =
 still-twice : (k j : ℕ) (s : List ℕ) → twice (devicesIn k s) ≡ true → twice (devicesIn (k + j) s) ≡ true
 still-twice k zero s e = ap (λ n. twice (devicesIn n s)) (omega arith) ∙ e
 still-twice k (suc j) s e =
-    rw (add-suc, devices-snoc (k + j) s, twice-snoc (devicesIn (k + j) s) (deviceIn (drop (16 * (k + j)) s)), still-twice k j s e)
+    rw (add-suc, devices-snoc (k + j) s, twice-snoc (devicesIn (k + j) s) (halves (drop (16 * (k + j)) s)), still-twice k j s e)
 
 -- ---- whole lists
 record Whole (n : ℕ) : Type 0 where
@@ -122,16 +123,16 @@ module _ {s : List ℕ} {ms : List Mirror} {i : ℕ} (r : Enrolling s ms i) wher
   whole-so = record { ids = r .ids; some = r .some; few = r .few }
 
   module _ (h : 16 * i < length s) {high low : ℕ} (a : high ≡ beNat 8 (drop (16 * i) s)) (b : low ≡ beNat 8 (drop (16 * i + 8) s)) where
-    device-is : record { high = high; low = low } ≡ deviceIn (drop (16 * i) s)
+    device-is : record { high = high; low = low } ≡ halves (drop (16 * i) s)
     device-is = rw (a, b, ← drop-drop 8 (16 * i) s)
 
-    named : any (isAt high low) ms ≡ isMirror (deviceIn (drop (16 * i) s)) (devicesIn i s)
+    named : any (isAt high low) ms ≡ isMirror (halves (drop (16 * i) s)) (devicesIn i s)
     named = rw (r .so-far, ← device-is) (known (record { high = high; low = low }) (slots-new (devicesIn i s) (omega (arith, devices-length i s, r .few))))
 
     pub enrolling-twice : {k : ℕ} → first (isAt high low) ms ≡ At k → refusedList ≡ enrolledOf s
     unfolding enrolledOf
     enrolling-twice {k} e =
-        let t : twice (devicesIn (suc i) s) ≡ true = rw (devices-snoc i s, twice-snoc (devicesIn i s) (deviceIn (drop (16 * i) s)), r .apart) (sym named ∙ first-at (isAt high low) ms k e) in
+        let t : twice (devicesIn (suc i) s) ≡ true = rw (devices-snoc i s, twice-snoc (devicesIn i s) (halves (drop (16 * i) s)), r .apart) (sym named ∙ first-at (isAt high low) ms k e) in
         let n : suc i + (length s / 16 - suc i) ≡ length s / 16 = omega (arith, r .ids) in
         rw (whole-bad s whole-so ∙ ap (λ n. twice (devicesIn n s)) (sym n) ∙ still-twice (suc i) (length s / 16 - suc i) s t)
 
@@ -141,7 +142,7 @@ module _ {s : List ℕ} {ms : List Mirror} {i : ℕ} (r : Enrolling s ms i) wher
       some = r .some;
       few = r .few;
       within = omega (arith, r .ids);
-      apart = rw (add-one, devices-snoc i s, twice-snoc (devicesIn i s) (deviceIn (drop (16 * i) s)), r .apart) (sym named ∙ first-nothing (isAt high low) ms e);
+      apart = rw (add-one, devices-snoc i s, twice-snoc (devicesIn i s) (halves (drop (16 * i) s)), r .apart) (sym named ∙ first-nothing (isAt high low) ms e);
       so-far = rw (add-one, devices-snoc i s, map-append, q, r .so-far) (put ∙ ap (λ (d : Device). fill (map mirrorOf (devicesIn i s) ++ mirrorOf d ∷ []) (replicate 4 noMirror)) device-is);
     }
       where

@@ -3,3 +3,4 @@ pub mod Sets
 pub mod Loops
 pub mod Copies
 pub mod Enrolling
+mod Hearing

@@ -4,8 +4,9 @@ use mathlib.Core.Bool.{Bool, true, false, cond}
 use Prim.Native.Nat.{ℕ}
 use lib.ListN.{getD, set}
 use lib.Dec.{eqb}
-use Rattle.wire.specs.Report.{Named, Report, outcome}
+use Rattle.wire.specs.Report.{DeviceError, Report, outcome}
 use Rattle.files.specs.Places.{first}
+use Rattle.files.specs.Devices.{deviceOf}
 use Rattle.files.specs.Mirrors.{noMirror, isAt, blamedMirror}
 use Rattle.files.specs.declared.mirrors.Mirror.{Mirror}
 use Rattle.files.specs.declared.blame.Heard.{Heard}
@@ -25,8 +26,8 @@ toldAt h s (At i) = cond (eqb s 0) h (record { mirrors = blameAt (h .mirrors) i;
 unfoldable pub toldOf : Heard → ℕ → ℕ → ℕ → Heard
 toldOf h hi lo s = toldAt h s (first (isAt hi lo) (h .mirrors))
 
-abbrev pub told : Heard → Named → Heard
-told h x = toldOf h (x .high) (x .low) (x .status)
+abbrev pub told : Heard → DeviceError → Heard
+told h x = toldOf h (deviceOf x .high) (deviceOf x .low) (x .status)
 
 -- 10036: the report is malformed; 10004: statistics follow
 unfoldable pub heardOf : List Mirror → Report → Heard

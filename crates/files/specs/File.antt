@@ -13,7 +13,7 @@ use Rattle.files.specs.Lists.{chosen, fill}
 use Rattle.files.specs.Places.{first, leftOut}
 use Rattle.files.specs.Mirrors.{noMirrors, unblamed, sourceIn}
 use Rattle.files.specs.Blame.{heardOf}
-use Rattle.files.specs.Intents.{noIntent, noIntents, intentOf, isIntent, isFree, isKept, isOpen, reclaimedIf, unreclaimedIntent}
+use Rattle.files.specs.Intents.{noIntent, noIntents, intentOf, isIntent, isFree, isKept, firstTaken, reclaimedIf, unreclaimedIntent}
 use Rattle.files.specs.declared.mirrors.Mirror.{Mirror}
 use Rattle.files.specs.declared.intents.Intent.{Intent}
 use Rattle.files.specs.declared.blame.Heard.{Heard}
@@ -98,10 +98,10 @@ mendedFile f = withMark false (withMirrors (map unblamed (f .mirrors)) f)
 unfoldable pub repairedFile : ℕ → Bool → File → FileAnswered
 repairedFile n g f =
     ofFile n f
-    (cond (f .marked) (cond (isOpen (f .intents)) (fileAnswered 10008 f) (fileAnswered 0 (mendedFile f))) (fileAnswered 22 f))
+    (cond (f .marked) (cond (firstTaken (f .intents)) (fileAnswered 10008 f) (fileAnswered 0 (mendedFile f))) (fileAnswered 22 f))
 
 unfoldable pub forgettable : ℕ → Bool → File → ℕ
-forgettable n g f = cond g 10013 (cond (isFile n f) (cond (f .marked) 10008 (cond (isOpen (f .intents)) 10008 0)) 70)
+forgettable n g f = cond g 10013 (cond (isFile n f) (cond (f .marked) 10008 (cond (firstTaken (f .intents)) 10008 0)) 70)
 
 -- ---- LAYOUTRETURN
 -- step 7: a report that names an unknown device only marks
@@ -143,7 +143,7 @@ restartedFile f = withRecovered false (withIntents (map unreclaimedIntent (f .in
 
 unfoldable pub endedFile : File → File
 endedFile f =
-    withMark (cond (unreclaimedBar (isOpen (f .intents)) (f .recovered)) true (f .marked))
+    withMark (cond (unreclaimedBar (firstTaken (f .intents)) (f .recovered)) true (f .marked))
     (withIntents (fill (chosen isKept (f .intents)) noIntents) f)
 
 -- ---- the lists
@@ -151,7 +151,7 @@ abbrev pub isListed : File → Bool
 isListed f = cond (f .used) (f .marked) false
 
 abbrev pub isReady : File → Bool
-isReady f = cond (isListed f) (not (isOpen (f .intents))) false
+isReady f = cond (isListed f) (not (firstTaken (f .intents))) false
 
 unfoldable pub sourceOf : File → ℕ
 sourceOf f = sourceIn (f .mirrors)

@@ -26,8 +26,8 @@ abbrev pub isKept : Intent → Bool
 isKept x = cond (x .taken) (x .reclaimed) false
 
 -- the free places are last
-abbrev pub isOpen : List Intent → Bool
-isOpen xs = getD xs 0 noIntent .taken
+abbrev pub firstTaken : List Intent → Bool
+firstTaken xs = getD xs 0 noIntent .taken
 
 -- ---- changes
 abbrev pub withReclaimed : Bool → Intent → Intent

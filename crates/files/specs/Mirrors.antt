@@ -6,7 +6,8 @@ use lib.ListN.{replicate}
 use lib.Dec.{eqb, leb}
 use Rattle.files.specs.Lists.{fill}
 use Rattle.files.specs.Places.{first, placeOr}
-use Rattle.files.specs.Devices.{Device, mirrorsIn, badMirrors}
+use Rattle.wire.specs.Device.{Device}
+use Rattle.files.specs.Devices.{mirrorsIn, badMirrors}
 use Rattle.files.specs.declared.mirrors.Mirror.{Mirror}
 use Rattle.files.specs.declared.enrol.Enrolled.{Enrolled}
 

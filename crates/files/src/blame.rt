@@ -58,6 +58,7 @@ pub fn listen(mirrors: [Mirror; 4], body: &[u8]) -> Heard
     loop {
         match wire::report::step(body, c) {
             Entry::Device {
+                record: _,
                 high,
                 low,
                 status,

@@ -6,7 +6,7 @@ ghost use Prim.Native.Nat.{_<_};
 ghost use lib.ListN.{replicate};
 ghost use Rattle.files.specs.Lists.{chosen, fill};
 ghost use Rattle.files.specs.Places.{first, leftOut};
-ghost use Rattle.files.specs.Intents.{noIntent, intentOf, isIntent, isFree, isKept, reclaimedIf, unreclaimedIntent, isOpen};
+ghost use Rattle.files.specs.Intents.{noIntent, intentOf, isIntent, isFree, isKept, reclaimedIf, unreclaimedIntent, firstTaken};
 
 // A place for an intent: its client, whether the place is taken, and whether the client has reclaimed since the latest restart.
 #[repr(C)]
@@ -119,7 +119,7 @@ pub fn room(intents: [Intent; 8]) -> Found
 
 // Whether an intent is open: the free places are last, so the first place says it.
 pub fn busy(intents: [Intent; 8]) -> bool
-    ensures { λ r. ⌜ r ≡ isOpen intents ⌝ }
+    ensures { λ r. ⌜ r ≡ firstTaken intents ⌝ }
 {
     let x = intents[0];
     x.taken

@@ -6,7 +6,8 @@ use lib.ListN.{length}
 use borrow.Author.Needs.{needs}
 use Rattle.wire.specs.Report.{reportOf, outcome}
 use Rattle.wire.specs.ReportSteps.{reportFrom}
-use Rattle.wire.proofs.Reports.{device-forward, record-forward, fold-begins, fold-device, fold-record, fold-end, fold-statistics, fold-malformed}
+use Rattle.wire.proofs.Reports.{device-forward, device-given, record-forward, fold-begins, fold-device, fold-record, fold-end, fold-statistics, fold-malformed}
+use Rattle.files.proofs.Hearing.{told-given}
 use Rattle.files.specs.Blame.{heardNothing, told, heardOf}
 use Rattle.files.proofs.blame.listen.Statement.{statement}
 use Rattle.files.proofs.blame.listen.Tie as tie
@@ -39,7 +40,10 @@ loop-less : tie.Need-loop-less Inv-loop μ-loop
 loop-less c = omega (arith, device-forward (c .before .before .before .before .before .before .before .before .before .args .body .now) (c .before .before .before .before .before .loop .c) (sym (c .before .before .before .before .step .ensures) ∙ c .before .before .high .given .1))
 
 loop-again : tie.Need-loop-again Inv-loop μ-loop
-loop-again c = rw (c .told .ensures) (fold-device told (heardNothing (c .before .before .before .before .before .before .before .before .before .args .mirrors) 10036) (heardNothing (c .before .before .before .before .before .before .before .before .before .args .mirrors) 10004) (c .before .before .before .before .before .loop .h) (c .before .before .before .before .before .before .before .before .before .args .body .now) (c .before .before .before .before .before .loop .c) (c .before .before .before .before .before .loop .inv) (sym (c .before .before .before .before .step .ensures) ∙ c .before .before .high .given .1))
+loop-again c =
+    let e = sym (c .before .before .before .before .step .ensures) ∙ c .before .before .high .given .1 in
+    rw (c .told .ensures ∙ told-given (c .before .before .before .before .before .loop .h) (device-given (c .before .before .before .before .before .before .before .before .before .args .body .now) (c .before .before .before .before .before .loop .c) e))
+    (fold-device told _ _ (c .before .before .before .before .before .loop .h) (c .before .before .before .before .before .before .before .before .before .args .body .now) (c .before .before .before .before .before .loop .c) (c .before .before .before .before .before .loop .inv) e)
 
 enum-known-next : tie.Need-enum-known-next Inv-loop μ-loop
 enum-known-next c = search needs
