@@ -2,7 +2,8 @@
 use mathlib.Core.Path.{_≡_, refl, sym, _∙_}
 use mathlib.Core.List.{List, [], _∷_, _++_}
 use mathlib.Core.Bool.{Bool, cond, true, false, not}
-use Prim.Native.Nat.{ℕ}
+use Prim.Native.Nat.{ℕ, zero, suc}
+use lib.ListN.{getD}
 use native.Mathlib.Omega.{arith}
 use native.Mathlib.Decide.{ℕ-discrete}
 use lib.Dec.{eqb}
@@ -100,3 +101,28 @@ pub first-at : {A : Type 0} (p : A → Bool) (xs : List A) (i : ℕ) → first p
 unfolding first any
 first-at p [] i e = let z : _≡_ {A = ℕ} 0 1 = cc in absurd (omega arith)
 first-at p (x ∷ xs) i e = first-by (p x) (first p xs) (any p xs) (λ j q. first-at p xs j q) i e
+
+pub none-first : {A : Type 0} (p : A → Bool) (xs : List A) → any p xs ≡ false → first p xs ≡ Nothing
+unfolding first any
+none-first p [] e = refl
+none-first p (x ∷ xs) e = by (p x) (any p xs) e (none-first p xs)
+  where
+    by : (b c : Bool) → cond b true c ≡ false → (c ≡ false → first p xs ≡ Nothing) → cond b (At 0) (bump (first p xs)) ≡ Nothing
+    by true c q f = true-false q
+    by false c q f = rw (f q)
+
+pub first-no : (b c : Bool) → cond b true c ≡ false → b ≡ false
+first-no true c e = e
+first-no false c e = refl
+
+pub rest-no : (b c : Bool) → cond b true c ≡ false → c ≡ false
+rest-no true c e = true-false e
+rest-no false c e = e
+
+-- none passes, so that at no place does
+pub none-at : {A : Type 0} (p : A → Bool) (d : A) → p d ≡ false → (xs : List A) (i : ℕ) → any p xs ≡ false → p (getD xs i d) ≡ false
+unfolding any
+none-at p d z [] i e = z
+none-at p d z (x ∷ xs) zero e = first-no (p x) (any p xs) e
+none-at p d z (x ∷ xs) (suc i) e = none-at p d z xs i (rest-no (p x) (any p xs) e)
+

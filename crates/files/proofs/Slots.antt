@@ -5,6 +5,8 @@ use mathlib.Core.Bool.{Bool, cond, true, false}
 use Prim.Native.Nat.{ℕ, zero, suc, _<_, _≤_}
 use native.Mathlib.Omega.{arith}
 use lib.ListN.{getD, set, length, take, drop, replicate, length-append, take-append-drop}
+use lib.Dec.{ltb}
+use borrow.Author.Tests.{ltb-true, ltb-false, lt-ltb, le-ltb}
 use Rattle.files.specs.Lists.{any, chosen, amend, discard, firstOr, fill}
 use Rattle.files.specs.Places.{first, pull, leftOut}
 use Rattle.files.specs.declared.places.Found.the-variants.{At, Nothing}
@@ -241,3 +243,19 @@ module _ {A B : Type 0} {R : A → B → Type 0} {F : A → Type 0} (p : A → B
   pub roomFor : {xs : List A} {ys : List B} → Slots R F xs ys → Room R F p xs ys
   roomFor (rest h) = room-rest h
   roomFor (item r s) = room-item r (roomFor s)
+
+-- ---- one place: it is an element's as long as there is one
+all-at : {A : Type 0} {F : A → Type 0} {xs : List A} (i : ℕ) (d : A) → i < length xs → All F xs → F (getD xs i d)
+all-at i d h all-nil = absurd (omega arith)
+all-at zero d h (all-cons f t) = f
+all-at (suc i) d h (all-cons f t) = all-at i d (omega arith) t
+
+less-suc : (i n : ℕ) (b : Bool) → ltb i n ≡ b → b ≡ ltb (suc i) (suc n)
+less-suc i n true e = sym (lt-ltb (suc i) (suc n) (omega (arith, ltb-true i n e)))
+less-suc i n false e = sym (le-ltb (suc i) (suc n) (omega (arith, ltb-false i n e)))
+
+pub slots-at : {A B : Type 0} {R : A → B → Type 0} {F : A → Type 0} {xs : List A} {ys : List B} (p : A → Bool)
+    → ((x : A) (y : B) → R x y → p x ≡ true) → ((x : A) → F x → p x ≡ false) → (i : ℕ) (d : A) → i < length xs → Slots R F xs ys → p (getD xs i d) ≡ ltb i (length ys)
+slots-at p used free i d h (rest f) = free _ (all-at i d h f) ∙ sym (le-ltb i 0 (omega arith))
+slots-at p used free zero d h (item {x} {y} {ys = ys} r s) = used x y r ∙ sym (lt-ltb 0 (suc (length ys)) (omega arith))
+slots-at p used free (suc i) d h (item {ys = ys} r s) = slots-at p used free i d (omega arith) s ∙ less-suc i (length ys) (ltb i (length ys)) refl

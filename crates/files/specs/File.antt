@@ -98,7 +98,7 @@ mendedFile f = withMark false (withMirrors (map unblamed (f .mirrors)) f)
 unfoldable pub repairedFile : ℕ → Bool → File → FileAnswered
 repairedFile n g f =
     ofFile n f
-    (cond (f .marked) (cond (firstTaken (f .intents)) (fileAnswered 10008 f) (fileAnswered 0 (mendedFile f))) (fileAnswered 22 f))
+    (cond (not (f .marked)) (fileAnswered 22 f) (cond (firstTaken (f .intents)) (fileAnswered 10008 f) (fileAnswered 0 (mendedFile f))))
 
 unfoldable pub forgettable : ℕ → Bool → File → ℕ
 forgettable n g f = cond g 10013 (cond (isFile n f) (cond (f .marked) 10008 (cond (firstTaken (f .intents)) 10008 0)) 70)
