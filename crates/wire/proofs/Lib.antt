@@ -4,4 +4,5 @@ pub mod Replies
 pub mod ReportExamples
 pub mod ReportModel
 pub mod Reports
+pub mod RequestModel
 pub mod Requests

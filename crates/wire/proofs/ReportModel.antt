@@ -4,15 +4,15 @@ use mathlib.Core.Path.{_≡_, refl, sym, ap, _∙_}
 use mathlib.Core.List.{List, [], _∷_, _++_}
 use mathlib.Core.Bool.{Bool, true, false, cond}
 use native.Mathlib.Omega.{arith}
-use borrow.Author.Tests.{eq-eqb, ne-eqb, eqb-true, eqb-false, ltb-false}
+use borrow.Author.Tests.{ltb-false}
 use lib.ListN.{length, take, drop, length-drop}
 use lib.Seq.{drop-drop}
 use lib.Dec.{ltb, eqb}
 use Rattle.xdr.specs.Be.{beNat}
-use Rattle.wire.specs.Reader.{Read, Got, Short, Reader, onward, _>>=_, give, number, inTurn, counted}
+use Rattle.wire.specs.Reader.{Read, Got, Bad, Reader, onward, _>>=_, give, number, inTurn, counted}
 use Rattle.wire.specs.Report.{Report, Whole, Malformed, Statistics, DeviceError, Returned, deviceError, ioerr, layoutreturn, joined, judged, reportOf}
 use Rattle.wire.specs.ReportSteps.{naming, errorIn, statistics, devices, records}
-use Rattle.wire.proofs.Readers.{Leads, no-bytes, number-first, opaque-first, then}
+use Rattle.wire.proofs.Readers.{Leads, no-bytes, number-first, opaque-first, then, none-left}
 
 -- a device error is 24 bytes
 device-read : (i : ℕ) → Leads 24 (deviceError i) (λ s. give (errorIn i s))
@@ -47,12 +47,12 @@ all-append (x ∷ xs) ys p = ap (naming x) (all-append xs ys p)
 
 -- ---- device errors
 abbrev spread : (List ℕ → Report) → Read (List DeviceError) → Report
-spread rest Short = Malformed
+spread rest Bad = Malformed
 spread rest (Got xs t) = nameAll xs (rest t)
 
 one-more : (rest : List ℕ → Report) (x : DeviceError) (r : Read (List DeviceError)) {p : Report} → p ≡ spread rest r
     → naming x p ≡ spread rest (onward r (λ xs. give (x ∷ xs)))
-one-more rest x Short e = ap (naming x) e
+one-more rest x Bad e = ap (naming x) e
 one-more rest x (Got xs t) e = ap (naming x) e
 
 devices-read : (i j n : ℕ) (rest : List ℕ → Report) (s : List ℕ) → devices i n rest s ≡ spread rest (inTurn j n (λ _. deviceError i) s)
@@ -66,13 +66,13 @@ devices-read i j (suc n) rest s =
     more x = inTurn (suc j) n (λ _. deviceError i) >>= λ xs. give (x ∷ xs)
 
     by-size : (b : Bool) → naming (errorIn i s) (devices i n rest (drop 24 s)) ≡ spread rest (more (errorIn i s) (drop 24 s))
-        → cond b Malformed (naming (errorIn i s) (devices i n rest (drop 24 s))) ≡ spread rest (onward (cond b Short (Got (errorIn i s) (drop 24 s))) more)
+        → cond b Malformed (naming (errorIn i s) (devices i n rest (drop 24 s))) ≡ spread rest (onward (cond b Bad (Got (errorIn i s) (drop 24 s))) more)
     by-size true e = refl
     by-size false e = e
 
 -- ---- error records
 abbrev ended : Read (List (List DeviceError)) → Report
-ended Short = Malformed
+ended Bad = Malformed
 ended (Got rs t) = nameAll (joined rs) (statistics t)
 
 more-records : ℕ → ℕ → List DeviceError → Reader (List (List DeviceError))
@@ -80,13 +80,13 @@ more-records i n r = inTurn (suc i) n ioerr >>= λ rs. give (r ∷ rs)
 
 before-records : (xs : List DeviceError) (q : Read (List (List DeviceError))) → nameAll xs (ended q) ≡ ended (onward q (λ rs. give (xs ∷ rs)))
 unfolding joined
-before-records xs Short = all-malformed xs
+before-records xs Bad = all-malformed xs
 before-records xs (Got rs t) = sym (all-append xs (joined rs) (statistics t))
 
 module _ (total i n : ℕ) (ih : (t : List ℕ) → records total n t ≡ ended (inTurn (suc i) n ioerr t)) where
   one-record : (r : Read (List DeviceError)) → spread (records total n) r ≡ ended (onward r (more-records i n))
   unfolding more-records
-  one-record Short = refl
+  one-record Bad = refl
   one-record (Got xs t) = ap (nameAll xs) (ih t) ∙ before-records xs (inTurn (suc i) n ioerr t)
 
 records-read : (total n i : ℕ) (s : List ℕ) → i + n ≡ total → records total n s ≡ ended (inTurn i n ioerr s)
@@ -101,7 +101,7 @@ records-read total (suc n) i s e =
     ∙ one-record total i n (λ t. records-read total n (suc i) t (omega arith)) (inTurn 0 (beNat 4 (drop 32 s)) (λ _. deviceError i) (drop 36 s))))
   where
     by-size : (b : Bool) (r : Read (List DeviceError)) {p : Report} → p ≡ ended (onward r (more-records i n))
-        → cond b Malformed p ≡ ended (onward (cond b Short r) (more-records i n))
+        → cond b Malformed p ≡ ended (onward (cond b Bad r) (more-records i n))
     by-size true r e = refl
     by-size false r e = e
 
@@ -119,21 +119,14 @@ last-read rs t = by-size (ltb (length t) 4) refl
     by-rest true true c e = rw (← e) (sym (all-whole (joined rs)))
     by-rest true false c e = rw (← e) (sym (all-malformed (joined rs)))
 
-    none-left : 4 ≤ length t → eqb (length (drop 4 t)) 0 ≡ eqb (length t) 4
-    none-left h = rw length-drop (by-case (eqb (length t) 4) refl)
-      where
-        by-case : (b : Bool) → eqb (length t) 4 ≡ b → eqb (length t - 4) 0 ≡ b
-        by-case true e = eq-eqb (length t - 4) 0 (omega (arith, eqb-true (length t) 4 e))
-        by-case false e = ne-eqb (length t - 4) 0 (λ z. eqb-false (length t) 4 e (omega arith))
-
     by-size : (b : Bool) → ltb (length t) 4 ≡ b
-        → judged (onward (cond b Short (Got (beNat 4 t) (drop 4 t))) (λ n. give (record { records = rs; statistics = n })))
+        → judged (onward (cond b Bad (Got (beNat 4 t) (drop 4 t))) (λ n. give (record { records = rs; statistics = n })))
         ≡ nameAll (joined rs) (cond b Malformed (cond (eqb (beNat 4 t) 0) (cond (eqb (length t) 4) (Whole []) Malformed) Statistics))
     by-size true e = sym (all-malformed (joined rs))
-    by-size false e = by-rest (eqb (beNat 4 t) 0) (eqb (length (drop 4 t)) 0) (eqb (length t) 4) (none-left (ltb-false (length t) 4 e))
+    by-size false e = by-rest (eqb (beNat 4 t) 0) (eqb (length (drop 4 t)) 0) (eqb (length t) 4) (rw length-drop (none-left (length t) 4 (ltb-false (length t) 4 e)))
 
 all-read : (r : Read (List (List DeviceError))) → judged (onward r with-count) ≡ ended r
-all-read Short = refl
+all-read Bad = refl
 all-read (Got rs t) = last-read rs t
 
 -- a report is its error records and its statistics count, as the code walks them
@@ -143,6 +136,6 @@ as-walked s =
     by-size (ltb (length s) 4) (all-read (inTurn 0 (beNat 4 s) ioerr (drop 4 s)) ∙ sym (records-read (beNat 4 s) (beNat 4 s) 0 (drop 4 s) (omega arith)))
   where
     by-size : (b : Bool) {p : Report} → judged (onward (inTurn 0 (beNat 4 s) ioerr (drop 4 s)) with-count) ≡ p
-        → judged (onward (onward (cond b Short (Got (beNat 4 s) (drop 4 s))) (λ n. inTurn 0 n ioerr)) with-count) ≡ cond b Malformed p
+        → judged (onward (onward (cond b Bad (Got (beNat 4 s) (drop 4 s))) (λ n. inTurn 0 n ioerr)) with-count) ≡ cond b Malformed p
     by-size true e = refl
     by-size false e = e

@@ -1,6 +1,7 @@
 -- The steps of a cursor visit the device errors of a report, in their order: from each cursor on, the report is what stands at the cursor
 -- and then the report from the next cursor on. Each step goes forward, within the bytes.
--- In order: that law; what the code's tests say of a step; a caller's fold; the walk as a list; the status, record by record.
+-- In order: that law; what the code's tests say of a step; a caller's fold; the walk as a list; the first device error from a cursor on;
+-- the status, record by record.
 use Prim.Native.Nat.{ℕ, zero, suc, _+_, _-_, _*_, _≤_, _<_}
 use mathlib.Core.Path.{_≡_, refl, sym, ap, _∙_}
 use mathlib.Core.List.{List, [], _∷_}
@@ -10,17 +11,20 @@ use native.Mathlib.Nat.{add-zero}
 use lib.ListN.{length, take, drop, length-drop}
 use lib.Seq.{drop-drop}
 use lib.Dec.{ltb, eqb}
-use borrow.Author.Tests.{lt-ltb, le-ltb, eq-eqb, ne-eqb, ltb-true, ltb-false}
+use borrow.Author.Tests.{lt-ltb, le-ltb, eq-eqb, ne-eqb, ltb-true, ltb-false, eqb-false}
 use Rattle.xdr.specs.Be.{beNat}
 use Rattle.wire.specs.Device.{halves}
 use Rattle.wire.specs.Report.{Report, DeviceError, reportOf, statusOf, over, outcome}
 use Rattle.wire.specs.Report as report
-use Rattle.wire.specs.ReportSteps.{naming, errorIn, statistics, devices, records, startOf, stepAt, ending, lastStep, recordStep, placeOf, deviceStep, errorAt, reportFrom, after}
+use Rattle.wire.specs.ReportSteps.{naming, errorIn, statistics, devices, records, startOf, stepAt, ending, lastStep, recordStep, placeOf, deviceStep, nextBy, nextPast, nextAt, errorAt, reportFrom, after, afterNext, resumedAt, numbersOf, handed}
 use Rattle.wire.specs.declared.report.Cursor.{Cursor}
 use Rattle.wire.specs.declared.report.Entry.{Entry}
 use Rattle.wire.specs.declared.report.Entry.the-variants.{Device, Record, End, Statistics, Malformed}
+use Rattle.wire.specs.declared.report.Found.{Found}
+use Rattle.wire.specs.declared.report.Found.the-variants.{Error, Done}
 use Rattle.wire.proofs.Devices.{halves-taken}
 use Rattle.wire.proofs.ReportModel.{as-walked}
+use Rattle.wire.proofs.Readers.{by-test}
 
 -- ---- the law of a walk
 after-cond : (s : List ℕ) (c : Cursor) (b : Bool) (x y : Entry) → after s c (cond b x y) ≡ cond b (after s c x) (after s c y)
@@ -151,15 +155,11 @@ pub record Given (x : DeviceError) (i h l st : ℕ) : Type 0 where
   pub status : x .status ≡ st
 
 abbrev Stepped : List ℕ → Cursor → Entry → Type 0
-Stepped s c (Device i h l st next) = Forward s c next × Given (errorAt s c) i h l st
-Stepped s c (Record next) = Forward s c next
+Stepped s c (Device i h l st next) = Forward s c next × Given (errorAt s c) i h l st × (next .at ≡ c .at + 24)
+Stepped s c (Record next) = Forward s c next × (c .records ≡ suc (next .records))
 Stepped s c End = Unit
 Stepped s c Statistics = Unit
 Stepped s c Malformed = Unit
-
-by-test : (P : Entry → Type 0) (b : Bool) (x y : Entry) → (b ≡ true → P x) → (b ≡ false → P y) → P (cond b x y)
-by-test P true x y p q = p refl
-by-test P false x y p q = q refl
 
 ends-stepped : (s : List ℕ) (c : Cursor) (k : ℕ) → Stepped s c (ending k)
 ends-stepped s c k =
@@ -175,10 +175,15 @@ unfolding stepAt recordStep lastStep
 stepped s c =
     by-test (Stepped s c) (eqb (c .devices) 0) _ _
     (λ _. by-test (Stepped s c) (eqb (c .records) 0) _ _ (λ _. ends-stepped s c (statusOf (statistics (drop (c .at) s))))
-    (λ _. by-test (Stepped s c) (ltb (length s - c .at) 36) _ _ (λ _. tt)
-    (λ h. record { further = omega arith; within = omega (arith, ltb-false (length s - c .at) 36 h) })))
+    (λ z. by-test (Stepped s c) (ltb (length s - c .at) 36) _ _ (λ _. tt)
+    (λ h. (record { further = omega arith; within = omega (arith, ltb-false (length s - c .at) 36 h) }, one-less z))))
     (λ _. by-test (Stepped s c) (ltb (length s - c .at) 24) _ _ (λ _. tt)
-    (λ h. (record { further = omega arith; within = omega (arith, ltb-false (length s - c .at) 24 h) }, given-at s c)))
+    (λ h. (record { further = omega arith; within = omega (arith, ltb-false (length s - c .at) 24 h) }, given-at s c, refl)))
+  where
+    one-less : eqb (c .records) 0 ≡ false → c .records ≡ suc (c .records - 1)
+    one-less z =
+        let n : c .records ≡ 0 → ⊥ = eqb-false (c .records) 0 z in
+        omega arith
 
 module _ (s : List ℕ) (c : Cursor) {next : Cursor} where
   pub device-forward : {i h l st : ℕ} → stepAt s c ≡ Device i h l st next → Forward s c next
@@ -188,7 +193,13 @@ module _ (s : List ℕ) (c : Cursor) {next : Cursor} where
   device-given e = (rw e at (stepped s c)) .1
 
   pub record-forward : stepAt s c ≡ Record next → Forward s c next
-  record-forward e = rw e at (stepped s c)
+  record-forward e = (rw e at (stepped s c)) .0
+
+  device-next : {i h l st : ℕ} → stepAt s c ≡ Device i h l st next → next .at ≡ c .at + 24
+  device-next e = (rw e at (stepped s c)) .2
+
+  record-next : stepAt s c ≡ Record next → c .records ≡ suc (next .records)
+  record-next e = (rw e at (stepped s c)) .1
 
 -- ---- what a caller folds over the device errors: the laws of one turn, for any state `A` and any `f`. With the invariant
 -- `outcome f bad more a (reportFrom s c) ≡ answer` a turn keeps the answer, and each way out gives it. `device-given` says which
@@ -276,6 +287,82 @@ walked (suc n) s c xs h e = step-on n s c xs h e (λ next ys. walked n s next ys
 pub all-visited : (s : List ℕ) {xs : List DeviceError} → reportOf s ≡ report.Whole xs → Walk s (startOf s) xs
 all-visited s {xs} e = walked (suc (length s - startOf s .at)) s (startOf s) xs (omega arith) (begins s ∙ e)
 
+-- ---- the first device error from a cursor on, past records that have none
+next-now : (n : ℕ) (s : List ℕ) (c : Cursor) (e : Entry) (f : Found) → stepAt s c ≡ e → ((k : Cursor → Found) → nextBy e k ≡ f) → nextPast n s c ≡ f
+unfolding nextPast
+next-now zero s c e f h g = ap (λ (x : Entry). nextBy x (λ _. Done 10036)) h ∙ g (λ _. Done 10036)
+next-now (suc n) s c e f h g = ap (λ (x : Entry). nextBy x (nextPast n s)) h ∙ g (nextPast n s)
+
+module _ (s : List ℕ) (c : Cursor) where
+  pub next-device : {i h l st : ℕ} {next : Cursor} → stepAt s c ≡ Device i h l st next → nextAt s c ≡ Error i h l st next
+  unfolding nextAt
+  next-device {i} {h} {l} {st} {next} e = next-now (c .records) s c (Device i h l st next) (Error i h l st next) e (λ k. refl)
+
+  one-past : (n m : ℕ) {next : Cursor} → n ≡ suc m → stepAt s c ≡ Record next → nextPast n s c ≡ nextPast m s next
+  unfolding nextPast
+  one-past zero m h e = absurd (omega arith)
+  one-past (suc n) m {next} h e =
+      let q : n ≡ m = omega arith in
+      rw (e, q)
+
+  pub next-record : {next : Cursor} → stepAt s c ≡ Record next → nextAt s c ≡ nextAt s next
+  unfolding nextAt
+  next-record {next} e = one-past (c .records) (next .records) (record-next s c e) e
+
+  pub next-end : stepAt s c ≡ End → nextAt s c ≡ Done 0
+  unfolding nextAt
+  next-end e = next-now (c .records) s c End (Done 0) e (λ k. refl)
+
+  pub next-statistics : stepAt s c ≡ Statistics → nextAt s c ≡ Done 10004
+  unfolding nextAt
+  next-statistics e = next-now (c .records) s c Statistics (Done 10004) e (λ k. refl)
+
+  pub next-malformed : stepAt s c ≡ Malformed → nextAt s c ≡ Done 10036
+  unfolding nextAt
+  next-malformed e = next-now (c .records) s c Malformed (Done 10036) e (λ k. refl)
+
+-- what comes next is what the report from the cursor on begins with, and lies past the cursor, within the bytes
+abbrev Comes : List ℕ → Cursor → Found → Type 0
+Comes s c (Error i h l st next) = Forward s c next
+Comes s c (Done k) = Unit
+
+record Coming (s : List ℕ) (c : Cursor) (f : Found) : Type 0 where
+  walks : reportFrom s c ≡ afterNext s f
+  comes : Comes s c f
+
+further : {s : List ℕ} {c next : Cursor} (f : Found) → Forward s c next → Comes s next f → Comes s c f
+further (Error i h l st d) a b = record { further = omega arith; within = b .within }
+further (Done k) a b = tt
+
+come-by : (n : ℕ) (s : List ℕ) (c : Cursor) → c .records < suc n → ((next : Cursor) → next .records < n → Coming s next (nextAt s next))
+    → (t : Entry) → stepAt s c ≡ t → Coming s c (nextAt s c)
+unfolding after
+come-by n s c h go (Device i hi lo st next) e =
+    let g = device-given s c e in
+    let p : next .at - 24 ≡ c .at = omega (arith, device-next s c e) in
+    rw (next-device s c e) (record { walks = turn s c e ∙ rw (p, ← g .place); comes = device-forward s c e })
+come-by n s c h go (Record next) e =
+    let r = go next (omega (arith, record-next s c e)) in
+    rw (next-record s c e) (record { walks = turn s c e ∙ r .walks; comes = further (nextAt s next) (record-forward s c e) (r .comes) })
+come-by n s c h go End e = rw (next-end s c e) (record { walks = turn s c e; comes = tt })
+come-by n s c h go Statistics e = rw (next-statistics s c e) (record { walks = turn s c e; comes = tt })
+come-by n s c h go Malformed e = rw (next-malformed s c e) (record { walks = turn s c e; comes = tt })
+
+coming : (n : ℕ) (s : List ℕ) (c : Cursor) → c .records < n → Coming s c (nextAt s c)
+coming zero s c h = absurd (omega arith)
+coming (suc n) s c h = come-by n s c h (λ next. coming n s next) (stepAt s c) refl
+
+pub next-walks : (s : List ℕ) (c : Cursor) → reportFrom s c ≡ afterNext s (nextAt s c)
+next-walks s c = coming (suc (c .records)) s c (omega arith) .walks
+
+pub next-forward : (s : List ℕ) (c : Cursor) {i h l st : ℕ} {next : Cursor} → nextAt s c ≡ Error i h l st next → Forward s c next
+next-forward s c e = rw e at (coming (suc (c .records)) s c (omega arith) .comes)
+
+-- what C is handed, from the cursor that its numbers are
+pub handed-is : (s : List ℕ) (at r d : ℕ) {c : Cursor} {f g : Found} → c ≡ resumedAt s at r d → f ≡ nextAt s c → f ≡ g → handed s at r d ≡ numbersOf at r d g
+unfolding handed
+handed-is s at r d e h k = ap (numbersOf at r d) (ap (nextAt s) (sym e) ∙ sym h ∙ k)
+
 -- ---- the status, record by record: device errors are passed by their count
 named-status : (x : DeviceError) (p : Report) → statusOf (naming x p) ≡ statusOf p
 named-status x (report.Whole xs) = refl
@@ -319,7 +406,7 @@ status-cut s total at (suc r) inv z h = rw (lt-ltb (length (drop at s)) 36 (rw l
 module _ (s : List ℕ) (total at n : ℕ) (e : n ≡ beNat 4 (drop (at + 32) s)) (h : 36 ≤ length s - at) where
   record-status : (r : ℕ) → statusOf (records total (suc r) (drop at s)) ≡ statusOf (devices (total - suc r) n (records total r) (drop (at + 36) s))
   unfolding records
-  record-status r = rw (le-ltb (length (drop at s)) 36 (rw length-drop h), drop-drop, ← e, drop-drop)
+  record-status r = rw (le-ltb (length (drop at s)) 36 (rw length-drop h), drop-drop 32 at s, ← e, drop-drop 36 at s)
 
   pub status-over : (r : ℕ) {answer : ℕ} → statusOf (records total r (drop at s)) ≡ answer → (r ≡ 0 → ⊥) → length s - at - 36 < 24 * n → 10036 ≡ answer
   status-over zero inv z g = absurd (z refl)

@@ -6,16 +6,20 @@ use mathlib.Core.Bool.{Bool, true, false, cond, _&&_, _||_}
 use native.Mathlib.Omega.{arith}
 use native.Mathlib.Numerals.{add-one}
 use native.Mathlib.Nat.{suc-add}
-use borrow.Author.Tests.{lt-ltb, le-ltb, le-leb, lt-leb, eq-eqb, ne-eqb, ltb-true, ltb-false, eqb-true}
+use borrow.Author.Tests.{lt-ltb, le-ltb, le-leb, lt-leb, eq-eqb, ne-eqb, ltb-true, ltb-false, eqb-true, eqb-false}
 use lib.ListN.{length, take, drop, getD, replicate, length-drop}
 use lib.Seq.{drop-cons, drop-length, take-all}
 use lib.Dec.{ltb, leb, eqb}
 use Rattle.xdr.specs.Be.{beNat}
-use Rattle.wire.specs.Request.{sameBytes, zeros, padding, fileForm, formOf, refusalOf, anonymousIn, answerBy, answer, requestOf, bodyIn, bodyOf}
+use Rattle.wire.specs.Reader.{sameBytes, zeros, padding, Got}
+use Rattle.wire.specs.Request.{Arguments, ofFile, refusalOf, unless, arguments, requestOf, bodyOf}
+use Rattle.wire.specs.RequestSteps.{fileForm, formOf, anonymousIn, judgedIn, answerIn, requestIn}
 use Rattle.wire.specs.declared.request.Form.{Form}
 use Rattle.wire.specs.declared.request.Form.the-variants as form
 use Rattle.wire.specs.declared.request.Request.{Request}
 use Rattle.wire.specs.declared.request.Request.the-variants.{Refused, Bulk, File}
+use Rattle.wire.proofs.Readers.{by-test}
+use Rattle.wire.proofs.RequestModel.{as-tested, body-lies}
 
 -- lists of different lengths differ
 pub other-length : (a b : List ℕ) → (length a ≡ length b → ⊥) → false ≡ sameBytes a b
@@ -154,10 +158,6 @@ Laid s form.Malformed = Unit
 Laid s form.Bulk = 16 ≤ length s
 Laid s (form.File n) = Fits s n
 
-by-test : (P : Form → Type 0) (b : Bool) (x y : Form) → (b ≡ true → P x) → (b ≡ false → P y) → P (cond b x y)
-by-test P true x y p q = p refl
-by-test P false x y p q = q refl
-
 file-laid : (s : List ℕ) → Laid s (fileForm s)
 unfolding fileForm
 file-laid s =
@@ -183,30 +183,51 @@ pub file-fits : (s : List ℕ) {n : ℕ} → formOf s ≡ form.File n → Fits s
 file-fits s e = rw e at (form-laid s)
 
 -- ---- steps 1 to 3
+module _ (s : List ℕ) (r : Request) {layout iomode k : ℕ} (l : layout ≡ beNat 4 (drop 4 s)) (i : iomode ≡ beNat 4 (drop 8 s)) (e : k ≡ refusalOf layout iomode) where
+  number-is : refusalOf (beNat 4 (drop 4 s)) (beNat 4 (drop 8 s)) ≡ k
+  number-is = cc
+
+  pub passes : k ≡ 0 → r ≡ judgedIn s r
+  unfolding judgedIn unless
+  passes z = simp (number-is, eq-eqb k 0 z)
+
+  pub refuses : (k ≡ 0 → ⊥) → Refused k ≡ judgedIn s r
+  unfolding judgedIn unless
+  refuses z = simp (number-is, ne-eqb k 0 z)
+
 module _ (s : List ℕ) where
   pub read-malformed : formOf s ≡ form.Malformed → Refused 10036 ≡ requestOf s
-  unfolding requestOf
-  read-malformed e = simp e
+  unfolding requestIn
+  read-malformed e = rw (as-tested s, e)
 
-  module _ (layout iomode k : ℕ) (l : layout ≡ beNat 4 (drop 4 s)) (i : iomode ≡ beNat 4 (drop 8 s)) (r : k ≡ refusalOf layout iomode) where
-    same-refusal : refusalOf (beNat 4 (drop 4 s)) (beNat 4 (drop 8 s)) ≡ k
-    same-refusal = cc
+  pub read-bulk : formOf s ≡ form.Bulk → {r : Request} → r ≡ judgedIn s Bulk → r ≡ requestOf s
+  unfolding requestIn
+  read-bulk e q = rw (as-tested s, e) q
 
-    pub bulk-refused : formOf s ≡ form.Bulk → (k ≡ 0 → ⊥) → Refused k ≡ requestOf s
-    unfolding requestOf
-    bulk-refused e h = simp (e, same-refusal, ne-eqb k 0 h)
+  pub read-file : {n : ℕ} → formOf s ≡ form.File n → {a : Bool} → a ≡ anonymousIn s → {r : Request} → r ≡ judgedIn s (File a n) → r ≡ requestOf s
+  unfolding requestIn
+  read-file {n} e {a} p q = rw (as-tested s, e) (q ∙ ap (λ (b : Bool). judgedIn s (File b n)) p)
 
-    pub bulk-read : formOf s ≡ form.Bulk → k ≡ 0 → Bulk ≡ requestOf s
-    unfolding requestOf
-    bulk-read e h = simp (e, same-refusal, eq-eqb k 0 h)
+-- a refusal of steps 1 and 2 is never 0
+abbrev Refuses : Request → Type 0
+Refuses (Refused k) = k ≡ 0 → ⊥
+Refuses Bulk = Unit
+Refuses (File a n) = Unit
 
-    pub file-refused : {n : ℕ} → formOf s ≡ form.File n → (k ≡ 0 → ⊥) → Refused k ≡ requestOf s
-    unfolding requestOf
-    file-refused e h = simp (e, same-refusal, ne-eqb k 0 h)
+judged-refuses : (s : List ℕ) (r : Request) → Refuses r → Refuses (judgedIn s r)
+unfolding judgedIn unless
+judged-refuses s r h =
+    by-test Refuses (eqb (refusalOf (beNat 4 (drop 4 s)) (beNat 4 (drop 8 s))) 0) r (Refused (refusalOf (beNat 4 (drop 4 s)) (beNat 4 (drop 8 s)))) (λ _. h)
+    (λ z. eqb-false (refusalOf (beNat 4 (drop 4 s)) (beNat 4 (drop 8 s))) 0 z)
 
-    pub file-read : {n : ℕ} → formOf s ≡ form.File n → k ≡ 0 → {a : Bool} → a ≡ anonymousIn s → File a n ≡ requestOf s
-    unfolding requestOf
-    file-read e h q = simp (e, same-refusal, eq-eqb k 0 h, q)
+form-refuses : (s : List ℕ) (f : Form) → Refuses (answerIn s f)
+form-refuses s form.Malformed = λ z. omega arith
+form-refuses s form.Bulk = judged-refuses s Bulk tt
+form-refuses s (form.File n) = judged-refuses s (File (anonymousIn s) n) tt
+
+pub refused-number : (s : List ℕ) {k : ℕ} → requestOf s ≡ Refused k → k ≡ 0 → ⊥
+unfolding requestIn
+refused-number s e = rw (sym (as-tested s) ∙ e) at (form-refuses s (formOf s))
 
 -- ---- the body
 abbrev Lent : List ℕ → Request → Type 0
@@ -214,18 +235,26 @@ Lent s (Refused k) = Unit
 Lent s Bulk = Unit
 Lent s (File a n) = Fits s n
 
-lent : (s : List ℕ) (f : Form) (none : Bool) (k : ℕ) (a : Bool) → Laid s f → Lent s (answerBy f none k a)
-lent s form.Malformed b k a h = tt
-lent s form.Bulk true k a h = tt
-lent s form.Bulk false k a h = tt
-lent s (form.File n) true k a h = h
-lent s (form.File n) false k a h = tt
+judged-lent : (s : List ℕ) (r : Request) → Lent s r → Lent s (judgedIn s r)
+unfolding judgedIn unless
+judged-lent s r h =
+    by-test (Lent s) (eqb (refusalOf (beNat 4 (drop 4 s)) (beNat 4 (drop 8 s))) 0) r (Refused (refusalOf (beNat 4 (drop 4 s)) (beNat 4 (drop 8 s)))) (λ _. h) (λ _. tt)
 
+lent : (s : List ℕ) (f : Form) → Laid s f → Lent s (answerIn s f)
+lent s form.Malformed h = tt
+lent s form.Bulk h = judged-lent s Bulk tt
+lent s (form.File n) h = judged-lent s (File (anonymousIn s) n) h
+
+-- the body of an ordinary return is within the limit and within the request
 pub body-fits : (s : List ℕ) {a : Bool} {n : ℕ} → requestOf s ≡ File a n → Fits s n
-unfolding requestOf
-body-fits s e =
-    rw e at
-    (lent s (formOf s) (eqb (refusalOf (beNat 4 (drop 4 s)) (beNat 4 (drop 8 s))) 0) (refusalOf (beNat 4 (drop 4 s)) (beNat 4 (drop 8 s))) (anonymousIn s) (form-laid s))
+unfolding requestIn
+body-fits s e = rw (sym (as-tested s) ∙ e) at (lent s (formOf s) (form-laid s))
+
+-- and is the one that the definition reads
+pub body-read : (s : List ℕ) (a : Arguments) {stateid body : List ℕ} → arguments s ≡ Got a [] → a .returned ≡ ofFile stateid body
+    → refusalOf (a .layout) (a .iomode) ≡ 0 → bodyOf s ≡ body
+unfolding bodyOf requestOf unless
+body-read s a {body = body} e r z = rw (e, z, r) (body-lies s a e r)
 
 pub body-refused : (s : List ℕ) {k : ℕ} → requestOf s ≡ Refused k → [] ≡ bodyOf s
 unfolding bodyOf

@@ -4,3 +4,4 @@ pub mod Reply
 pub mod Report
 pub mod ReportSteps
 pub mod Request
+pub mod RequestSteps

@@ -2,7 +2,9 @@
 -- start visit the device errors of `reportOf`.
 --     devices, records    the device errors and the error records still to come, and then the rest
 --     startOf, stepAt     what `start` and `step` answer
---     reportFrom, after   the report from a cursor on; the same by what stands there
+--     nextAt              what `next` answers
+--     reportFrom          the report from a cursor on; `after` and `afterNext` say the same by what stands there and by what comes next
+--     handed              what `sc_report_next` answers and leaves in the numbers that it is lent
 use Prim.Native.Nat.{ℕ, zero, suc, _+_, _-_}
 use mathlib.Core.List.{List, [], _∷_}
 use mathlib.Core.Bool.{cond}
@@ -14,6 +16,8 @@ use Rattle.wire.specs.Report.{Report, DeviceError}
 use Rattle.wire.specs.declared.report.Cursor.{Cursor}
 use Rattle.wire.specs.declared.report.Entry.{Entry}
 use Rattle.wire.specs.declared.report.Entry.the-variants.{Device, Record, End, Statistics, Malformed}
+use Rattle.wire.specs.declared.report.Found.{Found}
+use Rattle.wire.specs.declared.report.Found.the-variants.{Error, Done}
 
 -- ---- a report as it is walked
 abbrev pub naming : DeviceError → Report → Report
@@ -70,6 +74,23 @@ deviceStep s at r d =
 unfoldable pub stepAt : List ℕ → Cursor → Entry
 stepAt s c = deviceStep s (c .at) (c .records) (c .devices)
 
+-- ---- the first device error from a cursor on
+-- by what stands at a cursor; `k` goes on past a record's head
+abbrev pub nextBy : Entry → (Cursor → Found) → Found
+nextBy (Device i h l st next) k = Error i h l st next
+nextBy (Record next) k = k next
+nextBy End k = Done 0
+nextBy Statistics k = Done 10004
+nextBy Malformed k = Done 10036
+
+-- past at most n records' heads
+unfoldable pub nextPast : ℕ → List ℕ → Cursor → Found
+nextPast zero s c = nextBy (stepAt s c) (λ _. Done 10036)
+nextPast (suc n) s c = nextBy (stepAt s c) (nextPast n s)
+
+unfoldable pub nextAt : List ℕ → Cursor → Found
+nextAt s c = nextPast (c .records) s c
+
 -- ---- the report from a cursor on
 -- the device error at a cursor
 abbrev pub errorAt : List ℕ → Cursor → DeviceError
@@ -85,3 +106,30 @@ after s c (Record next) = reportFrom s next
 after s c End = report.Whole []
 after s c Statistics = report.Statistics
 after s c Malformed = report.Malformed
+
+-- the same by what comes next: the device error stands in the 24 bytes before the next cursor
+abbrev pub afterNext : List ℕ → Found → Report
+afterNext s (Error i h l st next) = naming (errorIn i (drop (next .at - 24) s)) (reportFrom s next)
+afterNext s (Done k) = cond (eqb k 0) (report.Whole []) (cond (eqb k 10004) report.Statistics report.Malformed)
+
+-- ---- what C is handed: the answer, the cursor, and the place of the record, the place of the device's id in the body, and the status
+pub record Numbers : Type 0 where
+  pub answer : ℕ
+  pub at : ℕ
+  pub records : ℕ
+  pub devices : ℕ
+  pub place : ℕ
+  pub device : ℕ
+  pub status : ℕ
+
+-- a cursor of three numbers; place 0 is the start
+unfoldable pub resumedAt : List ℕ → ℕ → ℕ → ℕ → Cursor
+resumedAt s at r d = cond (eqb at 0) (startOf s) (record { at = at; records = r; devices = d })
+
+abbrev pub numbersOf : ℕ → ℕ → ℕ → Found → Numbers
+numbersOf at r d (Error i h l st next) =
+    record { answer = 1; at = next .at; records = next .records; devices = next .devices; place = i; device = next .at - 24; status = st }
+numbersOf at r d (Done k) = record { answer = k; at = at; records = r; devices = d; place = 0; device = 0; status = 0 }
+
+unfoldable pub handed : List ℕ → ℕ → ℕ → ℕ → Numbers
+handed s at r d = numbersOf at r d (nextAt s (resumedAt s at r d))

@@ -1,71 +1,99 @@
--- DEFINITION. The arguments of a LAYOUTRETURN (RFC 8881): reclaim flag (4), layout type (4), iomode (4), return type (4). Return type 1
--- goes on with offset (8), length (8), stateid (16), body length (4) and the padded body; 2 and 3 end there.
-use Prim.Native.Nat.{ℕ, zero, suc, _+_, _-_, _*_, _%_}
+-- DEFINITION. The arguments of a LAYOUTRETURN (LAYOUTRETURN4args, RFC 8881) and steps 1 to 3 of paper 01, "LAYOUTRETURN".
+--     Arguments, arguments     the structures, a line a field
+--     refusalOf, isAnonymous   step 2, and the test of a stateid
+--     requestOf                the answer of steps 1 to 3
+--     numberOf, kindOf         the same as numbers
+--     bodyOf                   the body, as the part of the request where it lies
+use Prim.Native.Nat.{ℕ}
 use mathlib.Core.List.{List, [], _∷_}
-use mathlib.Core.Bool.{Bool, true, false, cond, _&&_, _||_}
-use lib.ListN.{length, take, drop, replicate}
-use lib.Dec.{ltb, leb, eqb}
-use Rattle.xdr.specs.Be.{beNat}
-use Rattle.wire.specs.declared.request.Form.{Form}
-use Rattle.wire.specs.declared.request.Form.the-variants as form
+use mathlib.Core.Bool.{Bool, cond, _&&_}
+use lib.ListN.{length, take, drop}
+use lib.Dec.{leb, eqb}
+use Rattle.wire.specs.Reader.{sameBytes, zeros, Read, Got, Bad, Reader, _>>=_, give, only, number, opaque, boolean, bounded}
 use Rattle.wire.specs.declared.request.Request.{Request}
 use Rattle.wire.specs.declared.request.Request.the-variants.{Refused, Bulk, File}
 
-unfoldable pub sameBytes : List ℕ → List ℕ → Bool
-sameBytes [] [] = true
-sameBytes [] (b ∷ m) = false
-sameBytes (a ∷ l) [] = false
-sameBytes (a ∷ l) (b ∷ m) = eqb a b && sameBytes l m
+-- what is returned: a file's layout (return type 1), or all of a file system's or of the server's (2, 3)
+pub data Returned : Type 0 where
+  ofFile : (stateid body : List ℕ) → Returned
+  ofMany : Returned
 
-abbrev pub zeros : ℕ → List ℕ
-zeros n = replicate n 0
+pub record Arguments : Type 0 where
+  pub layout : ℕ
+  pub iomode : ℕ
+  pub returned : Returned
 
--- how many zero bytes follow a body of n bytes
-abbrev pub padding : ℕ → ℕ
-padding n = (4 - n % 4) % 4
+-- layoutreturn_file4; offset and length are not judged; the body has at most 4,096 bytes
+unfoldable pub fileReturn : Reader Returned
+fileReturn = do
+  offset ← number 8
+  extent ← number 8
+  stateid ← opaque 16
+  body ← bounded 4096
+  give (ofFile stateid body)
 
--- ---- step 1
+-- layoutreturn4, by its return type
+unfoldable pub returnOf : ℕ → Reader Returned
+returnOf type = cond (eqb type 1) fileReturn (only (leb 2 type && leb type 3) ofMany)
 
--- return type 1: at most 4,096 bytes of body, its padding, and nothing more
-unfoldable pub fileForm : List ℕ → Form
-fileForm s =
-    cond (ltb (length s) 52) form.Malformed
-    (cond (ltb 4096 (beNat 4 (drop 48 s))) form.Malformed
-    (cond (ltb (length s) (52 + beNat 4 (drop 48 s))) form.Malformed
-    (cond (sameBytes (drop (52 + beNat 4 (drop 48 s)) s) (zeros (padding (beNat 4 (drop 48 s))))) (form.File (beNat 4 (drop 48 s))) form.Malformed)))
-
-unfoldable pub formOf : List ℕ → Form
-formOf s =
-    cond (ltb (length s) 16) form.Malformed
-    (cond (ltb 1 (beNat 4 s)) form.Malformed
-    (cond (eqb (beNat 4 (drop 12 s)) 1) (fileForm s)
-    (cond (leb 2 (beNat 4 (drop 12 s)) && leb (beNat 4 (drop 12 s)) 3) (cond (eqb (length s) 16) form.Bulk form.Malformed) form.Malformed)))
+-- LAYOUTRETURN4args; the reclaim flag is a boolean that is not judged
+unfoldable pub arguments : Reader Arguments
+arguments = do
+  reclaim ← boolean
+  layout ← number 4
+  iomode ← number 4
+  type ← number 4
+  returned ← returnOf type
+  give (record { layout = layout; iomode = iomode; returned = returned })
 
 -- ---- step 2: the layout type is 4, the iomode 1 to 3; 0 is no refusal
 unfoldable pub refusalOf : ℕ → ℕ → ℕ
 refusalOf layout iomode = cond (eqb layout 4) (cond (leb 1 iomode && leb iomode 3) 0 10049) 10062
 
--- the sixteen bytes of the stateid are all zero
-unfoldable pub anonymousIn : List ℕ → Bool
-anonymousIn s = sameBytes (take 16 (drop 32 s)) (zeros 16)
+-- the anonymous stateid (RFC 8881, 8.2.3): its sixteen bytes are all zero
+unfoldable pub isAnonymous : List ℕ → Bool
+isAnonymous stateid = sameBytes stateid (zeros 16)
 
 -- ---- steps 1 to 3
-abbrev pub answerBy : Form → Bool → ℕ → Bool → Request
-answerBy form.Malformed none k a = Refused 10036
-answerBy form.Bulk none k a = cond none Bulk (Refused k)
-answerBy (form.File n) none k a = cond none (File a n) (Refused k)
+abbrev pub asked : Returned → Request
+asked (ofFile stateid body) = File (isAnonymous stateid) (length body)
+asked ofMany = Bulk
 
-abbrev pub answer : Form → ℕ → Bool → Request
-answer f k a = answerBy f (eqb k 0) k a
+-- what is asked, unless there is a refusal
+unfoldable pub unless : ℕ → Request → Request
+unless k r = cond (eqb k 0) r (Refused k)
+
+-- bytes that are not of the form, and spare bytes, are refused before all else
+abbrev pub answered : Read Arguments → Request
+answered Bad = Refused 10036
+answered (Got a (x ∷ rest)) = Refused 10036
+answered (Got a []) = unless (refusalOf (a .layout) (a .iomode)) (asked (a .returned))
 
 unfoldable pub requestOf : List ℕ → Request
-requestOf s = answer (formOf s) (refusalOf (beNat 4 (drop 4 s)) (beNat 4 (drop 8 s))) (anonymousIn s)
+requestOf s = answered (arguments s)
 
--- the body lies in the request from byte 52 on
-abbrev pub bodyIn : Request → List ℕ → List ℕ
-bodyIn (Refused k) s = []
-bodyIn Bulk s = []
-bodyIn (File a n) s = take n (drop 52 s)
+-- the number of a refusal, or 0
+abbrev pub numberOf : Request → ℕ
+numberOf (Refused k) = k
+numberOf Bulk = 0
+numberOf (File a n) = 0
+
+-- 0 refused, 1 handed on, 2 an ordinary return, 3 one with the anonymous stateid
+abbrev pub kindOf : Request → ℕ
+kindOf (Refused k) = 0
+kindOf Bulk = 1
+kindOf (File a n) = cond a 3 2
+
+-- ---- the body lies in the request from byte 52 on; no other request has one
+abbrev pub bodyAt : Request → ℕ
+bodyAt (Refused k) = 0
+bodyAt Bulk = 0
+bodyAt (File a n) = 52
+
+abbrev pub bodyLength : Request → ℕ
+bodyLength (Refused k) = 0
+bodyLength Bulk = 0
+bodyLength (File a n) = n
 
 unfoldable pub bodyOf : List ℕ → List ℕ
-bodyOf s = bodyIn (requestOf s) s
+bodyOf s = take (bodyLength (requestOf s)) (drop (bodyAt (requestOf s)) s)

@@ -1,4 +1,4 @@
-// The body of a LAYOUTRETURN, as the part of the request where it lies.
+// The body of a LAYOUTRETURN, as the part of the request where it lies (paper 01, "LAYOUTRETURN").
 use crate::request::Request;
 use crate::request::read;
 ghost use mathlib.Core.Path.{_≡_};

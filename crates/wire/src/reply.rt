@@ -18,3 +18,11 @@ pub fn write(reply: &mut [u8], status: u32) -> u32
     xdr::put64(reply, 16, 0);
     status
 }
+
+// For C: `write`.
+#[no_mangle]
+pub extern "C" fn sc_layoutreturn_reply(reply: &mut [u8], status: u32) -> u32
+    ensures { λ r. ⌜ (r ≡ replyAnswer status (now (reply .entry))) × (now (reply .exit) ≡ replyIn status (now (reply .entry))) ⌝ }
+{
+    write(reply, status)
+}

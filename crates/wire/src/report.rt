@@ -1,10 +1,11 @@
 // The error report of a LAYOUTRETURN, which is its body: ff_layoutreturn4 of RFC 8435 (paper 01, "LAYOUTRETURN", step 5).
-// In order: the cursor and what stands at one; `start` and `step`, by which a caller walks the device errors; `check`, the status of step 5.
+// In order: the cursor and what stands at one; `start`, `step` and `next`, by which a caller walks the device errors; `check`, the status of
+// step 5; the same for C.
 ghost use mathlib.Core.Path.{_≡_};
 ghost use Prim.Native.Nat.{_-_};
 ghost use lib.ListN.{length, drop};
 ghost use Rattle.wire.specs.Report.{reportOf, statusOf};
-ghost use Rattle.wire.specs.ReportSteps.{statistics, startOf, lastStep, recordStep, stepAt};
+ghost use Rattle.wire.specs.ReportSteps.{statistics, startOf, lastStep, recordStep, stepAt, nextAt, resumedAt, handed};
 
 // A place in a report: where the next byte is, the records still to come, and the device errors still to come of the record at hand.
 pub struct Cursor {
@@ -30,6 +31,20 @@ pub enum Entry {
     // A count of statistics records that is not 0.
     Statistics,
     Malformed,
+}
+
+// What comes next for a caller that wants the device errors alone.
+pub enum Found {
+    // A device error, as in `Entry`.
+    Error {
+        record: u32,
+        high: u64,
+        low: u64,
+        status: u32,
+        next: Cursor,
+    },
+    // None: the status of step 5.
+    Done(u32),
 }
 
 // The bytes from `at` on.
@@ -139,6 +154,44 @@ pub fn step(s: &[u8], c: Cursor) -> Entry
     }
 }
 
+// The first device error from the cursor on, past records that have none, or the status at which the report ends.
+pub fn next(s: &[u8], c: Cursor) -> Found
+    ensures { λ r. ⌜ r ≡ nextAt (now (s .entry)) c ⌝ }
+{
+    let mut c = c;
+    loop {
+        match step(s, c) {
+            Entry::Device {
+                record,
+                high,
+                low,
+                status,
+                next,
+            } => {
+                return Found::Error {
+                    record,
+                    high,
+                    low,
+                    status,
+                    next,
+                };
+            }
+            Entry::Record(next) => {
+                c = next;
+            }
+            Entry::End => {
+                return Found::Done(0);
+            }
+            Entry::Statistics => {
+                return Found::Done(10004);
+            }
+            Entry::Malformed => {
+                return Found::Done(10036);
+            }
+        }
+    }
+}
+
 // Step 5: 0, 10036 where the report is malformed, 10004 where statistics follow. One turn a record: its device errors are passed by their count.
 pub fn check(s: &[u8]) -> u32
     ensures { λ r. ⌜ r ≡ statusOf (reportOf (now (s .entry))) ⌝ }
@@ -161,4 +214,65 @@ pub fn check(s: &[u8]) -> u32
         records -= 1;
     }
     last_status(s, at)
+}
+
+// For C: `check`.
+#[no_mangle]
+pub extern "C" fn sc_report_check(body: &[u8]) -> u32
+    ensures { λ r. ⌜ r ≡ statusOf (reportOf (now (body .entry))) ⌝ }
+{
+    check(body)
+}
+
+// The cursor of three numbers, of which a zero place is the start.
+fn resumed(s: &[u8], at: usize, records: u32, devices: u32) -> Cursor
+    ensures { λ r. ⌜ r ≡ resumedAt (now (s .entry)) at records devices ⌝ }
+{
+    if at == 0 {
+        return start(s);
+    }
+    Cursor {
+        at,
+        records,
+        devices,
+    }
+}
+
+// For C: `next`, with the cursor as three numbers that are 0 at first. Answers 1 with the next device error: the place of its record, the
+// place of the device's sixteen bytes in the body, and its status. Otherwise answers the status of step 5, and the cursor stays.
+#[no_mangle]
+pub extern "C" fn sc_report_next(
+    body: &[u8],
+    at: &mut u64,
+    records: &mut u32,
+    devices: &mut u32,
+    place: &mut u32,
+    device: &mut u64,
+    status: &mut u32,
+) -> u32
+    ensures { λ r. ⌜ handed (now (body .entry)) (now (at .entry)) (now (records .entry)) (now (devices .entry)) ≡ record { answer = r; at = now (at .exit); records = now (records .exit); devices = now (devices .exit); place = now (place .exit); device = now (device .exit); status = now (status .exit) } ⌝ }
+{
+    match next(body, resumed(body, *at as usize, *records, *devices)) {
+        Found::Error {
+            record: i,
+            high: _,
+            low: _,
+            status: k,
+            next: c,
+        } => {
+            *at = c.at as u64;
+            *records = c.records;
+            *devices = c.devices;
+            *place = i;
+            *device = (c.at - 24) as u64;
+            *status = k;
+            1
+        }
+        Found::Done(k) => {
+            *place = 0;
+            *device = 0;
+            *status = 0;
+            k
+        }
+    }
 }

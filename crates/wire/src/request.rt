@@ -1,11 +1,24 @@
-// The arguments of a LAYOUTRETURN.
+// The arguments of a LAYOUTRETURN: LAYOUTRETURN4args of RFC 8881 (paper 01, "LAYOUTRETURN", steps 1 to 3).
+// In order: what a request asks for; step 1; step 2; the test of the stateid; `read`, the answer of the three steps; the same for C.
 ghost use mathlib.Core.Path.{_≡_};
 ghost use Prim.Native.Nat.{_≤_};
 ghost use lib.ListN.{length};
-ghost use Rattle.wire.specs.Request.{sameBytes, padding, fileForm, formOf, refusalOf, anonymousIn, requestOf};
+ghost use Rattle.wire.specs.Reader.{sameBytes, padding};
+ghost use Rattle.wire.specs.Request.{refusalOf, unless, requestOf, numberOf, kindOf, bodyAt, bodyLength};
+ghost use Rattle.wire.specs.RequestSteps.{fileForm, formOf, anonymousIn, judgedIn};
 
-// How the bytes are laid out: step 1.
-pub enum Form {
+// What a request asks for.
+pub enum Request {
+    // Refused in step 1 or 2, with the number.
+    Refused(u32),
+    // Return type 2 or 3: handed on.
+    Bulk,
+    // An ordinary return: whether its stateid is the anonymous one, and the length of its body, which lies from byte 52 on.
+    File { anonymous: bool, len: usize },
+}
+
+// How the bytes are laid out.
+enum Form {
     Malformed,
     // Return type 2 or 3.
     Bulk,
@@ -13,14 +26,7 @@ pub enum Form {
     File(usize),
 }
 
-// What a request asks for.
-pub enum Request {
-    // The number of steps 1 and 2.
-    Refused(u32),
-    Bulk,
-    File { anonymous: bool, len: usize },
-}
-
+// Whether two parts hold the same bytes.
 fn same(a: &[u8], b: &[u8]) -> bool
     ensures { λ r. ⌜ r ≡ sameBytes (now (a .entry)) (now (b .entry)) ⌝ }
 {
@@ -44,6 +50,7 @@ fn pad(n: usize) -> usize
     (4 - n % 4) % 4
 }
 
+// Step 1 for return type 1: the body's length and limit, its bytes, its padding, and nothing more.
 fn file_laid_out(s: &[u8]) -> Form
     ensures { λ r. ⌜ r ≡ fileForm (now (s .entry)) ⌝ }
 {
@@ -66,6 +73,7 @@ fn file_laid_out(s: &[u8]) -> Form
     Form::Malformed
 }
 
+// Step 1.
 fn laid_out(s: &[u8]) -> Form
     ensures { λ r. ⌜ r ≡ formOf (now (s .entry)) ⌝ }
 {
@@ -100,7 +108,19 @@ fn refusal(layout: u32, iomode: u32) -> u32
     }
 }
 
-// Whether the sixteen stateid bytes are the all-zero string.
+// `asked`, unless step 2 refuses.
+fn judged(s: &[u8], asked: Request) -> Request
+    requires { ⌜ 16 ≤ length (now s) ⌝ }
+    ensures { λ r. ⌜ r ≡ judgedIn (now (s .entry)) asked ⌝ }
+{
+    let number = refusal(xdr::be32(s, 4), xdr::be32(s, 8));
+    if number == 0 {
+        return asked;
+    }
+    Request::Refused(number)
+}
+
+// Whether the sixteen stateid bytes are the all-zero string: the anonymous stateid of RFC 8881.
 fn anonymous(s: &[u8]) -> bool
     requires { ⌜ 48 ≤ length (now s) ⌝ }
     ensures { λ r. ⌜ r ≡ anonymousIn (now (s .entry)) ⌝ }
@@ -117,20 +137,43 @@ pub fn read(s: &[u8]) -> Request
 {
     match laid_out(s) {
         Form::Malformed => Request::Refused(10036),
-        Form::Bulk => {
-            let k = refusal(xdr::be32(s, 4), xdr::be32(s, 8));
-            if k != 0 {
-                return Request::Refused(k);
-            }
-            Request::Bulk
-        }
+        Form::Bulk => judged(s, Request::Bulk),
         Form::File(len) => {
-            let k = refusal(xdr::be32(s, 4), xdr::be32(s, 8));
-            if k != 0 {
-                return Request::Refused(k);
-            }
             let anonymous = anonymous(s);
-            Request::File { anonymous, len }
+            judged(s, Request::File { anonymous, len })
+        }
+    }
+}
+
+// For C: steps 1 to 3. Answers the number of a refusal, or 0; `kind` is 0 for a refusal, 1 for a request that is handed on, 2 for an ordinary
+// return, 3 for one with the anonymous stateid; `at` and `len` say where in the request its body lies, and are 0 where there is none.
+#[no_mangle]
+pub extern "C" fn sc_layoutreturn_check(
+    request: &[u8],
+    kind: &mut u32,
+    at: &mut u64,
+    len: &mut u64,
+) -> u32
+    ensures { λ r. ⌜ (r ≡ numberOf (requestOf (now (request .entry)))) × (now (kind .exit) ≡ kindOf (requestOf (now (request .entry)))) × (now (at .exit) ≡ bodyAt (requestOf (now (request .entry)))) × (now (len .exit) ≡ bodyLength (requestOf (now (request .entry)))) ⌝ }
+{
+    match read(request) {
+        Request::Refused(number) => {
+            *kind = 0;
+            *at = 0;
+            *len = 0;
+            number
+        }
+        Request::Bulk => {
+            *kind = 1;
+            *at = 0;
+            *len = 0;
+            0
+        }
+        Request::File { anonymous, len: n } => {
+            *kind = if anonymous { 3 } else { 2 };
+            *at = 52;
+            *len = n as u64;
+            0
         }
     }
 }

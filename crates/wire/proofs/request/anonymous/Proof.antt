@@ -1,4 +1,5 @@
-use Rattle.wire.specs.Request.{anonymousIn}
+use Rattle.wire.specs.Request.{isAnonymous}
+use Rattle.wire.specs.RequestSteps.{anonymousIn}
 use native.Mathlib.Omega.{arith}
 use borrow.Author.Needs.{needs}
 use Rattle.wire.proofs.request.anonymous.Statement.{statement}
@@ -29,7 +30,7 @@ same-requires c κs = search needs
 
 -- src/lib.rt:104:1
 returns : tie.Need-returns
-unfolding anonymousIn
+unfolding anonymousIn isAnonymous
 returns c = c .same .ensures
 
 pub anonymous-spec : {M : Type 1} → statement M
