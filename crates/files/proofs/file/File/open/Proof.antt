@@ -1,0 +1,94 @@
+-- Each return rewrites with the tests that led there.
+use mathlib.Core.Path.{_≡_, sym, _∙_}
+use Prim.Native.Nat.{_<_, _-_}
+use native.Mathlib.Omega.{arith}
+use lib.ListN.{length}
+use borrow.Author.Needs.{needs}
+use borrow.Author.Tests.{not-true, not-false}
+use Rattle.files.proofs.Loops.{mapped-length, found-below}
+use Rattle.files.specs.Places.{first}
+use Rattle.files.specs.declared.places.Found.the-variants.{At}
+use Rattle.files.specs.Intents.{isFree}
+use Rattle.files.specs.File.{openedFile}
+use Rattle.files.proofs.file.File.open.Statement.{statement}
+use Rattle.files.proofs.file.File.open.Tie as tie
+
+long : (c : tie.Start) → length (c .args .t1 .intents) ≡ 8
+long c = search (mapped-length, needs)
+
+-- the free place
+free : (c : tie.After-known-told) → first isFree (c .before .before .before .before .before .before .before .before .before .before .before .args .t1 .intents) ≡ At (c .before .i .given .0 .0)
+free c = sym (c .before .before .before .room .ensures) ∙ c .before .i .given .1
+
+below : (c : tie.After-known-told) → c .before .i .given .0 .0 < 8
+below c = omega (arith, found-below isFree _ _ (free c), long (c .before .before .before .before .before .before .before .before .before .before .before))
+
+returns : tie.Need-returns
+unfolding openedFile
+returns c = rw (c .if1 .taken)
+
+is-requires : tie.Need-is-requires
+is-requires c κs = search needs
+
+returns-2 : tie.Need-returns-2
+unfolding openedFile
+returns-2 c = rw (c .before .before .if1 .left, sym (c .before .is .ensures) ∙ not-true _ (c .if2 .taken))
+
+holding-requires : tie.Need-holding-requires
+holding-requires c κs = search needs
+
+enum-told : tie.Need-enum-told
+enum-told c = search needs
+
+returns-3 : tie.Need-returns-3
+unfolding openedFile
+returns-3 c = rw (c .before .before .before .before .before .before .if1 .left, sym (c .before .before .before .before .before .is .ensures) ∙ not-false _ (c .before .before .before .before .if2 .left), sym (c .before .before .holding .ensures) ∙ c .enum-told .given .1)
+
+enum-told-2 : tie.Need-enum-told-2
+enum-told-2 c = search needs
+
+room-requires : tie.Need-room-requires
+room-requires c κs = search needs
+
+enum-known-i : tie.Need-enum-known-i
+enum-known-i c = search needs
+
+enum-told-3 : tie.Need-enum-told-3
+enum-told-3 c = search needs
+
+returns-4 : tie.Need-returns-4
+unfolding openedFile
+returns-4 c = rw (c .before .before .before .before .before .before .before .before .before .if1 .left, sym (c .before .before .before .before .before .before .before .before .is .ensures) ∙ not-false _ (c .before .before .before .before .before .before .before .if2 .left), sym (c .before .before .before .before .before .holding .ensures) ∙ c .before .before .before .enum-told2 .given .1, sym (c .before .before .room .ensures) ∙ c .enum-told3 .given .1)
+
+new-requires : tie.Need-new-requires
+new-requires c κs = search needs
+
+mul-x : tie.Need-mul-x
+mul-x c = omega (arith, below (c .before))
+
+element-set-from-x : tie.Need-element-set-from-x
+element-set-from-x c = below (c .before)
+
+returns-5 : tie.Need-returns-5
+unfolding openedFile
+returns-5 c = rw (c .before .before .before .before .before .before .before .before .before .before .before .if1 .left, sym (c .before .before .before .before .before .before .before .before .before .before .is .ensures) ∙ not-false _ (c .before .before .before .before .before .before .before .before .before .if2 .left), sym (c .before .before .before .before .before .before .before .holding .ensures) ∙ c .before .before .before .before .before .enum-told2 .given .1, free (c .before), c .new .ensures)
+
+pub open-spec : {M : Type 1} → statement M
+open-spec =
+    tie.close
+    (tie.spec
+    returns
+    is-requires
+    returns-2
+    holding-requires
+    enum-told
+    returns-3
+    enum-told-2
+    room-requires
+    enum-known-i
+    enum-told-3
+    returns-4
+    new-requires
+    mul-x
+    element-set-from-x
+    returns-5)

@@ -1,0 +1,157 @@
+-- MODEL. One file of the record, in this order: a file's fields, each changed by one function; tests; the calls on one file, with what each
+-- answers and the file afterwards; LAYOUTRETURN; restart and the end of grace; the lists.
+use mathlib.Core.List.{List, [], _∷_, map}
+use mathlib.Core.Bool.{Bool, true, false, not, cond}
+use Prim.Native.Nat.{ℕ}
+use lib.ListN.{getD, set, replicate}
+use lib.Dec.{eqb}
+use Rattle.wire.specs.Report.{Report, reportOf}
+use Rattle.wire.specs.Request.{requestOf, bodyOf}
+use Rattle.wire.specs.declared.request.Request.{Request}
+use Rattle.wire.specs.declared.request.Request.the-variants as request
+use Rattle.files.specs.Lists.{chosen, fill}
+use Rattle.files.specs.Places.{first, leftOut}
+use Rattle.files.specs.Mirrors.{noMirrors, unblamed, sourceIn}
+use Rattle.files.specs.Blame.{heardOf}
+use Rattle.files.specs.Intents.{noIntent, noIntents, intentOf, isIntent, isFree, isKept, firstTaken, reclaimedIf, unreclaimedIntent}
+use Rattle.files.specs.declared.mirrors.Mirror.{Mirror}
+use Rattle.files.specs.declared.intents.Intent.{Intent}
+use Rattle.files.specs.declared.blame.Heard.{Heard}
+use Rattle.files.specs.declared.file.File.{File}
+use Rattle.files.specs.declared.file.FileAnswered.{FileAnswered}
+use Rattle.files.specs.declared.places.Found.{Found}
+use Rattle.files.specs.declared.places.Found.the-variants.{At, Nothing}
+
+-- ---- fields
+-- what a list has past its end
+abbrev pub noFile : File
+noFile = record { number = 0; mirrors = []; intents = []; used = false; recovered = false; marked = false }
+
+abbrev pub blankFile : File
+blankFile = record { number = 0; mirrors = noMirrors; intents = noIntents; used = false; recovered = false; marked = false }
+
+abbrev pub fileOf : ℕ → List Mirror → File
+fileOf n ms = record { number = n; mirrors = ms; intents = noIntents; used = true; recovered = false; marked = false }
+
+abbrev pub withMirrors : List Mirror → File → File
+withMirrors ms f = record { number = f .number; mirrors = ms; intents = f .intents; used = f .used; recovered = f .recovered; marked = f .marked }
+
+abbrev pub withIntents : List Intent → File → File
+withIntents xs f = record { number = f .number; mirrors = f .mirrors; intents = xs; used = f .used; recovered = f .recovered; marked = f .marked }
+
+abbrev pub withRecovered : Bool → File → File
+withRecovered b f = record { number = f .number; mirrors = f .mirrors; intents = f .intents; used = f .used; recovered = b; marked = f .marked }
+
+abbrev pub withMark : Bool → File → File
+withMark b f = record { number = f .number; mirrors = f .mirrors; intents = f .intents; used = f .used; recovered = f .recovered; marked = b }
+
+-- ---- tests
+abbrev pub isFile : ℕ → File → Bool
+isFile n f = cond (f .used) (eqb (f .number) n) false
+
+abbrev pub isVacant : File → Bool
+isVacant f = not (f .used)
+
+abbrev pub unreclaimedBar : Bool → Bool → Bool
+unreclaimedBar h r = cond h (not r) false
+
+-- ---- the calls on one file
+abbrev pub fileAnswered : ℕ → File → FileAnswered
+fileAnswered s f = record { status = s; file = f }
+
+-- a call on the file of the number n, or 70
+abbrev pub ofFile : ℕ → File → FileAnswered → FileAnswered
+ofFile n f a = cond (isFile n f) a (fileAnswered 70 f)
+
+-- a new intent goes to the first free place
+abbrev pub takes : ℕ → File → Found → FileAnswered
+takes c f Nothing = fileAnswered 28 f
+takes c f (At i) = fileAnswered 0 (withIntents (set (f .intents) i (intentOf c)) f)
+
+abbrev pub opens : ℕ → File → Found → FileAnswered
+opens c f (At i) = fileAnswered 0 f
+opens c f Nothing = takes c f (first isFree (f .intents))
+
+unfoldable pub openedFile : ℕ → Bool → ℕ → File → FileAnswered
+openedFile n g c f = cond g (fileAnswered 10013 f) (ofFile n f (opens c f (first (isIntent c) (f .intents))))
+
+abbrev pub reclaims : ℕ → File → Found → FileAnswered
+reclaims c f Nothing = fileAnswered 10034 f
+reclaims c f (At i) = fileAnswered 0 (withRecovered true (withIntents (map (reclaimedIf c) (f .intents)) f))
+
+unfoldable pub reclaimedFile : ℕ → Bool → ℕ → File → FileAnswered
+reclaimedFile n g c f = cond g (ofFile n f (reclaims c f (first (isIntent c) (f .intents)))) (fileAnswered 10033 f)
+
+-- the intents after the one that goes are pulled down over it
+abbrev pub leaves : Bool → File → Found → FileAnswered
+leaves g f Nothing = fileAnswered 10025 f
+leaves g f (At i) =
+    cond (unreclaimedBar g (getD (f .intents) i noIntent .reclaimed)) (fileAnswered 10025 f)
+    (fileAnswered 0 (withIntents (leftOut noIntent i (f .intents)) f))
+
+unfoldable pub closedFile : ℕ → Bool → ℕ → File → FileAnswered
+closedFile n g c f = ofFile n f (leaves g f (first (isIntent c) (f .intents)))
+
+abbrev pub mendedFile : File → File
+mendedFile f = withMark false (withMirrors (map unblamed (f .mirrors)) f)
+
+unfoldable pub repairedFile : ℕ → Bool → File → FileAnswered
+repairedFile n g f =
+    ofFile n f
+    (cond (not (f .marked)) (fileAnswered 22 f) (cond (firstTaken (f .intents)) (fileAnswered 10008 f) (fileAnswered 0 (mendedFile f))))
+
+unfoldable pub forgettable : ℕ → Bool → File → ℕ
+forgettable n g f = cond g 10013 (cond (isFile n f) (cond (f .marked) 10008 (cond (firstTaken (f .intents)) 10008 0)) 70)
+
+-- ---- LAYOUTRETURN
+-- step 7: a report that names an unknown device only marks
+unfoldable pub blamedFile : Heard → File → File
+blamedFile h f = cond (h .unknown) (withMark true f) (cond (h .failed) (withMark true (withMirrors (h .mirrors) f)) f)
+
+abbrev pub reports : Heard → File → Found → FileAnswered
+reports h f Nothing = fileAnswered 10034 f
+reports h f (At i) = fileAnswered 0 (blamedFile h f)
+
+abbrev pub heardFile : ℕ → ℕ → Heard → File → FileAnswered
+heardFile n c h f = cond (eqb (h .status) 0) (ofFile n f (reports h f (first (isIntent c) (f .intents)))) (fileAnswered (h .status) f)
+
+-- steps 5 to 7
+unfoldable pub reportedFile : ℕ → ℕ → Report → File → FileAnswered
+reportedFile n c p f = heardFile n c (heardOf (f .mirrors) p) f
+
+-- stands for "handed on" where a status is answered
+abbrev pub handedOnCode : ℕ
+handedOnCode = 4294967295
+
+-- step 4: 0 if the body is to be read
+abbrev pub phaseOf : Bool → Bool → ℕ
+phaseOf g true = cond g 0 10033
+phaseOf g false = cond g 10013 handedOnCode
+
+abbrev pub asksFile : ℕ → Bool → ℕ → List ℕ → File → Request → FileAnswered
+asksFile n g c s f (request.Refused k) = fileAnswered k f
+asksFile n g c s f request.Bulk = fileAnswered handedOnCode f
+asksFile n g c s f (request.File a k) = cond (eqb (phaseOf g a) 0) (reportedFile n c (reportOf (bodyOf s)) f) (fileAnswered (phaseOf g a) f)
+
+-- steps 1 to 7
+unfoldable pub returnedFile : ℕ → Bool → ℕ → List ℕ → File → FileAnswered
+returnedFile n g c s f = asksFile n g c s f (requestOf s)
+
+-- ---- restart and the end of grace
+unfoldable pub restartedFile : File → File
+restartedFile f = withRecovered false (withIntents (map unreclaimedIntent (f .intents)) f)
+
+unfoldable pub endedFile : File → File
+endedFile f =
+    withMark (cond (unreclaimedBar (firstTaken (f .intents)) (f .recovered)) true (f .marked))
+    (withIntents (fill (chosen isKept (f .intents)) noIntents) f)
+
+-- ---- the lists
+abbrev pub isListed : File → Bool
+isListed f = cond (f .used) (f .marked) false
+
+abbrev pub isReady : File → Bool
+isReady f = cond (isListed f) (not (firstTaken (f .intents))) false
+
+unfoldable pub sourceOf : File → ℕ
+sourceOf f = sourceIn (f .mirrors)

@@ -1,0 +1,397 @@
+// One file of the record (paper 01, "The recovery record"): what it holds, and the calls on one file. A call tests for itself whether this is
+// the file of the number that it is given, and answers the status and the file afterwards. Then what a restart and the end of grace do to
+// each file, and what the lists ask of one.
+use crate::blame::Heard;
+use crate::blame::listen;
+use crate::intents::Intent;
+use crate::mirrors::Mirror;
+use crate::places::Found;
+use wire::request::Request;
+ghost use mathlib.Core.Path.{_≡_};
+ghost use Prim.Native.Nat.{_<_};
+ghost use Rattle.wire.specs.Report.{reportOf};
+ghost use Rattle.files.specs.File.{noFile, blankFile, fileOf, isFile, isVacant, openedFile, reclaimedFile, closedFile, repairedFile, forgettable, restartedFile, endedFile, isListed, isReady, sourceOf, unreclaimedBar, blamedFile, reportedFile, phaseOf, returnedFile};
+
+// The wide fields stand first. A place of the record is a file's if `used`.
+#[repr(C)]
+pub struct File {
+    pub number: u64,
+    pub mirrors: [Mirror; 4],
+    pub intents: [Intent; 8],
+    pub used: bool,
+    pub recovered: bool,
+    pub marked: bool,
+}
+
+// What a call answers, and the file afterwards.
+#[repr(C)]
+pub struct FileAnswered {
+    pub status: u32,
+    pub file: File,
+}
+
+// Stands for "handed on" where a status is answered: no status of NFS is this number.
+pub const HANDED_ON: u32 = 4294967295;
+
+impl File {
+    // A place that no file has.
+    pub fn blank() -> File
+        ensures { λ r. ⌜ r ≡ blankFile ⌝ }
+    {
+        let m = Mirror::none();
+        let x = Intent::none();
+        let ms = [m; 4];
+        let xs = [x; 8];
+        File {
+            number: 0,
+            mirrors: ms,
+            intents: xs,
+            used: false,
+            recovered: false,
+            marked: false,
+        }
+    }
+
+    // A file as it is registered.
+    pub fn new(number: u64, mirrors: [Mirror; 4]) -> File
+        ensures { λ r. ⌜ r ≡ fileOf number mirrors ⌝ }
+    {
+        let x = Intent::none();
+        let xs = [x; 8];
+        File {
+            number: number,
+            mirrors: mirrors,
+            intents: xs,
+            used: true,
+            recovered: false,
+            marked: false,
+        }
+    }
+
+    // Whether this is the file of the number.
+    pub fn is(self, number: u64) -> bool
+        ensures { λ r. ⌜ r ≡ isFile number self ⌝ }
+    {
+        if self.used {
+            self.number == number
+        } else {
+            false
+        }
+    }
+
+    // Whether the place is free.
+    pub fn free(self) -> bool
+        ensures { λ r. ⌜ r ≡ isVacant self ⌝ }
+    {
+        !self.used
+    }
+
+    // Open for writing: 10013 in grace; 70; held already: 0, no change; 28 if 8 are held.
+    pub fn open(mut self, number: u64, grace: bool, client: u64) -> FileAnswered
+        ensures { λ r. ⌜ r ≡ openedFile number grace client self ⌝ }
+    {
+        if grace {
+            return FileAnswered {
+                status: 10013,
+                file: self,
+            };
+        }
+        let hit = self.is(number);
+        if !hit {
+            return FileAnswered {
+                status: 70,
+                file: self,
+            };
+        }
+        let old = self.intents;
+        if let Found::At(_) = crate::intents::holding(old, client) {
+            return FileAnswered {
+                status: 0,
+                file: self,
+            };
+        }
+        let Found::At(i) = crate::intents::room(old) else {
+            return FileAnswered {
+                status: 28,
+                file: self,
+            };
+        };
+        let x = Intent::new(client);
+        self.intents[i] = x;
+        FileAnswered {
+            status: 0,
+            file: self,
+        }
+    }
+
+    // Reclaim: 10033 not in grace; 70; 10034 no intent; again: 0, no change.
+    pub fn reclaim(mut self, number: u64, grace: bool, client: u64) -> FileAnswered
+        ensures { λ r. ⌜ r ≡ reclaimedFile number grace client self ⌝ }
+    {
+        if !grace {
+            return FileAnswered {
+                status: 10033,
+                file: self,
+            };
+        }
+        let hit = self.is(number);
+        if !hit {
+            return FileAnswered {
+                status: 70,
+                file: self,
+            };
+        }
+        let old = self.intents;
+        let Found::At(_) = crate::intents::holding(old, client) else {
+            return FileAnswered {
+                status: 10034,
+                file: self,
+            };
+        };
+        let xs = crate::intents::reclaimed(old, client);
+        self.intents = xs;
+        self.recovered = true;
+        FileAnswered {
+            status: 0,
+            file: self,
+        }
+    }
+
+    // Close: 70; 10025 no intent, or in grace and not reclaimed.
+    pub fn close(mut self, number: u64, grace: bool, client: u64) -> FileAnswered
+        ensures { λ r. ⌜ r ≡ closedFile number grace client self ⌝ }
+    {
+        let hit = self.is(number);
+        if !hit {
+            return FileAnswered {
+                status: 70,
+                file: self,
+            };
+        }
+        let old = self.intents;
+        let Found::At(i) = crate::intents::holding(old, client) else {
+            return FileAnswered {
+                status: 10025,
+                file: self,
+            };
+        };
+        let x = self.intents[i];
+        let barred = unreclaimed(grace, x.reclaimed);
+        if barred {
+            return FileAnswered {
+                status: 10025,
+                file: self,
+            };
+        }
+        let xs = crate::intents::without(old, i);
+        self.intents = xs;
+        FileAnswered {
+            status: 0,
+            file: self,
+        }
+    }
+
+    // Repaired: 70; 22 not marked; 10008 an intent is open.
+    pub fn repaired(mut self, number: u64, grace: bool) -> FileAnswered
+        ensures { λ r. ⌜ r ≡ repairedFile number grace self ⌝ }
+    {
+        let hit = self.is(number);
+        if !hit {
+            return FileAnswered {
+                status: 70,
+                file: self,
+            };
+        }
+        if !self.marked {
+            return FileAnswered {
+                status: 22,
+                file: self,
+            };
+        }
+        let xs = self.intents;
+        let held = crate::intents::busy(xs);
+        if held {
+            return FileAnswered {
+                status: 10008,
+                file: self,
+            };
+        }
+        let old = self.mirrors;
+        let ms = crate::mirrors::cleared(old);
+        self.mirrors = ms;
+        self.marked = false;
+        FileAnswered {
+            status: 0,
+            file: self,
+        }
+    }
+
+    // Whether the file may be forgotten: 10013 in grace; 70; 10008 marked or an intent is open; or 0.
+    pub fn forget(self, number: u64, grace: bool) -> u32
+        ensures { λ r. ⌜ r ≡ forgettable number grace self ⌝ }
+    {
+        if grace {
+            return 10013;
+        }
+        let hit = self.is(number);
+        if !hit {
+            return 70;
+        }
+        if self.marked {
+            return 10008;
+        }
+        let xs = self.intents;
+        let held = crate::intents::busy(xs);
+        if held {
+            return 10008;
+        }
+        0
+    }
+
+    // The file once its report has been heard: step 7 of a LAYOUTRETURN.
+    fn blame(mut self, h: Heard) -> File
+        ensures { λ r. ⌜ r ≡ blamedFile h self ⌝ }
+    {
+        if h.unknown {
+            self.marked = true;
+            return self;
+        }
+        if h.failed {
+            let ms = h.mirrors;
+            self.mirrors = ms;
+            self.marked = true;
+            return self;
+        }
+        self
+    }
+
+    // Steps 5 to 7 of a LAYOUTRETURN: 10036, 10004; 70; 10034.
+    pub fn report(self, number: u64, client: u64, body: &[u8]) -> FileAnswered
+        ensures { λ r. ⌜ r ≡ reportedFile number client (reportOf (now (body .entry))) self ⌝ }
+    {
+        let ms = self.mirrors;
+        let h = listen(ms, body);
+        let status = h.status;
+        if status != 0 {
+            return FileAnswered {
+                status: status,
+                file: self,
+            };
+        }
+        let hit = self.is(number);
+        if !hit {
+            return FileAnswered {
+                status: 70,
+                file: self,
+            };
+        }
+        let xs = self.intents;
+        let Found::At(_) = crate::intents::holding(xs, client) else {
+            return FileAnswered {
+                status: 10034,
+                file: self,
+            };
+        };
+        let f = self.blame(h);
+        FileAnswered { status: 0, file: f }
+    }
+
+    // Steps 1 to 7 of a LAYOUTRETURN; HANDED_ON where it is handed on.
+    pub fn layoutreturn(self, number: u64, grace: bool, client: u64, request: &[u8]) -> FileAnswered
+        ensures { λ r. ⌜ r ≡ returnedFile number grace client (now (request .entry)) self ⌝ }
+    {
+        match wire::request::read(request) {
+            Request::Refused(k) => FileAnswered {
+                status: k,
+                file: self,
+            },
+            Request::Bulk => FileAnswered {
+                status: HANDED_ON,
+                file: self,
+            },
+            Request::File { anonymous, len: _ } => {
+                let status = phase(grace, anonymous);
+                if status != 0 {
+                    return FileAnswered {
+                        status: status,
+                        file: self,
+                    };
+                }
+                self.report(number, client, wire::body::body(request))
+            }
+        }
+    }
+
+    // The file after a restart: nobody has reclaimed.
+    pub fn restarted(mut self) -> File
+        ensures { λ r. ⌜ r ≡ restartedFile self ⌝ }
+    {
+        let old = self.intents;
+        let xs = crate::intents::unreclaimed(old);
+        self.intents = xs;
+        self.recovered = false;
+        self
+    }
+
+    // The file after the end of grace: marked if it has an intent and is not recovered; intents that were not reclaimed are dropped.
+    pub fn ended(mut self) -> File
+        ensures { λ r. ⌜ r ≡ endedFile self ⌝ }
+    {
+        let old = self.intents;
+        let held = crate::intents::busy(old);
+        let xs = crate::intents::staying(old);
+        let lost = unreclaimed(held, self.recovered);
+        self.intents = xs;
+        if lost {
+            self.marked = true;
+            return self;
+        }
+        self
+    }
+
+    // Whether the file is on the resilver list.
+    pub fn listed(self) -> bool
+        ensures { λ r. ⌜ r ≡ isListed self ⌝ }
+    {
+        if self.used { self.marked } else { false }
+    }
+
+    // Whether the file is offered for copying.
+    pub fn offered(self) -> bool
+        ensures { λ r. ⌜ r ≡ isReady self ⌝ }
+    {
+        let hit = self.listed();
+        if !hit {
+            return false;
+        }
+        let xs = self.intents;
+        let held = crate::intents::busy(xs);
+        !held
+    }
+
+    // The place to copy from.
+    pub fn source(self) -> u8
+        ensures { λ r. ⌜ r ≡ sourceOf self ⌝ }
+    {
+        let ms = self.mirrors;
+        crate::mirrors::source(ms)
+    }
+}
+
+// Whether something holds and nothing was reclaimed.
+fn unreclaimed(holds: bool, reclaimed: bool) -> bool
+    ensures { λ r. ⌜ r ≡ unreclaimedBar holds reclaimed ⌝ }
+{
+    if holds { !reclaimed } else { false }
+}
+
+// Step 4 of a LAYOUTRETURN: 0 if its body is to be read.
+fn phase(grace: bool, anonymous: bool) -> u32
+    ensures { λ r. ⌜ r ≡ phaseOf grace anonymous ⌝ }
+{
+    if anonymous {
+        if grace { 0 } else { 10033 }
+    } else {
+        if grace { 10013 } else { HANDED_ON }
+    }
+}
