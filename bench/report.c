@@ -8,7 +8,7 @@
 
 #include "plain.h"
 
-#include "parts/layoutreturn.h"
+#include "stellcircle.h"
 
 enum { MOST = 4096, ROUNDS = 400, CALLS = 2000 };
 

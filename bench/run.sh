@@ -8,4 +8,5 @@ for compiler in gcc clang; do
 done
 gcc -std=c11 -O2 -Wall -Wextra -Werror -Iinclude -o target/bench/layout bench/layout.c target/bench/layout_gcc.o target/bench/layout_clang.o target/staticlib/libwire.a
 target/bench/layout
+bench/report.sh
 bench/epochs.sh

@@ -4,4 +4,5 @@ set -e
 cd "$(dirname "$0")/.."
 tests/layout/run.sh
 python3 tests/list_layout/run.py target/bin/list_layout tests/list_layout/cases.txt
+tests/layoutreturn/run.sh
 tests/epochs/run.sh

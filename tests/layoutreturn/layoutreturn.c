@@ -7,7 +7,7 @@
 
 #include "plain.h"
 
-#include "parts/layoutreturn.h"
+#include "stellcircle.h"
 
 enum { MOST_BYTES = 16384, MOST_ERRORS = 1024 };
 
