@@ -1,4 +1,4 @@
--- Edges of the definitions of specs/Epochs.antt.
+-- Edges of the definitions of specs/Epochs.antt, the first as a law and the others computed:
 --     no-epoch-left          where C = 2^64 - 1 and R = 0, a start is refused by 28 and changes nothing
 --     last-epoch             at the same C in a grace period a start is accepted, and C stays
 --     join-turns-no          a join in grace turns a yes to no, and enforcing turns it back
@@ -15,7 +15,7 @@ use Rattle.epochs.specs.History.{Call, join, start, enforce, after}
 
 no-epoch-left : (e : Epochs) (node : ℕ) → node < 32 → member e node ≡ true → e .recovery ≡ 0 → e .current ≡ 2 ^ 64 - 1 → startOf e node ≡ refused 28 e
 unfolding startOf judged
-no-epoch-left e node h is calm last = simp (lt-leb 32 node h, is, eq-eqb _ _ calm, eq-eqb _ _ last)
+no-epoch-left e node h is R-zero C-last = simp (lt-leb 32 node h, is, eq-eqb _ _ R-zero, eq-eqb _ _ C-last)
 
 -- nodes 0 and 1, of which 0 needs the grace period, in the last epoch
 last-epoch : startOf (record { current = 2 ^ 64 - 1; recovery = 2 ^ 64 - 2; members = 3; need = 1; enforcing = 1 }) 1 ≡ accepted (record { current = 2 ^ 64 - 1; recovery = 2 ^ 64 - 2; members = 3; need = 3; enforcing = 3 })

@@ -1,7 +1,9 @@
 -- What paper 01 says of the record after any calls is so (`AfterAnyCalls` of specs/History.antt). In this order:
 --     Refusals, judged-by     what holds of each refusal, and of the accepted call where no refusal applies, holds of what is judged
 --     counts                  C rises exactly at a start that is accepted where R is 0
---     Kept, keeps             what each call keeps of a record: masks of 32 nodes, flags on members, R is 0 or C - 1, and R is 0 exactly where nobody has NEED
+--     Of                      flags on members only: a node joins, leaves, gets the flag, loses it
+--     Period                  R is 0 or C - 1, and is 0 exactly where nobody has NEED: a node starts, and finishes
+--     Kept, keeps             both of a record, and that each call keeps them
 --     sound, after-any-calls  the claim, by induction over the calls
 use Prim.Native.Nat.{ℕ, _+_, _<_, _≤_, _^_}
 use native.Mathlib.Nat.{add-assoc}
@@ -17,7 +19,7 @@ use Rattle.masks.proofs.Laws.{plus-lt, minus-lt, has-zero, has-below, each-empt
 use Rattle.epochs.specs.declared.Epochs.{Epochs}
 use Rattle.epochs.specs.declared.Answered.{Answered}
 use Rattle.epochs.specs.declared.MayReclaim.the-variants.{Yes, No, NoSuchNode}
-use Rattle.epochs.specs.Epochs.{member, needs, calm, above, ready, fresh, Rule, _⇒_, joinRules, leaveRules, startRules, enforceRules, finishRules, stopRules, joined, departed, raisedEpoch, begun, flagged, enforced, finished, stopped, accepted, refused, judged, joinOf, leaveOf, startOf, enforceOf, finishOf, stopOf, mayReclaimOf, reclaimNumber}
+use Rattle.epochs.specs.Epochs.{member, needs, noGrace, above31, allEnforce, fresh, Rule, _⇒_, joinRules, leaveRules, startRules, enforceRules, finishRules, stopRules, joined, departed, newEpoch, begun, flagged, enforced, finished, stopped, accepted, refused, judged, joinOf, leaveOf, startOf, enforceOf, finishOf, stopOf, mayReclaimOf, reclaimNumber}
 use Rattle.epochs.specs.History.{Call, join, leave, start, enforce, finish, stopEnforcing, mayReclaim, called, after, isStart, raises, raised, Sound, AfterAnyCalls}
 
 -- ---- a call is refused by one of its rules, or none applies
@@ -37,12 +39,12 @@ judged-by Q e ((false ⇒ s) ∷ rules) next refusals accepts = judged-by Q e ru
 
 -- ---- C
 abbrev Counts : Epochs → Bool → Answered → Type 0
-Counts e is-start a = a .epochs .current ≡ e .current + cond (is-start && (eqb (a .status) 0 && calm e)) 1 0
+Counts e is-start a = a .epochs .current ≡ e .current + cond (is-start && (eqb (a .status) 0 && noGrace e)) 1 0
 
 stays : (n : ℕ) → n ≡ n + 0
 stays n = omega arith
 
-rises : (e : Epochs) (b : Bool) → cond b (raisedEpoch e) e .current ≡ e .current + cond b 1 0
+rises : (e : Epochs) (b : Bool) → cond b (newEpoch e) e .current ≡ e .current + cond b 1 0
 rises e true = refl
 rises e false = stays (e .current)
 
@@ -50,7 +52,7 @@ counts : (e : Epochs) (c : Call) → Counts e (isStart c) (called e c)
 unfolding joinOf leaveOf startOf enforceOf finishOf stopOf
 counts e (join node) = judged-by (Counts e false) e (joinRules e node) (joined e node) (stays _, (stays _, tt)) (λ _. stays _)
 counts e (leave node) = judged-by (Counts e false) e (leaveRules e node) (departed e node) (stays _, (stays _, (stays _, tt))) (λ _. stays _)
-counts e (start node) = judged-by (Counts e true) e (startRules e node) (flagged (begun e) node) (stays _, (stays _, (stays _, tt))) (λ _. rises e (calm e))
+counts e (start node) = judged-by (Counts e true) e (startRules e node) (flagged (begun e) node) (stays _, (stays _, (stays _, tt))) (λ _. rises e (noGrace e))
 counts e (enforce node) = judged-by (Counts e false) e (enforceRules e node) (enforced e node) (stays _, (stays _, (stays _, tt))) (λ _. stays _)
 counts e (finish node) = judged-by (Counts e false) e (finishRules e node) (finished e node) (stays _, (stays _, (stays _, tt))) (λ _. stays _)
 counts e (stopEnforcing node) = judged-by (Counts e false) e (stopRules e node) (stopped e node) (stays _, (stays _, (stays _, tt))) (λ _. stays _)
@@ -87,28 +89,28 @@ module _ (members flags node : ℕ) (of : Of members flags) where
 record Period (C R need : ℕ) : Type 0 where
   begins : 1 ≤ C
   last : (R ≡ 0) ⊎ (R + 1 ≡ C)
-  calm-is : eqb R 0 ≡ empty need
+  grace-is : eqb R 0 ≡ empty need
 
 in-grace : (R need node : ℕ) → node < 32 → (R ≡ 0 → ⊥) → eqb R 0 ≡ empty (plus need node)
 in-grace R need node h ne = ne-eqb R 0 ne ∙ sym (some-empty (plus need node) node h (plus-node need node h))
 
 -- a node starts where R is 0, and where it isn't
 begins-at : (C R need node : ℕ) → node < 32 → Period C R need → Period (C + 1) C (plus need node)
-begins-at C R need node h p = record { begins = omega arith; last = inr refl; calm-is = in-grace C need node h (λ z. not-zero (p .begins) z) }
+begins-at C R need node h p = record { begins = omega arith; last = inr refl; grace-is = in-grace C need node h (λ z. not-zero (p .begins) z) }
   where
     not-zero : 1 ≤ C → C ≡ 0 → ⊥
     not-zero l z = omega arith
 
 goes-on : (C R need node : ℕ) → node < 32 → eqb R 0 ≡ false → Period C R need → Period C R (plus need node)
-goes-on C R need node h c p = record { begins = p .begins; last = p .last; calm-is = in-grace R need node h (eqb-false R 0 c) }
+goes-on C R need node h c p = record { begins = p .begins; last = p .last; grace-is = in-grace R need node h (eqb-false R 0 c) }
 
 -- a node finishes
 ended : (C R need node : ℕ) → node < 32 → has need node ≡ true → Period C R need → Period C (cond (empty (minus need node)) 0 R) (minus need node)
 ended C R need node h has-need p = by (empty (minus need node)) refl
   where
     by : (b : Bool) → empty (minus need node) ≡ b → Period C (cond b 0 R) (minus need node)
-    by true c = record { begins = p .begins; last = inl refl; calm-is = sym c }
-    by false c = record { begins = p .begins; last = p .last; calm-is = p .calm-is ∙ some-empty need node h has-need ∙ sym c }
+    by true c = record { begins = p .begins; last = inl refl; grace-is = sym c }
+    by false c = record { begins = p .begins; last = p .last; grace-is = p .grace-is ∙ some-empty need node h has-need ∙ sym c }
 
 -- ---- what each call keeps
 record Kept (e : Epochs) : Type 0 where
@@ -117,20 +119,19 @@ record Kept (e : Epochs) : Type 0 where
   enforcing-of : Of (e .members) (e .enforcing)
   period : Period (e .current) (e .recovery) (e .need)
 
--- the record at a start, as R is 0 or not
-starts : (e : Epochs) → Kept e → (node : ℕ) → node < 32 → member e node ≡ true → (b : Bool) → calm e ≡ b → Kept (flagged (cond b (raisedEpoch e) e) node)
-starts e kept node h is true c = record {
-  members-fit = kept .members-fit;
-  need-of = of-set (e .members) (e .need) node (kept .need-of) is;
-  enforcing-of = of-set (e .members) (e .enforcing) node (kept .enforcing-of) is;
-  period = begins-at (e .current) (e .recovery) (e .need) node h (kept .period);
-}
-starts e kept node h is false c = record {
-  members-fit = kept .members-fit;
-  need-of = of-set (e .members) (e .need) node (kept .need-of) is;
-  enforcing-of = of-set (e .members) (e .enforcing) node (kept .enforcing-of) is;
-  period = goes-on (e .current) (e .recovery) (e .need) node h c (kept .period);
-}
+-- the record at a start, at any C and R that keep; then as R is 0 or not
+module _ (e : Epochs) (kept : Kept e) (node : ℕ) (h : node < 32) (is : member e node ≡ true) where
+  starts-at : (C R : ℕ) → Period C R (plus (e .need) node) → Kept (record { current = C; recovery = R; members = e .members; need = plus (e .need) node; enforcing = plus (e .enforcing) node })
+  starts-at C R p = record {
+    members-fit = kept .members-fit;
+    need-of = of-set (e .members) (e .need) node (kept .need-of) is;
+    enforcing-of = of-set (e .members) (e .enforcing) node (kept .enforcing-of) is;
+    period = p;
+  }
+
+  starts : (b : Bool) → noGrace e ≡ b → Kept (flagged (cond b (newEpoch e) e) node)
+  starts true c = starts-at (e .current + 1) (e .current) (begins-at (e .current) (e .recovery) (e .need) node h (kept .period))
+  starts false c = starts-at (e .current) (e .recovery) (goes-on (e .current) (e .recovery) (e .need) node h c (kept .period))
 
 abbrev Keeps : Answered → Type 0
 Keeps a = Kept (a .epochs)
@@ -149,7 +150,7 @@ keeps e kept (leave node) = judged-by Keeps e (leaveRules e node) (departed e no
   enforcing-of = of-leave (e .members) (e .enforcing) node (kept .enforcing-of);
   period = kept .period;
 })
-keeps e kept (start node) = judged-by Keeps e (startRules e node) (flagged (begun e) node) (kept, (kept, (kept, tt))) (λ none. starts e kept node (leb-false 32 node (none .0)) (not-false (member e node) (none .1 .0)) (calm e) refl)
+keeps e kept (start node) = judged-by Keeps e (startRules e node) (flagged (begun e) node) (kept, (kept, (kept, tt))) (λ none. starts e kept node (leb-false 32 node (none .0)) (not-false (member e node) (none .1 .0)) (noGrace e) refl)
 keeps e kept (enforce node) = judged-by Keeps e (enforceRules e node) (enforced e node) (kept, (kept, (kept, tt))) (λ none. record {
   members-fit = kept .members-fit;
   need-of = kept .need-of;
@@ -178,7 +179,7 @@ kept-fresh = record {
   members-fit = omega arith;
   need-of = none-of 0;
   enforcing-of = none-of 0;
-  period = record { begins = omega arith; last = inl refl; calm-is = sym (each-empty 0 (λ k h. has-zero k)) };
+  period = record { begins = omega arith; last = inl refl; grace-is = sym (each-empty 0 (λ k h. has-zero k)) };
 }
 
 -- ---- the claim
@@ -208,19 +209,16 @@ yes-says false false true true false e = absurd (not-no e)
 yes-says false false true true true e = (refl, refl, refl, refl)
 
 module _ (e : Epochs) (kept : Kept e) where
-  below : (m k : ℕ) → m < 2 ^ 32 → has m k ≡ true → k < 32
-  below m k fits f = has-below 32 m k fits f
-
   need-node : (k : ℕ) → needs e k ≡ true → k < 32
-  need-node k f = below (e .need) k (kept .need-of .fit) f
+  need-node k f = has-below 32 (e .need) k (kept .need-of .fit) f
 
   some-need : (e .recovery ≡ 0 → ⊥) → (node : ℕ) × (member e node ≡ true) × (needs e node ≡ true)
   some-need ne =
-      let w : (k : ℕ) × (k < 32) × (has (e .need) k ≡ true) = empty-some (e .need) (sym (kept .period .calm-is) ∙ ne-eqb (e .recovery) 0 ne) in
+      let w : (k : ℕ) × (k < 32) × (has (e .need) k ≡ true) = empty-some (e .need) (sym (kept .period .grace-is) ∙ ne-eqb (e .recovery) 0 ne) in
       (w .0, kept .need-of .inside (w .0) (w .1) (w .2), w .2)
 
   in-period : (node : ℕ) → needs e node ≡ true → e .recovery ≡ 0 → ⊥
-  in-period node f z = true≢false (sym (eq-eqb (e .recovery) 0 z) ∙ kept .period .calm-is ∙ some-empty (e .need) node (need-node node f) f)
+  in-period node f z = true≢false (sym (eq-eqb (e .recovery) 0 z) ∙ kept .period .grace-is ∙ some-empty (e .need) node (need-node node f) f)
 
   sound : (starts : ℕ) → e .current ≡ 1 + starts → Sound e starts
   unfolding mayReclaimOf
@@ -229,10 +227,10 @@ module _ (e : Epochs) (kept : Kept e) where
     grace = (some-need, λ w. in-period (w .0) (w .2));
     current = counted-so;
     need-members = λ node f. kept .need-of .inside node (need-node node f) f;
-    enforcing-members = λ node f. kept .enforcing-of .inside node (below (e .enforcing) node (kept .enforcing-of .fit) f) f;
+    enforcing-members = λ node f. kept .enforcing-of .inside node (has-below 32 (e .enforcing) node (kept .enforcing-of .fit) f) f;
     reclaim = λ node. (
-      λ yes. let y : (above node ≡ false) × (calm e ≡ false) × (needs e node ≡ true) × (ready e ≡ true) = yes-says (above node) (calm e) (member e node) (needs e node) (ready e) yes in
-          (eqb-false (e .recovery) 0 (y .1), y .2, λ other f. within-each (e .members) (e .enforcing) (y .3) other (below (e .members) other (kept .members-fit) f) f),
+      λ yes. let y : (above31 node ≡ false) × (noGrace e ≡ false) × (needs e node ≡ true) × (allEnforce e ≡ true) = yes-says (above31 node) (noGrace e) (member e node) (needs e node) (allEnforce e) yes in
+          (eqb-false (e .recovery) 0 (y .1), y .2, λ other f. within-each (e .members) (e .enforcing) (y .3) other (has-below 32 (e .members) other (kept .members-fit) f) f),
       λ w. simp (lt-leb 32 node (need-node node (w .1)), ne-eqb (e .recovery) 0 (w .0), kept .need-of .inside node (need-node node (w .1)) (w .1), w .1, each-within (e .members) (e .enforcing) (λ other h f. w .2 other f)),
     );
   }

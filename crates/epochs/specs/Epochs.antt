@@ -1,5 +1,5 @@
 -- DEFINITION. Cluster grace epochs (paper 01, "Cluster epochs"; source document 002): what each call on a node's epoch record answers, and the record afterwards. In this order:
---     member, needs, enforces, calm, spent, ready, above     what a record says of a node, and of the cluster
+--     above31, member, needs, enforces     what a number and a record say of a node.        noGrace, lastEpoch, allEnforce     and of the cluster
 --     fresh                    the record that a history begins with
 --     Rule, joinRules ..       each call's refusals in order, a condition and its number
 --     joined ..                the record that an accepted call leaves
@@ -17,6 +17,10 @@ use Rattle.epochs.specs.declared.MayReclaim.{MayReclaim}
 use Rattle.epochs.specs.declared.MayReclaim.the-variants.{Yes, No, NoSuchNode}
 
 -- ---- what a record says
+-- a number that is no node's
+abbrev pub above31 : ℕ → Bool
+above31 node = leb 32 node
+
 abbrev pub member : Epochs → ℕ → Bool
 member e node = has (e .members) node
 
@@ -27,21 +31,17 @@ needs e node = has (e .need) node
 abbrev pub enforces : Epochs → ℕ → Bool
 enforces e node = has (e .enforcing) node
 
--- R is 0: no grace period
-abbrev pub calm : Epochs → Bool
-calm e = eqb (e .recovery) 0
+-- R is 0
+abbrev pub noGrace : Epochs → Bool
+noGrace e = eqb (e .recovery) 0
 
--- C can't rise
-abbrev pub spent : Epochs → Bool
-spent e = eqb (e .current) (2 ^ 64 - 1)
+-- C is 2^64 - 1
+abbrev pub lastEpoch : Epochs → Bool
+lastEpoch e = eqb (e .current) (2 ^ 64 - 1)
 
 -- every member enforces
-abbrev pub ready : Epochs → Bool
-ready e = within (e .members) (e .enforcing)
-
--- a number that is no node's
-abbrev pub above : ℕ → Bool
-above node = leb 32 node
+abbrev pub allEnforce : Epochs → Bool
+allEnforce e = within (e .members) (e .enforcing)
 
 -- C = 1, R = 0, no members
 abbrev pub fresh : Epochs
@@ -53,22 +53,22 @@ pub data Rule : Type 0 where
 
 infix 68 _⇒_
 abbrev pub joinRules : Epochs → ℕ → List Rule
-joinRules e node = above node ⇒ 22 ∷ member e node ⇒ 17 ∷ []
+joinRules e node = above31 node ⇒ 22 ∷ member e node ⇒ 17 ∷ []
 
 abbrev pub leaveRules : Epochs → ℕ → List Rule
-leaveRules e node = above node ⇒ 22 ∷ not (member e node) ⇒ 2 ∷ needs e node ⇒ 10013 ∷ []
+leaveRules e node = above31 node ⇒ 22 ∷ not (member e node) ⇒ 2 ∷ needs e node ⇒ 10013 ∷ []
 
 abbrev pub startRules : Epochs → ℕ → List Rule
-startRules e node = above node ⇒ 22 ∷ not (member e node) ⇒ 2 ∷ (calm e && spent e) ⇒ 28 ∷ []
+startRules e node = above31 node ⇒ 22 ∷ not (member e node) ⇒ 2 ∷ (noGrace e && lastEpoch e) ⇒ 28 ∷ []
 
 abbrev pub enforceRules : Epochs → ℕ → List Rule
-enforceRules e node = above node ⇒ 22 ∷ not (member e node) ⇒ 2 ∷ calm e ⇒ 10033 ∷ []
+enforceRules e node = above31 node ⇒ 22 ∷ not (member e node) ⇒ 2 ∷ noGrace e ⇒ 10033 ∷ []
 
 abbrev pub finishRules : Epochs → ℕ → List Rule
-finishRules e node = above node ⇒ 22 ∷ not (member e node) ⇒ 2 ∷ not (needs e node) ⇒ 22 ∷ []
+finishRules e node = above31 node ⇒ 22 ∷ not (member e node) ⇒ 2 ∷ not (needs e node) ⇒ 22 ∷ []
 
 abbrev pub stopRules : Epochs → ℕ → List Rule
-stopRules e node = above node ⇒ 22 ∷ not (member e node) ⇒ 2 ∷ not (calm e) ⇒ 10013 ∷ []
+stopRules e node = above31 node ⇒ 22 ∷ not (member e node) ⇒ 2 ∷ not (noGrace e) ⇒ 10013 ∷ []
 
 -- ---- the record that an accepted call leaves
 -- a member, with no flags
@@ -79,12 +79,12 @@ joined e node = record { current = e .current; recovery = e .recovery; members =
 abbrev pub departed : Epochs → ℕ → Epochs
 departed e node = record { current = e .current; recovery = e .recovery; members = minus (e .members) node; need = e .need; enforcing = minus (e .enforcing) node }
 
--- R = C, and C rises by 1: where R = 0
-abbrev pub raisedEpoch : Epochs → Epochs
-raisedEpoch e = record { current = e .current + 1; recovery = e .current; members = e .members; need = e .need; enforcing = e .enforcing }
+-- where R = 0: R = C, and C rises by 1
+abbrev pub newEpoch : Epochs → Epochs
+newEpoch e = record { current = e .current + 1; recovery = e .current; members = e .members; need = e .need; enforcing = e .enforcing }
 
 abbrev pub begun : Epochs → Epochs
-begun e = cond (calm e) (raisedEpoch e) e
+begun e = cond (noGrace e) (newEpoch e) e
 
 -- both flags are set
 abbrev pub flagged : Epochs → ℕ → Epochs
@@ -133,7 +133,7 @@ stopOf e node = judged e (stopRules e node) (stopped e node)
 
 -- yes exactly when R isn't 0, the node, a member, has NEED, and every member enforces
 unfoldable pub mayReclaimOf : Epochs → ℕ → MayReclaim
-mayReclaimOf e node = cond (above node) NoSuchNode (cond (not (calm e) && (member e node && (needs e node && ready e))) Yes No)
+mayReclaimOf e node = cond (above31 node) NoSuchNode (cond (not (noGrace e) && (member e node && (needs e node && allEnforce e))) Yes No)
 
 -- the number of each answer in C
 abbrev pub reclaimNumber : MayReclaim → ℕ

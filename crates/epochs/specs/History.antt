@@ -13,7 +13,7 @@ use lib.Dec.{eqb}
 use Rattle.epochs.specs.declared.Epochs.{Epochs}
 use Rattle.epochs.specs.declared.Answered.{Answered}
 use Rattle.epochs.specs.declared.MayReclaim.the-variants.{Yes}
-use Rattle.epochs.specs.Epochs.{member, needs, enforces, calm, fresh, joinOf, leaveOf, startOf, enforceOf, finishOf, stopOf, mayReclaimOf, reclaimNumber}
+use Rattle.epochs.specs.Epochs.{member, needs, enforces, noGrace, fresh, joinOf, leaveOf, startOf, enforceOf, finishOf, stopOf, mayReclaimOf, reclaimNumber}
 
 pub data Call : Type 0 where
   join leave start enforce finish stopEnforcing mayReclaim : (node : ℕ) → Call
@@ -41,7 +41,7 @@ isStart (stopEnforcing node) = false
 isStart (mayReclaim node) = false
 
 abbrev pub raises : Epochs → Call → Bool
-raises e c = isStart c && (eqb (called e c .status) 0 && calm e)
+raises e c = isStart c && (eqb (called e c .status) 0 && noGrace e)
 
 unfoldable pub raised : Epochs → List Call → ℕ
 raised e [] = 0

@@ -2,7 +2,10 @@
 // First the record and what calls answer, then each call by value, then the same calls on a record where it lies, which a C server links.
 ghost use mathlib.Core.Path.{_≡_};
 ghost use Prim.Native.Nat.{_<_};
-ghost use Rattle.epochs.specs.Epochs.{fresh, accepted, flagged, joinOf, leaveOf, startOf, enforceOf, finishOf, stopOf, mayReclaimOf, reclaimNumber};
+ghost use Rattle.epochs.specs.Epochs.{fresh, accepted, refused, flagged, joinOf, leaveOf, startOf, enforceOf, finishOf, stopOf, mayReclaimOf, reclaimNumber};
+
+// The epoch after which there is none: 2^64 - 1.
+const LAST_EPOCH: u64 = 18446744073709551615;
 
 #[repr(C)]
 pub struct Epochs {
@@ -54,29 +57,40 @@ impl Epochs {
         }
     }
 
+    // The answer to a call that is accepted: 0, and the record as it is now.
+    fn accepted(self) -> Answered
+        ensures { λ r. ⌜ r ≡ accepted self ⌝ }
+    {
+        Answered {
+            status: 0,
+            epochs: self,
+        }
+    }
+
+    // The answer to a call that is refused: its number, and the record as it was.
+    fn refused(self, status: u32) -> Answered
+        ensures { λ r. ⌜ r ≡ refused status self ⌝ }
+    {
+        Answered {
+            status: status,
+            epochs: self,
+        }
+    }
+
     // Join: the node is a member, with no flags.
     pub fn join(mut self, node: u32) -> Answered
         ensures { λ r. ⌜ r ≡ joinOf self node ⌝ }
     {
         if 32 <= node {
-            return Answered {
-                status: 22,
-                epochs: self,
-            };
+            return self.refused(22);
         }
         if masks::test(self.members, node) {
-            return Answered {
-                status: 17,
-                epochs: self,
-            };
+            return self.refused(17);
         }
         self.members = masks::with(self.members, node);
         self.need = masks::without(self.need, node);
         self.enforcing = masks::without(self.enforcing, node);
-        Answered {
-            status: 0,
-            epochs: self,
-        }
+        self.accepted()
     }
 
     // Leave: the node is no member any more, and has no flags.
@@ -84,29 +98,17 @@ impl Epochs {
         ensures { λ r. ⌜ r ≡ leaveOf self node ⌝ }
     {
         if 32 <= node {
-            return Answered {
-                status: 22,
-                epochs: self,
-            };
+            return self.refused(22);
         }
         if !masks::test(self.members, node) {
-            return Answered {
-                status: 2,
-                epochs: self,
-            };
+            return self.refused(2);
         }
         if masks::test(self.need, node) {
-            return Answered {
-                status: 10013,
-                epochs: self,
-            };
+            return self.refused(10013);
         }
         self.members = masks::without(self.members, node);
         self.enforcing = masks::without(self.enforcing, node);
-        Answered {
-            status: 0,
-            epochs: self,
-        }
+        self.accepted()
     }
 
     // Both flags of a node are set.
@@ -116,10 +118,7 @@ impl Epochs {
     {
         self.need = masks::with(self.need, node);
         self.enforcing = masks::with(self.enforcing, node);
-        Answered {
-            status: 0,
-            epochs: self,
-        }
+        self.accepted()
     }
 
     // Start: the node needs a grace period, and enforces it. The first one begins the period and a new epoch.
@@ -127,23 +126,14 @@ impl Epochs {
         ensures { λ r. ⌜ r ≡ startOf self node ⌝ }
     {
         if 32 <= node {
-            return Answered {
-                status: 22,
-                epochs: self,
-            };
+            return self.refused(22);
         }
         if !masks::test(self.members, node) {
-            return Answered {
-                status: 2,
-                epochs: self,
-            };
+            return self.refused(2);
         }
         if self.recovery == 0 {
-            if self.current == 18446744073709551615 {
-                return Answered {
-                    status: 28,
-                    epochs: self,
-                };
+            if self.current == LAST_EPOCH {
+                return self.refused(28);
             }
             self.recovery = self.current;
             self.current = self.current + 1;
@@ -157,28 +147,16 @@ impl Epochs {
         ensures { λ r. ⌜ r ≡ enforceOf self node ⌝ }
     {
         if 32 <= node {
-            return Answered {
-                status: 22,
-                epochs: self,
-            };
+            return self.refused(22);
         }
         if !masks::test(self.members, node) {
-            return Answered {
-                status: 2,
-                epochs: self,
-            };
+            return self.refused(2);
         }
         if self.recovery == 0 {
-            return Answered {
-                status: 10033,
-                epochs: self,
-            };
+            return self.refused(10033);
         }
         self.enforcing = masks::with(self.enforcing, node);
-        Answered {
-            status: 0,
-            epochs: self,
-        }
+        self.accepted()
     }
 
     // Finish: the node needs the grace period no more. The last one ends it.
@@ -186,35 +164,20 @@ impl Epochs {
         ensures { λ r. ⌜ r ≡ finishOf self node ⌝ }
     {
         if 32 <= node {
-            return Answered {
-                status: 22,
-                epochs: self,
-            };
+            return self.refused(22);
         }
         if !masks::test(self.members, node) {
-            return Answered {
-                status: 2,
-                epochs: self,
-            };
+            return self.refused(2);
         }
         if !masks::test(self.need, node) {
-            return Answered {
-                status: 22,
-                epochs: self,
-            };
+            return self.refused(22);
         }
         self.need = masks::without(self.need, node);
         if masks::none(self.need) {
             self.recovery = 0;
-            return Answered {
-                status: 0,
-                epochs: self,
-            };
+            return self.accepted();
         }
-        Answered {
-            status: 0,
-            epochs: self,
-        }
+        self.accepted()
     }
 
     // Stop enforcing: once the grace period is over.
@@ -222,28 +185,16 @@ impl Epochs {
         ensures { λ r. ⌜ r ≡ stopOf self node ⌝ }
     {
         if 32 <= node {
-            return Answered {
-                status: 22,
-                epochs: self,
-            };
+            return self.refused(22);
         }
         if !masks::test(self.members, node) {
-            return Answered {
-                status: 2,
-                epochs: self,
-            };
+            return self.refused(2);
         }
-        if self.recovery == 0 {
-            self.enforcing = masks::without(self.enforcing, node);
-            return Answered {
-                status: 0,
-                epochs: self,
-            };
+        if self.recovery != 0 {
+            return self.refused(10013);
         }
-        Answered {
-            status: 10013,
-            epochs: self,
-        }
+        self.enforcing = masks::without(self.enforcing, node);
+        self.accepted()
     }
 
     // May reclaim: whether the node's clients may reclaim now.

@@ -1,4 +1,5 @@
 -- `Epochs::flag` meets its contract: what `masks::with` ensures of both sets.
+use mathlib.Core.Path.{sym}
 use borrow.Author.Needs.{needs}
 use Rattle.epochs.proofs.Epochs.flag.Statement.{statement}
 use Rattle.epochs.proofs.Epochs.flag.Tie as tie
@@ -9,8 +10,11 @@ with-requires c κs = search needs
 with-requires-2 : tie.Need-with-requires-2
 with-requires-2 c κs = search needs
 
+accepted-requires : tie.Need-accepted-requires
+accepted-requires c κs = search needs
+
 returns : tie.Need-returns
-returns c = simp (c .before .with .ensures, c .with2 .ensures)
+returns c = simp (sym (c .before .before .with .ensures), sym (c .before .with2 .ensures)) (c .accepted .ensures)
 
 pub flag-spec : {M : Type 1} → statement M
-flag-spec = tie.close (tie.spec with-requires with-requires-2 returns)
+flag-spec = tie.close (tie.spec with-requires with-requires-2 accepted-requires returns)

@@ -6,20 +6,29 @@ use Rattle.epochs.specs.Epochs.{startOf, judged}
 use Rattle.epochs.proofs.Epochs.start.Statement.{statement}
 use Rattle.epochs.proofs.Epochs.start.Tie as tie
 
+refused-requires : tie.Need-refused-requires
+refused-requires c κs = search needs
+
 returns : tie.Need-returns
 unfolding startOf judged
-returns c = simp (le-leb _ _ (c .if1 .taken))
+returns c = simp (le-leb _ _ (c .before .if1 .taken)) (c .refused .ensures)
 
 test-requires : tie.Need-test-requires
 test-requires c κs = search needs
 
+refused-requires-2 : tie.Need-refused-requires-2
+refused-requires-2 c κs = search needs
+
 returns-2 : tie.Need-returns-2
 unfolding startOf judged
-returns-2 c = simp (lt-leb _ _ (c .before .before .if1 .left), sym (c .before .test .ensures) ∙ not-true _ (c .if2 .taken))
+returns-2 c = simp (lt-leb _ _ (c .before .before .before .if1 .left), sym (c .before .before .test .ensures) ∙ not-true _ (c .before .if2 .taken)) (c .refused2 .ensures)
+
+refused-requires-3 : tie.Need-refused-requires-3
+refused-requires-3 c κs = search needs
 
 returns-3 : tie.Need-returns-3
 unfolding startOf judged
-returns-3 c = simp (lt-leb _ _ (c .before .before .before .before .before .before .if1 .left), sym (c .before .before .before .before .before .test .ensures) ∙ not-false _ (c .before .before .before .before .if2 .left), eq-eqb _ _ (c .before .before .if3 .taken), eq-eqb _ _ (c .if4 .taken))
+returns-3 c = simp (lt-leb _ _ (c .before .before .before .before .before .before .before .if1 .left), sym (c .before .before .before .before .before .before .test .ensures) ∙ not-false _ (c .before .before .before .before .before .if2 .left), eq-eqb _ _ (c .before .before .before .if3 .taken), eq-eqb _ _ (c .before .if4 .taken)) (c .refused3 .ensures)
 
 add-self : tie.Need-add-self
 add-self c = search needs
@@ -39,4 +48,4 @@ unfolding startOf judged
 returns-5 c = simp (lt-leb _ _ (c .before .before .before .before .before .if1 .left), sym (c .before .before .before .before .test .ensures) ∙ not-false _ (c .before .before .before .if2 .left), ne-eqb _ _ (c .before .if3 .left)) (c .flag2 .ensures)
 
 pub start-spec : {M : Type 1} → statement M
-start-spec = tie.close (tie.spec returns test-requires returns-2 returns-3 add-self flag-requires returns-4 flag-requires-2 returns-5)
+start-spec = tie.close (tie.spec refused-requires returns test-requires refused-requires-2 returns-2 refused-requires-3 returns-3 add-self flag-requires returns-4 flag-requires-2 returns-5)
