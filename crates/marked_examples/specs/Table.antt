@@ -1,0 +1,166 @@
+-- DEFINITION. The marked examples K1 to K15 of paper 01, as one table: what the definitions answer, and what the paper prints. In this order: layout
+-- bodies; a report as bytes; histories of the record, by the record's definitions and by the ledger's; epochs; the table; the claim.
+use Prim.Native.Nat.{ℕ, _-_, _^_}
+use mathlib.Core.Path.{_≡_}
+use mathlib.Core.List.{List, [], _∷_, _++_}
+use lib.ListN.{replicate}
+use Rattle.xdr.specs.Be.{beBytes}
+use Rattle.extents.specs.declared.Verdict.{Verdict}
+use Rattle.extents.specs.declared.Verdict.the-variants.{Accepted, Refused}
+use Rattle.wire.specs.Layout.{checkBody}
+use Rattle.recovery.specs.Calls.{Call, register, opening, reclaim, close, endGrace, restart, layoutReturn, resilver, offered, Answer, said, replied, listed}
+use Rattle.recovery.specs.Ledger.{Ledger, noRows, judge, feed}
+use Rattle.recovery.specs.Record.{fresh}
+use Rattle.recovery.specs.History.{answers}
+use Rattle.epochs.specs.Epochs as epochs
+use Rattle.epochs.specs.History as epoch
+
+-- ---- layout bodies: an extent of a state at an offset, of a length; device and storage offset are 0
+abbrev pub extent : ℕ → ℕ → ℕ → List ℕ
+extent state offset len = replicate 16 0 ++ beBytes 8 offset ++ beBytes 8 len ++ beBytes 8 0 ++ beBytes 4 state
+
+abbrev pub readWrite : ℕ → ℕ → List ℕ
+readWrite offset len = extent 0 offset len
+
+abbrev pub read : ℕ → ℕ → List ℕ
+read offset len = extent 1 offset len
+
+abbrev pub invalid : ℕ → ℕ → List ℕ
+invalid offset len = extent 2 offset len
+
+abbrev pub none : ℕ → ℕ → List ℕ
+none offset len = extent 3 offset len
+
+-- ---- devices A, B and C
+abbrev pub A : List ℕ
+A = replicate 16 10
+
+abbrev pub B : List ℕ
+B = replicate 16 11
+
+abbrev pub C : List ℕ
+C = replicate 16 12
+
+-- a report of one device with status 5: one error record with one device error, and no statistics (68 bytes)
+abbrev pub report : List ℕ → List ℕ
+report device =
+    beBytes 4 1 ++ beBytes 8 0 ++ beBytes 8 4096 ++ replicate 16 0 ++ beBytes 4 1 ++ device ++ beBytes 4 5 ++ beBytes 4 38 ++ beBytes 4 0
+
+-- a LAYOUTRETURN of a file's layout with the all-zero stateid and that report (120 bytes)
+abbrev pub request : List ℕ → List ℕ
+request device =
+    beBytes 4 0 ++ beBytes 4 4 ++ beBytes 4 3 ++ beBytes 4 1 ++ beBytes 8 0 ++ beBytes 8 (2 ^ 64 - 1) ++ replicate 16 0 ++ beBytes 4 68 ++ report device
+
+-- ---- histories
+-- register 7 (devices A, B), client 1 opens, restart
+abbrev pub started : List Call
+started = register 7 (A ++ B) ∷ opening 7 1 ∷ restart ∷ []
+
+abbrev pub reclaimed : List Call
+reclaimed = started ++ reclaim 7 1 ∷ []
+
+abbrev pub reports : List ℕ → Call
+reports device = layoutReturn 7 1 (request device) (replicate 24 255)
+
+-- the listings, lent two places each
+abbrev pub list : Call
+list = resilver (0 ∷ 0 ∷ []) (9 ∷ 9 ∷ [])
+
+abbrev pub offers : Call
+offers = offered (0 ∷ 0 ∷ []) (9 ∷ 9 ∷ [])
+
+-- what the record's definitions answer to a list of calls, and what the ledger says, fed with its own answers
+abbrev pub byRecord : List Call → List Answer
+byRecord calls = answers fresh calls
+
+unfoldable pub ledgerFrom : Ledger → List Call → List Answer
+ledgerFrom l [] = []
+ledgerFrom l (x ∷ xs) = judge l x ∷ ledgerFrom (feed l x (judge l x)) xs
+
+abbrev pub byLedger : List Call → List Answer
+byLedger calls = ledgerFrom noRows calls
+
+-- ---- the table: a row is a verdict; the answers to a history, by the record and by the ledger; or the epochs C and R
+pub data Row : Type 0 where
+  body : Verdict → Row
+  history : (byTheRecord byTheLedger : List Answer) → Row
+  epochsAre : (current recovery : ℕ) → Row
+
+abbrev pub called : List Call → Row
+called calls = history (byRecord calls) (byLedger calls)
+
+abbrev pub epochsAfter : List epoch.Call → Row
+epochsAfter calls = epochsAre (epoch.after epochs.fresh calls .current) (epoch.after epochs.fresh calls .recovery)
+
+abbrev pub bothStart : List epoch.Call
+bothStart = epoch.join 0 ∷ epoch.join 1 ∷ epoch.start 0 ∷ epoch.start 1 ∷ []
+
+-- what the definitions answer
+unfoldable pub computed : List Row
+computed =
+    -- K1 to K3
+    body (checkBody (0 ∷ 0 ∷ 0 ∷ 0 ∷ []))
+    ∷ body (checkBody (0 ∷ 0 ∷ 0 ∷ []))
+    ∷ body (checkBody (beBytes 4 1025))
+    -- K4 to K9
+    ∷ body (checkBody (beBytes 4 2 ++ readWrite 0 10 ++ readWrite 10 10))
+    ∷ body (checkBody (beBytes 4 2 ++ read 0 100 ++ invalid 0 10))
+    ∷ body (checkBody (beBytes 4 2 ++ invalid 0 10 ++ read 0 100))
+    ∷ body (checkBody (beBytes 4 3 ++ read 0 100 ++ invalid 0 10 ++ read 50 10))
+    ∷ body (checkBody (beBytes 4 1 ++ none (2 ^ 64 - 2) 1))
+    ∷ body (checkBody (beBytes 4 1 ++ none (2 ^ 64 - 1) 1))
+    -- K10 to K13
+    ∷ called (started ++ endGrace ∷ list ∷ [])
+    ∷ called (reclaimed ++ endGrace ∷ list ∷ [])
+    ∷ called (reclaimed ++ reports A ∷ endGrace ∷ list ∷ offers ∷ close 7 1 ∷ offers ∷ [])
+    ∷ called (reclaimed ++ reports C ∷ endGrace ∷ list ∷ [])
+    -- K14, and K15 after each of its two calls
+    ∷ epochsAfter bothStart
+    ∷ epochsAfter (bothStart ++ epoch.finish 0 ∷ [])
+    ∷ epochsAfter (bothStart ++ epoch.finish 0 ∷ epoch.finish 1 ∷ [])
+    ∷ []
+
+-- the list has file 7 with a source, and nothing else; or nothing
+abbrev pub seven : ℕ → Answer
+seven source = listed 0 1 (7 ∷ 0 ∷ []) (source ∷ 9 ∷ [])
+
+abbrev pub empty : Answer
+empty = listed 0 0 (0 ∷ 0 ∷ []) (9 ∷ 9 ∷ [])
+
+abbrev pub both : List Answer → Row
+both given = history given given
+
+-- the reply to an accepted report: status 0, boolean 1, sixteen zero bytes
+abbrev pub accepted : Answer
+accepted = replied 0 (beBytes 4 0 ++ beBytes 4 1 ++ replicate 16 0)
+
+-- what the paper prints
+unfoldable pub printed : List Row
+printed =
+    -- K1: accepted, 0 extents. K2: 1. K3: 2
+    body (Accepted 0)
+    ∷ body (Refused 1 0)
+    ∷ body (Refused 2 0)
+    -- K4, K5: accepted. K6: 6 at 1. K7: 7 at 2. K8: accepted. K9: 5 at 0
+    ∷ body (Accepted 2)
+    ∷ body (Accepted 2)
+    ∷ body (Refused 6 1)
+    ∷ body (Refused 7 2)
+    ∷ body (Accepted 1)
+    ∷ body (Refused 5 0)
+    -- K10: 7, source 0
+    ∷ both (said 0 ∷ said 0 ∷ said 0 ∷ said 0 ∷ seven 0 ∷ [])
+    -- K11: empty
+    ∷ both (said 0 ∷ said 0 ∷ said 0 ∷ said 0 ∷ said 0 ∷ empty ∷ [])
+    -- K12: 7, source 1; offered only after close
+    ∷ both (said 0 ∷ said 0 ∷ said 0 ∷ said 0 ∷ accepted ∷ said 0 ∷ seven 1 ∷ empty ∷ said 0 ∷ seven 1 ∷ [])
+    -- K13: 7, source 0
+    ∷ both (said 0 ∷ said 0 ∷ said 0 ∷ said 0 ∷ accepted ∷ said 0 ∷ seven 0 ∷ [])
+    -- K14: C = 2, R = 1. K15: R = 1; then R = 0
+    ∷ epochsAre 2 1
+    ∷ epochsAre 2 1
+    ∷ epochsAre 2 0
+    ∷ []
+
+abbrev pub MarkedExamples : Type 0
+MarkedExamples = computed ≡ printed
