@@ -1,7 +1,7 @@
 -- Layout bodies. Bodies: the check. Stores: the bytes of extents as they are stored. Rows: the answers of the writer. RoundTrip, Demand2: what is
 -- written reads back, and what is read writes back.
--- LAYOUTRETURN. Readers: fields read one after another. Devices: device ids. Requests, RequestModel: the request. Reports, ReportModel: the report,
--- with computed examples in ReportExamples. Replies: the reply.
+-- LAYOUTRETURN. Readers: fields read one after another. Devices: device ids. Requests, RequestModel: the request. Reports, ReportModel: the report.
+-- Replies: the reply. RequestExamples, ReportExamples: computed examples.
 pub mod Bodies
 pub mod Stores
 pub mod Rows
@@ -11,6 +11,7 @@ pub mod Readers
 pub mod Devices
 pub mod Requests
 pub mod RequestModel
+pub mod RequestExamples
 pub mod Reports
 pub mod ReportModel
 pub mod ReportExamples

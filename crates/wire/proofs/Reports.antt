@@ -321,6 +321,22 @@ module _ (s : List ℕ) (c : Cursor) where
   unfolding nextAt
   next-malformed e = next-now (c .records) s c Malformed (Done 10036) e (λ k. refl)
 
+-- and back, where device errors are to come
+abbrev pub entryOf : Found → Entry
+entryOf (Error i h l st next) = Device i h l st next
+entryOf (Done k) = Malformed
+
+pub stepped-by : (s : List ℕ) (c : Cursor) → (c .devices ≡ 0 → ⊥) → {f g : Found} → f ≡ nextAt s c → f ≡ g → entryOf g ≡ stepAt s c
+stepped-by s c z e h = ap entryOf (sym h ∙ e) ∙ by-room (ltb (length s - c .at) 24) refl
+  where
+    by-room : (b : Bool) → ltb (length s - c .at) 24 ≡ b → entryOf (nextAt s c) ≡ stepAt s c
+    by-room true r =
+        let q = device-short s c z (ltb-true (length s - c .at) 24 r) in
+        rw (next-malformed s c (sym q)) q
+    by-room false r =
+        let q = device-found s c z (ltb-false (length s - c .at) 24 r) refl refl refl refl in
+        rw (next-device s c (sym q)) q
+
 -- what the code's tests say of it
 over-by : (p : Report) (k : Cursor → Found) → nextBy (ending (statusOf p)) k ≡ Done (statusOf p)
 over-by (report.Whole xs) k = refl

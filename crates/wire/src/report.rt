@@ -2,7 +2,7 @@
 // In order: the cursor and what stands at one; `start`, `step` and `next`, by which a caller walks the device errors; `check`, the status of
 // step 5; the same for C.
 ghost use mathlib.Core.Path.{_≡_};
-ghost use Prim.Native.Nat.{_-_};
+ghost use Prim.Native.Nat.{_-_, _≤_};
 ghost use lib.ListN.{length, drop};
 ghost use Rattle.wire.specs.Report.{reportOf, statusOf};
 ghost use Rattle.wire.specs.ReportSteps.{statistics, startOf, lastStep, recordStep, stepAt, nextAt, resumedAt, handed};
@@ -128,6 +128,27 @@ fn record_step(s: &[u8], at: usize, records: u32) -> Entry
     })
 }
 
+// The device error at a place where some are to come, or 10036 where its bytes are not all there.
+fn device_at(s: &[u8], at: usize, records: u32, devices: u32) -> Found
+    requires { ⌜ 1 ≤ devices ⌝ }
+    ensures { λ r. ⌜ r ≡ nextAt (now (s .entry)) (record { at = at; records = records; devices = devices }) ⌝ }
+{
+    if left(s, at) < 24 {
+        return Found::Done(10036);
+    }
+    Found::Error {
+        record: place(xdr::be32(s, 0), records),
+        high: xdr::be64(s, at),
+        low: xdr::be64(s, at + 8),
+        status: xdr::be32(s, at + 16),
+        next: Cursor {
+            at: at + 24,
+            records,
+            devices: devices - 1,
+        },
+    }
+}
+
 // What stands at the cursor. Each step takes at least 24 bytes, whatever the counts say.
 pub fn step(s: &[u8], c: Cursor) -> Entry
     ensures { λ r. ⌜ r ≡ stepAt (now (s .entry)) c ⌝ }
@@ -138,19 +159,21 @@ pub fn step(s: &[u8], c: Cursor) -> Entry
     if devices == 0 {
         return record_step(s, at, records);
     }
-    if left(s, at) < 24 {
-        return Entry::Malformed;
-    }
-    Entry::Device {
-        record: place(xdr::be32(s, 0), records),
-        high: xdr::be64(s, at),
-        low: xdr::be64(s, at + 8),
-        status: xdr::be32(s, at + 16),
-        next: Cursor {
-            at: at + 24,
-            records,
-            devices: devices - 1,
+    match device_at(s, at, records, devices) {
+        Found::Error {
+            record,
+            high,
+            low,
+            status,
+            next,
+        } => Entry::Device {
+            record,
+            high,
+            low,
+            status,
+            next,
         },
+        Found::Done(_) => Entry::Malformed,
     }
 }
 
@@ -172,20 +195,7 @@ pub fn next(s: &[u8], c: Cursor) -> Found
         at += 36;
         records -= 1;
     }
-    if left(s, at) < 24 {
-        return Found::Done(10036);
-    }
-    Found::Error {
-        record: place(xdr::be32(s, 0), records),
-        high: xdr::be64(s, at),
-        low: xdr::be64(s, at + 8),
-        status: xdr::be32(s, at + 16),
-        next: Cursor {
-            at: at + 24,
-            records,
-            devices: devices - 1,
-        },
-    }
+    device_at(s, at, records, devices)
 }
 
 // Step 5: 0, 10036 where the report is malformed, 10004 where statistics follow. One turn a record: its device errors are passed by their count.

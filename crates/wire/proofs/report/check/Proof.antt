@@ -21,7 +21,8 @@ abbrev μ-loop : tie.MeasureT-loop
 
 returns : tie.Need-returns Inv-loop μ-loop
 returns c =
-    status-short (c .before .before .args .s .now) (omega arith)
+    let s = c .before .before .args .s .now in
+    status-short s (omega arith)
 
 be32-requires : tie.Need-be32-requires Inv-loop μ-loop
 be32-requires c κs = search needs
