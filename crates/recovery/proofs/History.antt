@@ -13,7 +13,8 @@ use Rattle.files.proofs.Slots.{Slots, all-replicate}
 use Rattle.recovery.specs.Calls.{Call, register, opening, reclaim, close, repaired, forget, endGrace, restart, layoutReturn, resilver, offered, Answer, said, replied, handedOn, listed}
 use Rattle.recovery.specs.Ledger.{Ledger, noRows, judge, apply, accepted, feed, lend, reply, isMarked, isOffered}
 use Rattle.recovery.specs.Record.{fresh, returning, writing, returnedOf, layoutreturnOf, replyAfter}
-use Rattle.recovery.specs.History.{Step, stepOf, returnStep, step, answers, verdicts, recordAfter, ledgerAfter, ledgerOf, Holds, Demand3}
+use Rattle.recovery.specs.History.{Step, stepOf, returnStep, step, answers, verdicts, recordAfter, ledgerAfter}
+use Rattle.recovery.specs.Demand3.{ledgerOf, Holds, Demand3}
 use Rattle.recovery.specs.declared.record.Record.{Record}
 use Rattle.recovery.specs.declared.record.Answered.{Answered}
 use Rattle.recovery.proofs.Relation.{Matches, RecordAgrees}

@@ -1,13 +1,11 @@
--- DEFINITION. Demand 3 (paper 01, "Histories"): any list of calls from a fresh record, each on the record that the last one left, and the ledger that goes
--- along with it. In this order: a step; a whole history; the demand.
-use mathlib.Core.Path.{_≡_}
+-- DEFINITION. A history (paper 01, "Histories"): any list of calls, each on the record that the last one left, and the ledger that goes along with it. In this
+-- order: a step; the record's side of a history; the ledger's side.
 use mathlib.Core.List.{List, [], _∷_}
 use mathlib.Core.Bool.{Bool, true, false, cond}
 use Prim.Native.Nat.{ℕ}
 use Rattle.recovery.specs.Calls.{Call, register, opening, reclaim, close, repaired, forget, endGrace, restart, layoutReturn, resilver, offered, Answer, said, replied, handedOn}
-use Rattle.recovery.specs.Ledger.{Ledger, noRows, judge, feed, isMarked, isOffered, needRepair, forCopying}
-use Rattle.recovery.specs.Lists.{OneList}
-use Rattle.recovery.specs.Record.{fresh, registerOf, openOf, reclaimOf, closeOf, repairedOf, forgetOf, endOf, restartOf, layoutreturnOf, replyAfter, listingOf}
+use Rattle.recovery.specs.Ledger.{Ledger, judge, feed}
+use Rattle.recovery.specs.Record.{registerOf, openOf, reclaimOf, closeOf, repairedOf, forgetOf, endOf, restartOf, layoutreturnOf, replyAfter, listingOf}
 use Rattle.recovery.specs.declared.record.Record.{Record}
 use Rattle.recovery.specs.declared.record.Answered.{Answered}
 use Rattle.recovery.specs.declared.layoutreturn.Returned.{Returned}
@@ -57,18 +55,3 @@ unfoldable pub ledgerAfter : Ledger → List Call → List Answer → Ledger
 ledgerAfter l [] given = l
 ledgerAfter l (x ∷ xs) [] = l
 ledgerAfter l (x ∷ xs) (a ∷ given) = ledgerAfter (feed l x a) xs given
-
--- ---- the demand, of a list of calls: each answer is what the ledger before that call says, every lent byte included; after all of them both listings
--- are the ledger's; and the ledger's two lists are the lists that the paper's sentences mean
-abbrev pub ledgerOf : List Call → Ledger
-ledgerOf calls = ledgerAfter noRows calls (answers fresh calls)
-
-pub record Holds (calls : List Call) : Type 0 where
-  pub answered : answers fresh calls ≡ verdicts noRows calls (answers fresh calls)
-  pub resilvers : (a b : List ℕ) → listingOf false (recordAfter fresh calls) a b ≡ judge (ledgerOf calls) (resilver a b)
-  pub offers : (a b : List ℕ) → listingOf true (recordAfter fresh calls) a b ≡ judge (ledgerOf calls) (offered a b)
-  pub marked : OneList isMarked (ledgerOf calls) (needRepair (ledgerOf calls))
-  pub idle : OneList isOffered (ledgerOf calls) (forCopying (ledgerOf calls))
-
-abbrev pub Demand3 : Type 0
-Demand3 = (calls : List Call) → Holds calls

@@ -3,3 +3,4 @@ pub mod Ledger
 pub mod Lists
 pub mod Record
 pub mod History
+pub mod Demand3

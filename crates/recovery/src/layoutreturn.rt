@@ -15,19 +15,14 @@ pub struct Returned {
 
 impl Record {
     // Steps 1 to 7: the status, or HANDED_ON.
-    pub fn returned(mut self, client: u64, file: u64, request: &[u8]) -> Answered
+    pub fn returned(self, client: u64, file: u64, request: &[u8]) -> Answered
         ensures { λ r. ⌜ r ≡ returnedOf file client (now (request .entry)) self ⌝ }
     {
         let i = self.place(file);
         let f = self.files[i];
         let grace = self.grace;
         let a = f.layoutreturn(file, grace, client, request);
-        let g = a.file;
-        self.files[i] = g;
-        Answered {
-            status: a.status,
-            after: self,
-        }
+        self.stored(i, a)
     }
 
     // A reply buffer under 24 bytes gets 28 before all else; where the request is handed on, no reply is written.

@@ -1,12 +1,13 @@
 // The record (paper 01, "The recovery record"): at most 64 files, by rising number, the free places last; and whether it is in grace. Each call
 // answers its status and the record afterwards. First the loops over the 64 places, then the calls in the paper's order.
 use files::file::File;
+use files::file::FileAnswered;
 ghost use mathlib.Core.Path.{_≡_};
 ghost use mathlib.Core.List.{map};
 ghost use Prim.Native.Nat.{_<_};
 ghost use Rattle.files.specs.Places.{leftOut};
 ghost use Rattle.files.specs.File.{blankFile, restartedFile, endedFile};
-ghost use Rattle.recovery.specs.Record.{fresh, placeIn, enter, registerOf, openOf, reclaimOf, closeOf, repairedOf, forgetOf, endOf, restartOf};
+ghost use Rattle.recovery.specs.Record.{fresh, answered, placeIn, putFile, enter, registerOf, openOf, reclaimOf, closeOf, repairedOf, forgetOf, endOf, restartOf};
 
 #[repr(C)]
 pub struct Record {
@@ -122,38 +123,49 @@ impl Record {
         63
     }
 
+    // The record as it is, with a status.
+    fn refused(self, status: u32) -> Answered
+        ensures { λ r. ⌜ r ≡ answered status self ⌝ }
+    {
+        Answered {
+            status: status,
+            after: self,
+        }
+    }
+
+    // The record with a file as a call on it left it, and the call's status.
+    pub(crate) fn stored(mut self, at: usize, a: FileAnswered) -> Answered
+        requires { ⌜ at < 64 ⌝ }
+        ensures { λ r. ⌜ r ≡ putFile self at a ⌝ }
+    {
+        let f = a.file;
+        self.files[at] = f;
+        Answered {
+            status: a.status,
+            after: self,
+        }
+    }
+
     // Register a file with its mirrors, 16 bytes a device: 10013 in grace; 22 bad mirror list; 17 registered; 28 if 64 are registered.
     pub fn register(mut self, file: u64, mirrors: &[u8]) -> Answered
         ensures { λ r. ⌜ r ≡ registerOf file (now (mirrors .entry)) self ⌝ }
     {
         if self.grace {
-            return Answered {
-                status: 10013,
-                after: self,
-            };
+            return self.refused(10013);
         }
         let e = files::enrol::enrol(mirrors);
         if !e.good {
-            return Answered {
-                status: 22,
-                after: self,
-            };
+            return self.refused(22);
         }
         let i = self.place(file);
         let f = self.files[i];
         let hit = f.is(file);
         if hit {
-            return Answered {
-                status: 17,
-                after: self,
-            };
+            return self.refused(17);
         }
         let last = self.files[63];
         if last.used {
-            return Answered {
-                status: 28,
-                after: self,
-            };
+            return self.refused(28);
         }
         let ms = e.mirrors;
         let x = File::new(file, ms);
@@ -167,67 +179,47 @@ impl Record {
     }
 
     // Open for writing: 10013 in grace; 70; held already: 0, no change; 28 if 8 are held.
-    pub fn open(mut self, file: u64, client: u64) -> Answered
+    pub fn open(self, file: u64, client: u64) -> Answered
         ensures { λ r. ⌜ r ≡ openOf file client self ⌝ }
     {
         let i = self.place(file);
         let f = self.files[i];
         let grace = self.grace;
         let a = f.open(file, grace, client);
-        let g = a.file;
-        self.files[i] = g;
-        Answered {
-            status: a.status,
-            after: self,
-        }
+        self.stored(i, a)
     }
 
     // Reclaim: 10033 not in grace; 70; 10034 no intent; again: 0, no change.
-    pub fn reclaim(mut self, file: u64, client: u64) -> Answered
+    pub fn reclaim(self, file: u64, client: u64) -> Answered
         ensures { λ r. ⌜ r ≡ reclaimOf file client self ⌝ }
     {
         let i = self.place(file);
         let f = self.files[i];
         let grace = self.grace;
         let a = f.reclaim(file, grace, client);
-        let g = a.file;
-        self.files[i] = g;
-        Answered {
-            status: a.status,
-            after: self,
-        }
+        self.stored(i, a)
     }
 
     // Close: 70; 10025 no intent, or in grace and not reclaimed.
-    pub fn close(mut self, file: u64, client: u64) -> Answered
+    pub fn close(self, file: u64, client: u64) -> Answered
         ensures { λ r. ⌜ r ≡ closeOf file client self ⌝ }
     {
         let i = self.place(file);
         let f = self.files[i];
         let grace = self.grace;
         let a = f.close(file, grace, client);
-        let g = a.file;
-        self.files[i] = g;
-        Answered {
-            status: a.status,
-            after: self,
-        }
+        self.stored(i, a)
     }
 
     // Repaired: 70; 22 not marked; 10008 an intent is open.
-    pub fn repaired(mut self, file: u64) -> Answered
+    pub fn repaired(self, file: u64) -> Answered
         ensures { λ r. ⌜ r ≡ repairedOf file self ⌝ }
     {
         let i = self.place(file);
         let f = self.files[i];
         let grace = self.grace;
         let a = f.repaired(file, grace);
-        let g = a.file;
-        self.files[i] = g;
-        Answered {
-            status: a.status,
-            after: self,
-        }
+        self.stored(i, a)
     }
 
     // Forget a file: 10013 in grace; 70; 10008 marked or an intent is open.
@@ -239,10 +231,7 @@ impl Record {
         let grace = self.grace;
         let status = f.forget(file, grace);
         if status != 0 {
-            return Answered {
-                status: status,
-                after: self,
-            };
+            return self.refused(status);
         }
         let old = self.files;
         let fs = left_out(old, i);
@@ -258,10 +247,7 @@ impl Record {
         ensures { λ r. ⌜ r ≡ endOf self ⌝ }
     {
         if !self.grace {
-            return Answered {
-                status: 10033,
-                after: self,
-            };
+            return self.refused(10033);
         }
         let old = self.files;
         let fs = ended(old);

@@ -1,13 +1,17 @@
 -- By whether it is in grace, and what `ended` answers.
+use mathlib.Core.Path.{_∙_}
 use borrow.Author.Needs.{needs}
 use borrow.Author.Tests.{not-true, not-false}
 use Rattle.recovery.specs.Record.{endOf}
 use Rattle.recovery.proofs.record.Record.end_grace.Statement.{statement}
 use Rattle.recovery.proofs.record.Record.end_grace.Tie as tie
 
+refused-requires : tie.Need-refused-requires
+refused-requires c κs = search needs
+
 returns : tie.Need-returns
 unfolding endOf
-returns c = rw (not-true (c .before .before .args .self .grace) (c .if1 .taken))
+returns c = c .refused .ensures ∙ rw (not-true (c .before .before .before .args .self .grace) (c .before .if1 .taken))
 
 ended-requires : tie.Need-ended-requires
 ended-requires c κs = search needs
@@ -17,4 +21,4 @@ unfolding endOf
 returns-2 c = rw (not-false (c .before .before .before .before .args .self .grace) (c .before .before .if1 .left), c .ended .ensures)
 
 pub end-grace-spec : {M : Type 1} → statement M
-end-grace-spec = tie.close (tie.spec returns ended-requires returns-2)
+end-grace-spec = tie.close (tie.spec refused-requires returns ended-requires returns-2)

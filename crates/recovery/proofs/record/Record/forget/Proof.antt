@@ -1,4 +1,5 @@
 -- By the place that `place` answers and the refusal of the file there.
+use mathlib.Core.Path.{_∙_}
 use Prim.Native.Nat.{_-_}
 use borrow.Author.Needs.{needs}
 use borrow.Author.Tests.{eq-eqb, ne-eqb}
@@ -18,9 +19,12 @@ element-copy-out-f c = search needs
 forget-requires : tie.Need-forget-requires
 forget-requires c κs = search needs
 
+refused-requires : tie.Need-refused-requires
+refused-requires c κs = search needs
+
 returns : tie.Need-returns
 unfolding forgetOf
-returns c = rw (← c .before .before .before .place .ensures .0, ← c .before .forget .ensures, ne-eqb _ _ (c .if1 .taken))
+returns c = c .refused .ensures ∙ rw (← c .before .before .before .before .place .ensures .0, ← c .before .before .forget .ensures, ne-eqb _ _ (c .before .if1 .taken))
 
 left-out-requires : tie.Need-left-out-requires
 left-out-requires c κs = search needs
@@ -37,6 +41,7 @@ forget-spec =
     mul-f
     element-copy-out-f
     forget-requires
+    refused-requires
     returns
     left-out-requires
     returns-2)

@@ -1,4 +1,5 @@
 -- By the place that `place` answers and the answer of the file there.
+use mathlib.Core.Path.{_∙_}
 use Prim.Native.Nat.{_-_}
 use borrow.Author.Needs.{needs}
 use Rattle.recovery.specs.Record.{repairedOf}
@@ -17,24 +18,14 @@ element-copy-out-f c = search needs
 repaired-requires : tie.Need-repaired-requires
 repaired-requires c κs = search needs
 
-mul-g : tie.Need-mul-g
-mul-g c = search needs
-
-element-set-from-g : tie.Need-element-set-from-g
-element-set-from-g c = search needs
+stored-requires : tie.Need-stored-requires
+stored-requires c κs = c .before .before .place .ensures .1
 
 returns : tie.Need-returns
 unfolding repairedOf
-returns c = rw (c .before .repaired .ensures, c .before .before .before .place .ensures .0)
+returns c = c .stored .ensures ∙ rw (c .before .repaired .ensures, c .before .before .before .place .ensures .0)
 
 pub repaired-spec : {M : Type 1} → statement M
 repaired-spec =
     tie.close
-    (tie.spec
-    place-requires
-    mul-f
-    element-copy-out-f
-    repaired-requires
-    mul-g
-    element-set-from-g
-    returns)
+    (tie.spec place-requires mul-f element-copy-out-f repaired-requires stored-requires returns)

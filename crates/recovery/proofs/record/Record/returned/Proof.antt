@@ -1,4 +1,5 @@
 -- By the place that `place` answers and the answer of the file there.
+use mathlib.Core.Path.{_∙_}
 use Prim.Native.Nat.{_-_}
 use borrow.Author.Needs.{needs}
 use Rattle.recovery.specs.Record.{returnedOf}
@@ -17,15 +18,12 @@ element-copy-out-f c = search needs
 layoutreturn-requires : tie.Need-layoutreturn-requires
 layoutreturn-requires c κs = search needs
 
-mul-g : tie.Need-mul-g
-mul-g c = search needs
-
-element-set-from-g : tie.Need-element-set-from-g
-element-set-from-g c = search needs
+stored-requires : tie.Need-stored-requires
+stored-requires c κs = c .before .before .place .ensures .1
 
 returns : tie.Need-returns
 unfolding returnedOf
-returns c = rw (c .before .layoutreturn .ensures, c .before .before .before .place .ensures .0)
+returns c = c .stored .ensures ∙ rw (c .before .layoutreturn .ensures, c .before .before .before .place .ensures .0)
 
 pub returned-spec : {M : Type 1} → statement M
 returned-spec =
@@ -35,6 +33,5 @@ returned-spec =
     mul-f
     element-copy-out-f
     layoutreturn-requires
-    mul-g
-    element-set-from-g
+    stored-requires
     returns)
