@@ -1,5 +1,6 @@
 // The wire library: layout bodies (RFC 8154) and LAYOUTRETURN (RFC 8881, 8435), from bytes and to bytes. Paper 01, "Layout bodies", "LAYOUTRETURN".
 //     layout     a layout body: the check, and its extents
+//     view       a layout body's extents where they lie, after one check
 //     columns    writing a layout body from a list that is lent as columns
 //     request    the arguments of a LAYOUTRETURN: steps 1 to 3
 //     body       the body, as the part of the request where it lies
@@ -11,3 +12,4 @@ pub mod layout;
 pub mod reply;
 pub mod report;
 pub mod request;
+pub mod view;
