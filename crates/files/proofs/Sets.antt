@@ -125,4 +125,3 @@ unfolding any
 none-at p d z [] i e = z
 none-at p d z (x ∷ xs) zero e = first-no (p x) (any p xs) e
 none-at p d z (x ∷ xs) (suc i) e = none-at p d z xs i (rest-no (p x) (any p xs) e)
-

@@ -1,0 +1,370 @@
+-- Calls on the record: each answers what the ledger says, and leaves a record that goes with the ledger as it is fed. In this order: the file that a call
+-- names; a call on one file, once for all; each such call; forget; register; the end of grace and restart; the lists.
+use mathlib.Core.Path.{_≡_, refl, ap, sym, _∙_}
+use mathlib.Core.List.{List, [], _∷_, map}
+use mathlib.Core.Bool.{Bool, true, false, not, cond}
+use Prim.Native.Nat.{ℕ, suc, _<_, _≤_}
+use native.Mathlib.Omega.{arith}
+use lib.ListN.{getD, set, length, length-set, length-map}
+use lib.Seq.{set-getD}
+use lib.Dec.{eqb, leb, ltb}
+use borrow.Author.Tests.{eqb-false, le-leb, lt-leb, leb-true, leb-false, ltb-true, ltb-false}
+use Rattle.wire.specs.Device.{Device}
+use Rattle.files.specs.Lists.{any, chosen, none, discard, amend, Above, Rising}
+use Rattle.files.specs.Places.{first, placeOr, leftOut}
+use Rattle.files.specs.Devices.{mirrorsIn, badMirrors}
+use Rattle.files.specs.Mirrors.{placedMirrors, enrolledOf}
+use Rattle.files.specs.File.{noFile, blankFile, isFile, isVacant, fileOf, fileAnswered, openedFile, reclaimedFile, closedFile, repairedFile, forgettable, restartedFile, endedFile, isListed, isReady, sourceOf}
+use Rattle.files.specs.declared.places.Found.the-variants.{At, Nothing}
+use Rattle.files.specs.declared.file.File.{File}
+use Rattle.files.specs.declared.file.FileAnswered.{FileAnswered}
+use Rattle.files.proofs.Slots.{All, Slots, Focus, Hit, slots-map, slots-chosen, slots-at, focus, pairs-map, leftOut-length, missing, found}
+use Rattle.files.proofs.Sets.{true-false, first-nothing, none-at, first-no, rest-no}
+use Rattle.files.proofs.Enrolling.{few-mirrors}
+use Rattle.recovery.specs.Ledger.{Row, Ledger, isRow, newRow, registered, rowOf, refused, _⇒_, openRules, intentRules, closeRules, repairedRules, forgetRules, isMarked, isOffered, needRepair, forCopying, listOf, numbers, source, opened, hasReclaimed, closed, mended, restarted, ended, insert, withRows, withGrace, onRow}
+use Rattle.recovery.specs.Record.{withFiles, answered, placeIn, fileAt, onPlace, openOf, reclaimOf, closeOf, repairedOf, enter, isFull, registerWith, registerOf, forgets, forgetOf, endOf, restartOf, isWanted, numberOf, listingOf}
+use Rattle.recovery.specs.declared.record.Record.{Record}
+use Rattle.recovery.proofs.Relation.{FileIs, NoFile, Matches, branch, FileAgrees, RecordAgrees}
+use Rattle.recovery.proofs.OneFile.{some-taken, file-opened, file-reclaimed, file-closed, file-repaired, file-restarted, file-ended, file-source, file-new}
+
+-- ---- the file that a call names
+is-file : (g : Bool) (n : ℕ) (f : File) (w : Row) → FileIs g f w → isFile n f ≡ isRow n w
+is-file g n f w h = rw (h .used, h .number)
+
+is-no-file : (n : ℕ) (f : File) → NoFile f → isFile n f ≡ false
+is-no-file n f h = rw h
+
+abbrev AtFile : ℕ → Record → Ledger → Type 0
+AtFile n r l = Focus (FileIs (l .grace)) NoFile (isFile n) (isRow n) (r .files) (l .rows)
+
+at-file : {r : Record} {l : Ledger} (n : ℕ) → Matches r l → AtFile n r l
+at-file {r} {l} n h = focus (isFile n) (isRow n) (is-file (l .grace) n) (is-no-file n) (h .rows)
+
+-- a change that keeps numbers
+amend-item : (g : Row → Row) → ((w : Row) → g w .number ≡ w .number) → (w : Row) (ws vs : List Row) → numbers vs ≡ numbers ws → (b : Bool) → numbers (cond b (g w ∷ ws) (w ∷ vs)) ≡ numbers (w ∷ ws)
+amend-item g k w ws vs e true = rw (k w)
+amend-item g k w ws vs e false = rw e
+
+amend-numbers : (p : Row → Bool) (g : Row → Row) → ((w : Row) → g w .number ≡ w .number) → (ws : List Row) → numbers (amend p g ws) ≡ numbers ws
+unfolding amend
+amend-numbers p g k [] = refl
+amend-numbers p g k (w ∷ ws) = amend-item g k w ws (amend p g ws) (amend-numbers p g k ws) (p w)
+
+map-numbers : (g : Row → Row) → ((w : Row) → g w .number ≡ w .number) → (ws : List Row) → numbers (map g ws) ≡ numbers ws
+map-numbers g k [] = refl
+map-numbers g k (w ∷ ws) = rw (k w, map-numbers g k ws)
+
+-- where there is no such file, the last place is another's
+not-there : (r : Record) (n : ℕ) → first (isFile n) (r .files) ≡ Nothing → isFile n (fileAt n r) ≡ false
+not-there r n e = none-at (isFile n) noFile refl (r .files) (placeIn n r) (first-nothing (isFile n) (r .files) e)
+
+-- where there is one, the place is its place
+abbrev There : ℕ → Record → Ledger → ℕ → Row → Type 0
+There n r l i w = Hit (FileIs (l .grace)) NoFile (isFile n) (isRow n) (r .files) (l .rows) i w
+
+here : (n : ℕ) (r : Record) (l : Ledger) (i : ℕ) (w : Row) → There n r l i w → placeIn n r ≡ i
+unfolding placeIn
+here n r l i w z = ap (placeOr 63) (z .at)
+
+it-is : (n : ℕ) (r : Record) (l : Ledger) (i : ℕ) (w : Row) → There n r l i w → isFile n (getD (r .files) i noFile) ≡ true
+it-is n r l i w z = is-file (l .grace) n (getD (r .files) i noFile) w (z .pair noFile) ∙ z .passes
+
+-- ---- a call on one file: h is its code, g and t what the ledger makes of the row
+-- a file that is put back as it was changes nothing
+still : (r : Record) (n s : ℕ) (a : FileAnswered) → a ≡ fileAnswered s (fileAt n r) → answered (a .status) (withFiles (set (r .files) (placeIn n r) (a .file)) r) ≡ answered s r
+still r n s a e = rw (e, set-getD (r .files) (placeIn n r) noFile)
+
+-- a refusal whatever the file
+pub refused-any : {r : Record} {l l′ : Ledger} (n : ℕ) (h : File → FileAnswered) (s : ℕ) → eqb s 0 ≡ false → ((f : File) → h f ≡ fileAnswered s f) → Matches r l
+    → RecordAgrees (onPlace n h r) l l′ s
+refused-any {r} n h s z e m = rw (still r n s (h (fileAt n r)) (e (fileAt n r))) (record { same = refl; kept = rw z m })
+
+module _ {r : Record} {l : Ledger} (n : ℕ) (h : File → FileAnswered) (g : Row → Row) (t : Row → ℕ) (same-number : (w : Row) → g w .number ≡ w .number)
+    (on-one : (f : File) (w : Row) → isFile n f ≡ true → FileIs (l .grace) f w → FileAgrees (l .grace) (h f) w (g w) (t w))
+    (on-none : (f : File) → isFile n f ≡ false → h f ≡ fileAnswered 70 f) (m : Matches r l) where
+  stored : (i : ℕ) (w : Row) (f : File) → There n r l i w → (b : Bool) → FileIs (l .grace) f (cond b (g w) w)
+      → Matches (withFiles (set (r .files) i f) r) (cond b (onRow l n g) l)
+  stored i w f z true k = record {
+    grace = m .grace;
+    long = length-set (r .files) i f ∙ m .long;
+    rows = z .put f g k;
+    rising = rw (amend-numbers (isRow n) g same-number (l .rows)) (m .rising);
+  }
+  stored i w f z false k = record { grace = m .grace; long = length-set (r .files) i f ∙ m .long; rows = z .keep f k; rising = m .rising }
+
+  on-found : AtFile n r l → RecordAgrees (onPlace n h r) l (onRow l n g) (cond (not (registered n l)) 70 (t (rowOf n l)))
+  unfolding registered rowOf
+  on-found (missing a b) = rw (still r n 70 (h (fileAt n r)) (on-none (fileAt n r) (not-there r n a)), b) (record { same = refl; kept = m })
+  on-found (found i w z) =
+      let k = on-one (getD (r .files) i noFile) w (it-is n r l i w z) (z .pair noFile) in
+      rw (here n r l i w z, z .there, z .the (newRow n [])) (record { same = k .same; kept = stored i w (h (getD (r .files) i noFile) .file) z (eqb (t w) 0) (k .kept) })
+
+  pub on-file : RecordAgrees (onPlace n h r) l (onRow l n g) (cond (not (registered n l)) 70 (t (rowOf n l)))
+  on-file = on-found (at-file n m)
+
+-- ---- the calls on one file; b is whether in grace
+module _ {r : Record} {l : Ledger} (m : Matches r l) (n c : ℕ) where
+  open-by : (b : Bool) → l .grace ≡ b → RecordAgrees (openOf n c r) l (onRow l n (opened c)) (cond b 10013 (cond (not (registered n l)) 70 (refused (openRules c (rowOf n l)))))
+  unfolding openOf openedFile
+  open-by true e = refused-any n (openedFile n (r .grace) c) 10013 refl (λ f. rw (m .grace ∙ e)) m
+  open-by false e = on-file n (openedFile n (r .grace) c) (opened c) (λ w. refused (openRules c w)) (λ w. refl)
+      (λ f w i k. rw (m .grace ∙ e, i, e) (file-opened c (rw e at k))) (λ f i. rw (m .grace ∙ e, i)) m
+
+  pub open-agrees : RecordAgrees (openOf n c r) l (onRow l n (opened c)) (refused (l .grace ⇒ 10013 ∷ not (registered n l) ⇒ 70 ∷ openRules c (rowOf n l)))
+  open-agrees = open-by (l .grace) refl
+
+  reclaim-by : (b : Bool) → l .grace ≡ b → RecordAgrees (reclaimOf n c r) l (onRow l n (hasReclaimed c)) (cond (not b) 10033 (cond (not (registered n l)) 70 (refused (intentRules c (rowOf n l)))))
+  unfolding reclaimOf reclaimedFile
+  reclaim-by false e = refused-any n (reclaimedFile n (r .grace) c) 10033 refl (λ f. rw (m .grace ∙ e)) m
+  reclaim-by true e = on-file n (reclaimedFile n (r .grace) c) (hasReclaimed c) (λ w. refused (intentRules c w)) (λ w. refl)
+      (λ f w i k. rw (m .grace ∙ e, i, e) (file-reclaimed c (rw e at k))) (λ f i. rw (m .grace ∙ e, i)) m
+
+  pub reclaim-agrees : RecordAgrees (reclaimOf n c r) l (onRow l n (hasReclaimed c)) (refused (not (l .grace) ⇒ 10033 ∷ not (registered n l) ⇒ 70 ∷ intentRules c (rowOf n l)))
+  reclaim-agrees = reclaim-by (l .grace) refl
+
+  pub close-agrees : RecordAgrees (closeOf n c r) l (onRow l n (closed c)) (refused (not (registered n l) ⇒ 70 ∷ closeRules (l .grace) c (rowOf n l)))
+  unfolding closeOf closedFile
+  close-agrees = on-file n (closedFile n (r .grace) c) (closed c) (λ w. refused (closeRules (l .grace) c w)) (λ w. refl) (λ f w i k. rw (i, m .grace) (file-closed c k)) (λ f i. rw i) m
+
+pub repaired-agrees : {r : Record} {l : Ledger} → Matches r l → (n : ℕ) → RecordAgrees (repairedOf n r) l (onRow l n mended) (refused (not (registered n l) ⇒ 70 ∷ repairedRules (rowOf n l)))
+unfolding repairedOf repairedFile
+repaired-agrees {r} m n = on-file n (repairedFile n (r .grace)) mended (λ w. refused (repairedRules w)) (λ w. refl) (λ f w i k. rw i (file-repaired k)) (λ f i. rw i) m
+
+-- ---- forget
+above-discard : (p : Row → Bool) (n : ℕ) (ws : List Row) → Above n (numbers ws) → Above n (numbers (discard p ws))
+unfolding discard
+above-discard p n [] h = tt
+above-discard p n (w ∷ ws) h = by (p w) (above-discard p n ws (h .1))
+  where
+    by : (b : Bool) → Above n (numbers (discard p ws)) → Above n (numbers (cond b ws (w ∷ discard p ws)))
+    by true k = h .1
+    by false k = (h .0, k)
+
+rising-discard : (p : Row → Bool) (ws : List Row) → Rising (numbers ws) → Rising (numbers (discard p ws))
+unfolding discard
+rising-discard p [] h = tt
+rising-discard p (w ∷ ws) h = by (p w) (rising-discard p ws (h .1))
+  where
+    by : (b : Bool) → Rising (numbers (discard p ws)) → Rising (numbers (cond b ws (w ∷ discard p ws)))
+    by true k = h .1
+    by false k = (above-discard p (w .number) ws (h .0), k)
+
+abbrev without : ℕ → Ledger → Ledger
+without n l = withRows (discard (isRow n) (l .rows)) l
+
+-- a and b are whether the row is marked and open
+forgets-row : {r : Record} {l : Ledger} (n i : ℕ) (w : Row) → Matches r l → There n r l i w → (a b : Bool)
+    → RecordAgrees (forgets (cond a 10008 (cond b 10008 0)) n r) l (without n l) (cond a 10008 (cond b 10008 0))
+forgets-row n i w m z true b = record { same = refl; kept = m }
+forgets-row n i w m z false true = record { same = refl; kept = m }
+forgets-row {r} {l} n i w m z false false = rw (here n r l i w z) (record {
+  same = refl;
+  kept = record {
+    grace = m .grace;
+    long = leftOut-length blankFile i (r .files) ∙ m .long;
+    rows = z .out blankFile refl;
+    rising = rising-discard (isRow n) (l .rows) (m .rising);
+  };
+})
+
+forgettable-row : (g : Bool) (n : ℕ) (f : File) (w : Row) → isFile n f ≡ true → FileIs g f w → forgettable n false f ≡ refused (forgetRules w)
+unfolding forgettable
+forgettable-row g n f w i h = rw i (rw (h .marked, some-taken h))
+
+no-such-file : (n : ℕ) (f : File) → isFile n f ≡ false → forgettable n false f ≡ 70
+unfolding forgettable
+no-such-file n f i = rw i
+
+in-grace : (n : ℕ) (f : File) → forgettable n true f ≡ 10013
+unfolding forgettable
+in-grace n f = refl
+
+forget-found : {r : Record} {l : Ledger} (n : ℕ) → Matches r l → AtFile n r l
+    → RecordAgrees (forgets (forgettable n false (fileAt n r)) n r) l (without n l) (refused (not (registered n l) ⇒ 70 ∷ forgetRules (rowOf n l)))
+unfolding registered rowOf
+forget-found {r} n m (missing a b) = rw (no-such-file n (fileAt n r) (not-there r n a), b) (record { same = refl; kept = m })
+forget-found {r} {l} n m (found i w z) =
+    rw (ap (λ j. forgettable n false (getD (r .files) j noFile)) (here n r l i w z) ∙ forgettable-row (l .grace) n _ w (it-is n r l i w z) (z .pair noFile), z .there, z .the (newRow n []))
+    (forgets-row n i w m z (w .marked) (not (none (w .intents))))
+
+forget-by : {r : Record} {l : Ledger} (n : ℕ) → Matches r l → (b : Bool) → l .grace ≡ b
+    → RecordAgrees (forgetOf n r) l (without n l) (cond b 10013 (refused (not (registered n l) ⇒ 70 ∷ forgetRules (rowOf n l))))
+unfolding forgetOf
+forget-by {r} n m true e = rw (ap (λ g. forgettable n g (fileAt n r)) (m .grace ∙ e) ∙ in-grace n (fileAt n r)) (record { same = refl; kept = m })
+forget-by {r} n m false e = rw (ap (λ g. forgettable n g (fileAt n r)) (m .grace ∙ e)) (forget-found n m (at-file n m))
+
+pub forget-agrees : {r : Record} {l : Ledger} → Matches r l → (n : ℕ) → RecordAgrees (forgetOf n r) l (without n l) (refused (l .grace ⇒ 10013 ∷ not (registered n l) ⇒ 70 ∷ forgetRules (rowOf n l)))
+forget-agrees {r} {l} m n = forget-by n m (l .grace) refl
+
+-- ---- register
+is-used : (g : Bool) (f : File) (w : Row) → FileIs g f w → isVacant f ≡ false
+is-used g f w h = rw (h .used)
+
+cond-length : (b c : Bool) (x y : File) (u v ys : List File) → length u ≡ length ys → length v ≡ length ys → length (cond b (x ∷ ys) (cond c (y ∷ u) (x ∷ v))) ≡ suc (length ys)
+cond-length true c x y u v ys h k = refl
+cond-length false true x y u v ys h k = ap suc h
+cond-length false false x y u v ys h k = ap suc k
+
+enter-length : (x : File) (fs : List File) → length (enter x fs) ≡ length fs
+unfolding enter
+enter-length x [] = refl
+enter-length x (y ∷ ys) = cond-length (isVacant y) (leb (y .number) (x .number)) x y _ _ ys (enter-length x ys) (enter-length y ys)
+
+-- the code compares the numbers of files, and the ledger those of rows
+order : {g : Bool} {x f : File} {w v : Row} (b : Bool) → leb (v .number) (w .number) ≡ b → FileIs g x w → FileIs g f v → leb (f .number) (x .number) ≡ b
+order b q h e = rw (e .number, h .number) q
+
+-- what stands after a file moves up
+entered-rest : {g : Bool} {x : File} {w : Row} {fs : List File} → FileIs g x w → All NoFile fs → 0 < length fs → Slots (FileIs g) NoFile (enter x fs) (w ∷ [])
+unfolding enter
+entered-rest h All.all-nil k = absurd (omega arith)
+entered-rest h (All.all-cons e f) k = rw e (Slots.item h (Slots.rest f))
+
+moved-item : {g : Bool} {f f₂ : File} {v v₂ : Row} {vs : List Row} (fs : List File) → FileIs g f v → FileIs g f₂ v₂ → v .number < v₂ .number
+    → Slots (FileIs g) NoFile (enter f₂ fs) (v₂ ∷ vs) → Slots (FileIs g) NoFile (enter f (f₂ ∷ fs)) (v ∷ v₂ ∷ vs)
+unfolding enter
+moved-item {g} {f} {f₂} {v} {v₂} fs h e q s = rw (is-used g f₂ v₂ e, order false (lt-leb (v₂ .number) (v .number) q) h e) (Slots.item h s)
+
+moved-up : {g : Bool} {f : File} {v : Row} {fs : List File} {vs : List Row} → FileIs g f v → Slots (FileIs g) NoFile fs vs → length vs < length fs → Above (v .number) (numbers vs) → Rising (numbers vs)
+    → Slots (FileIs g) NoFile (enter f fs) (v ∷ vs)
+moved-up h (Slots.rest e) k a r = entered-rest h e k
+moved-up h (Slots.item {xs = fs} e s) k a r = moved-item fs h e (a .0) (moved-up e s (omega arith) (r .0) (r .1))
+
+entered-item : {g : Bool} {x f : File} {w v : Row} (fs : List File) (vs : List Row) (b : Bool) → leb (v .number) (w .number) ≡ b → FileIs g x w → FileIs g f v
+    → Slots (FileIs g) NoFile (enter x fs) (insert w vs) → Slots (FileIs g) NoFile (enter f fs) (v ∷ vs)
+    → Slots (FileIs g) NoFile (enter x (f ∷ fs)) (insert w (v ∷ vs))
+unfolding enter insert
+entered-item {g} {x} {f} {w} {v} fs vs true q h e s t = rw (is-used g f v e, order true q h e, q) (Slots.item e s)
+entered-item {g} {x} {f} {w} {v} fs vs false q h e s t = rw (is-used g f v e, order false q h e, q) (Slots.item h t)
+
+entered : {g : Bool} {x : File} {w : Row} {fs : List File} {ws : List Row} → FileIs g x w → Slots (FileIs g) NoFile fs ws → length ws < length fs → Rising (numbers ws)
+    → Slots (FileIs g) NoFile (enter x fs) (insert w ws)
+unfolding insert
+entered h (Slots.rest e) k r = entered-rest h e k
+entered {w} h (Slots.item {y = v} {xs = fs} {ys = vs} e s) k r =
+    entered-item fs vs (leb (v .number) (w .number)) refl h e (entered h s (omega arith) (r .1)) (moved-up e s (omega arith) (r .0) (r .1))
+
+above-less : (m n : ℕ) (ns : List ℕ) → m < n → Above n ns → Above m ns
+above-less m n [] h a = tt
+above-less m n (k ∷ ks) h a = (omega (arith, a .0), above-less m n ks h (a .1))
+
+above-item : (n : ℕ) (w v : Row) (us vs : List Row) (b : Bool) → n < w .number → n < v .number → Above n (numbers us) → Above n (numbers vs) → Above n (numbers (cond b (v ∷ us) (w ∷ v ∷ vs)))
+above-item n w v us vs true p q a b = (q, a)
+above-item n w v us vs false p q a b = (p, (q, b))
+
+above-insert : (n : ℕ) (w : Row) (ws : List Row) → n < w .number → Above n (numbers ws) → Above n (numbers (insert w ws))
+unfolding insert
+above-insert n w [] h a = (h, tt)
+above-insert n w (v ∷ vs) h a = above-item n w v (insert w vs) vs (leb (v .number) (w .number)) h (a .0) (above-insert n w vs h (a .1)) (a .1)
+
+rising-item : (w v : Row) (vs : List Row) (b : Bool) → leb (v .number) (w .number) ≡ b → eqb (v .number) (w .number) ≡ false → Rising (numbers (v ∷ vs)) → Rising (numbers (insert w vs))
+    → Rising (numbers (cond b (v ∷ insert w vs) (w ∷ v ∷ vs)))
+rising-item w v vs true e q r s = (above-insert (v .number) w vs (less (v .number) (w .number) (leb-true _ _ e) (eqb-false _ _ q)) (r .0), s)
+  where
+    less : (a b : ℕ) → a ≤ b → (a ≡ b → ⊥) → a < b
+    less a b h k = omega (arith, k)
+rising-item w v vs false e q r s =
+    let h : w .number < v .number = leb-false (v .number) (w .number) e in
+    ((h, above-less (w .number) (v .number) (numbers vs) h (r .0)), r)
+
+rising-insert : (w : Row) (ws : List Row) → any (isRow (w .number)) ws ≡ false → Rising (numbers ws) → Rising (numbers (insert w ws))
+unfolding insert any
+rising-insert w [] e r = (tt, tt)
+rising-insert w (v ∷ vs) e r =
+    rising-item w v vs (leb (v .number) (w .number)) refl (first-no (eqb (v .number) (w .number)) _ e) r (rising-insert w vs (rest-no (eqb (v .number) (w .number)) _ e) (r .1))
+
+-- the last place says whether the record is full
+full-by : (n : ℕ) (b : Bool) → ltb 63 n ≡ b → b ≡ leb 64 n
+full-by n true e = sym (le-leb 64 n (omega (arith, ltb-true 63 n e)))
+full-by n false e = sym (lt-leb 64 n (omega (arith, ltb-false 63 n e)))
+
+is-full : {r : Record} {l : Ledger} → Matches r l → isFull r ≡ leb 64 (length (l .rows))
+is-full {r} {l} m = slots-at (λ (f : File). f .used) (λ f w h. h .used) (λ f h. h) 63 noFile (omega (arith, m .long)) (m .rows) ∙ full-by (length (l .rows)) (ltb 63 (length (l .rows))) refl
+
+abbrev joined : ℕ → List Device → Ledger → Ledger
+joined n ds l = withRows (insert (newRow n ds) (l .rows)) l
+
+register-new : {r : Record} {l : Ledger} (n : ℕ) (ds : List Device) → length ds ≤ 4 → Matches r l → l .grace ≡ false → registered n l ≡ false
+    → RecordAgrees (cond (isFull r) (answered 28 r) (answered 0 (withFiles (enter (fileOf n (placedMirrors ds)) (r .files)) r))) l (joined n ds l) (refused (leb 64 (length (l .rows)) ⇒ 28 ∷ []))
+unfolding registered
+register-new {r} {l} n ds q m z k = branch (leb 64 (length (l .rows))) (is-full m) (λ e. record { same = refl; kept = m }) (λ e. record {
+  same = refl;
+  kept = record {
+    grace = m .grace;
+    long = enter-length (fileOf n (placedMirrors ds)) (r .files) ∙ m .long;
+    rows = entered (rw z (file-new n ds q)) (m .rows) (omega (arith, leb-false 64 (length (l .rows)) e, m .long)) (m .rising);
+    rising = rising-insert (newRow n ds) (l .rows) k (m .rising);
+  };
+})
+
+is-registered : (r : Record) (l : Ledger) (n : ℕ) → AtFile n r l → isFile n (fileAt n r) ≡ registered n l
+unfolding registered
+is-registered r l n (missing a b) = not-there r n a ∙ sym b
+is-registered r l n (found i w z) = ap (λ j. isFile n (getD (r .files) j noFile)) (here n r l i w z) ∙ it-is n r l i w z ∙ sym (z .there)
+
+register-by : {r : Record} {l : Ledger} (n : ℕ) (s : List ℕ) → Matches r l → l .grace ≡ false → (b : Bool) → badMirrors s ≡ b
+    → RecordAgrees (registerWith n (enrolledOf s) r) l (joined n (mirrorsIn s) l) (cond b 22 (refused (registered n l ⇒ 17 ∷ leb 64 (length (l .rows)) ⇒ 28 ∷ [])))
+unfolding enrolledOf
+register-by n s m z true e = rw e (record { same = refl; kept = m })
+register-by {r} {l} n s m z false e =
+    rw e (branch (registered n l) (is-registered r l n (at-file n m)) (λ y. record { same = refl; kept = m }) (λ y. register-new n (mirrorsIn s) (few-mirrors s e) m z y))
+
+pub register-agrees : {r : Record} {l : Ledger} → Matches r l → (n : ℕ) (s : List ℕ)
+    → RecordAgrees (registerOf n s r) l (joined n (mirrorsIn s) l) (refused (l .grace ⇒ 10013 ∷ badMirrors s ⇒ 22 ∷ registered n l ⇒ 17 ∷ leb 64 (length (l .rows)) ⇒ 28 ∷ []))
+unfolding registerOf
+register-agrees {r} {l} m n s = branch (l .grace) (m .grace) (λ z. record { same = refl; kept = m }) (λ z. register-by n s m z (badMirrors s) refl)
+
+-- ---- the end of grace and restart
+ended-free : (f : File) → NoFile f → NoFile (endedFile f)
+unfolding endedFile
+ended-free f h = h
+
+restarted-free : (f : File) → NoFile f → NoFile (restartedFile f)
+unfolding restartedFile
+restarted-free f h = h
+
+abbrev endedRecord : Record → Record
+endedRecord r = record { files = map endedFile (r .files); grace = false }
+
+end-by : {r : Record} {l : Ledger} → Matches r l → (b : Bool) → l .grace ≡ b → RecordAgrees (endOf r) l (withGrace false (withRows (map ended (l .rows)) l)) (cond (not b) 10033 0)
+unfolding endOf
+end-by {r} m false e = rw (ap (λ g. cond g (answered 0 (endedRecord r)) (answered 10033 r)) (m .grace ∙ e)) (record { same = refl; kept = m })
+end-by {r} {l} m true e = rw (ap (λ g. cond g (answered 0 (endedRecord r)) (answered 10033 r)) (m .grace ∙ e)) (record {
+  same = refl;
+  kept = record {
+    grace = refl;
+    long = length-map (r .files) endedFile ∙ m .long;
+    rows = slots-map {R = FileIs (l .grace)} endedFile ended (λ f w k. file-ended f w (rw e at k)) (λ f k. ended-free f k) (m .rows);
+    rising = rw (map-numbers ended (λ w. refl) (l .rows)) (m .rising);
+  };
+})
+
+pub end-agrees : {r : Record} {l : Ledger} → Matches r l → RecordAgrees (endOf r) l (withGrace false (withRows (map ended (l .rows)) l)) (refused (not (l .grace) ⇒ 10033 ∷ []))
+end-agrees {r} {l} m = end-by m (l .grace) refl
+
+pub restart-agrees : {r : Record} {l : Ledger} → Matches r l → RecordAgrees (restartOf r) l (withGrace true (withRows (map restarted (l .rows)) l)) 0
+unfolding restartOf
+restart-agrees {r} {l} m = record {
+  same = refl;
+  kept = record {
+    grace = refl;
+    long = length-map (r .files) restartedFile ∙ m .long;
+    rows = slots-map restartedFile restarted (λ f w k. file-restarted (l .grace) f w k) (λ f k. restarted-free f k) (m .rows);
+    rising = rw (map-numbers restarted (λ w. refl) (l .rows)) (m .rising);
+  };
+}
+
+-- ---- the lists
+module _ {r : Record} {l : Ledger} (m : Matches r l) where
+  list-agrees : (idle : Bool) (q : Row → Bool) → ((f : File) (w : Row) → FileIs (l .grace) f w → isWanted idle f ≡ q w) → ((f : File) → NoFile f → isWanted idle f ≡ false) → (a b : List ℕ)
+      → listingOf idle r a b ≡ listOf (chosen q (l .rows)) a b
+  unfolding listingOf
+  list-agrees idle q e k a b =
+      let s = slots-chosen (isWanted idle) q e k (m .rows) in
+      rw (pairs-map numberOf (λ (w : Row). w .number) (λ f w h. h .number) s, pairs-map sourceOf source (file-source (l .grace)) s)
+
+  pub resilver-agrees : (a b : List ℕ) → listingOf false r a b ≡ listOf (needRepair l) a b
+  resilver-agrees a b = list-agrees false isMarked (λ f w h. rw (h .used) (h .marked)) (λ f h. rw h) a b
+
+  pub offered-agrees : (a b : List ℕ) → listingOf true r a b ≡ listOf (forCopying l) a b
+  offered-agrees a b = list-agrees true isOffered (λ f w h. rw (h .used, h .marked, some-taken h)) (λ f h. rw h) a b

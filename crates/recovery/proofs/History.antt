@@ -1,0 +1,115 @@
+-- DEMAND 3 is proved here: `history : Demand3`. In this order: what it is for a step to agree; each call; any list of calls.
+use mathlib.Core.Path.{_≡_, refl, ap, ap₂, sym, _∙_}
+use mathlib.Core.List.{List, [], _∷_}
+use mathlib.Core.Bool.{Bool, true, false, not, cond}
+use Prim.Native.Nat.{ℕ}
+use lib.Dec.{eqb, leb, ltb}
+use lib.ListN.{length}
+use borrow.Author.Tests.{eqb-true}
+use Rattle.wire.specs.Reply.{replyIn}
+use Rattle.files.specs.Lists.{fill}
+use Rattle.files.specs.File.{blankFile, handedOnCode, returnedFile}
+use Rattle.files.proofs.Slots.{Slots, all-replicate}
+use Rattle.recovery.specs.Calls.{Call, register, opening, reclaim, close, repaired, forget, endGrace, restart, layoutReturn, resilver, offered, Answer, said, replied, handedOn, listed}
+use Rattle.recovery.specs.Ledger.{Ledger, noRows, judge, apply, accepted, feed, lend, reply, isMarked, isOffered}
+use Rattle.recovery.specs.Record.{fresh, returning, writing, returnedOf, layoutreturnOf, replyAfter}
+use Rattle.recovery.specs.History.{Step, stepOf, returnStep, step, answers, verdicts, recordAfter, ledgerAfter, ledgerOf, Holds, Demand3}
+use Rattle.recovery.specs.declared.record.Record.{Record}
+use Rattle.recovery.specs.declared.record.Answered.{Answered}
+use Rattle.recovery.proofs.Relation.{Matches, RecordAgrees}
+use Rattle.recovery.proofs.Calls.{open-agrees, reclaim-agrees, close-agrees, repaired-agrees, forget-agrees, register-agrees, end-agrees, restart-agrees, resilver-agrees, offered-agrees}
+use Rattle.recovery.proofs.Returns.{handing, ReturnAgrees, return-agrees}
+use Rattle.recovery.proofs.Sentences.{one-list}
+
+-- ---- a step agrees: its answer is t, and the record that it leaves goes with the ledger that is fed the call and t
+record StepIs (s : Step) (l : Ledger) (x : Call) (t : Answer) : Type 0 where
+  answer : s .answer ≡ t
+  after : Matches (s .after) (feed l x t)
+
+by-status : (a : Answered) (l : Ledger) (x : Call) (t : ℕ) → RecordAgrees a l (apply l x) t → StepIs (stepOf a) l x (said t)
+unfolding feed
+by-status a l x t h = record { answer = ap said (h .same); after = h .kept }
+
+-- what is refused, handed on or listed changes nothing
+by-nothing : (a : Answer) (r : Record) (l : Ledger) (x : Call) → accepted a ≡ false → Matches r l → StepIs (record { answer = a; after = r }) l x a
+unfolding feed
+by-nothing a r l x e m = record { answer = refl; after = rw e m }
+
+-- ---- the lists
+lend-changes-nothing : (ns ss a b : List ℕ) → accepted (lend ns ss a b) ≡ false
+unfolding lend
+lend-changes-nothing ns ss a b = by (leb (length ns) (length a)) (leb (length ns) (length b))
+  where
+    by : (p q : Bool) → accepted (cond p (cond q (listed 0 (length ns) (fill ns a) (fill ss b)) (listed 28 0 a b)) (listed 28 0 a b)) ≡ false
+    by true true = refl
+    by true false = refl
+    by false q = refl
+
+by-list : (t : Answer) (r : Record) (l : Ledger) (x : Call) (ns ss a b : List ℕ) → t ≡ lend ns ss a b → Matches r l → StepIs (record { answer = t; after = r }) l x (lend ns ss a b)
+by-list t r l x ns ss a b e m = rw e (by-nothing (lend ns ss a b) r l x (lend-changes-nothing ns ss a b) m)
+
+-- ---- LAYOUTRETURN
+handing-accepts : (t : ℕ) (d : List ℕ) (b : Bool) → eqb t handedOnCode ≡ b → accepted (cond b (handedOn d) (reply t d)) ≡ eqb t 0
+handing-accepts t d true e = rw (eqb-true t handedOnCode e)
+handing-accepts t d false e = refl
+
+by-return : (a : Answered) (l : Ledger) (x : Call) (t : ℕ) (d : List ℕ) → RecordAgrees a l (apply l x) t → StepIs (returnStep (returning a) (writing a d)) l x (handing t d)
+unfolding feed
+by-return a l x t d h = record { answer = ap (λ s. written s) (h .same) ∙ same-buffer (eqb t handedOnCode); after = rw (handing-accepts t d (eqb t handedOnCode) refl) (h .kept) }
+  where
+    written : ℕ → Answer
+    written s = cond (eqb s handedOnCode) (handedOn (cond (eqb s handedOnCode) d (replyIn s d))) (replied s (cond (eqb s handedOnCode) d (replyIn s d)))
+
+    same-buffer : (b : Bool) → cond b (handedOn (cond b d (replyIn t d))) (replied t (cond b d (replyIn t d))) ≡ cond b (handedOn d) (reply t d)
+    same-buffer true = refl
+    same-buffer false = refl
+
+return-by : (r : Record) (l : Ledger) (n c : ℕ) (s d : List ℕ) (b : Bool) → ltb (length d) 24 ≡ b → Matches r l → StepIs (step r (layoutReturn n c s d)) l (layoutReturn n c s d) (judge l (layoutReturn n c s d))
+unfolding step judge apply layoutreturnOf replyAfter returnedOf returnedFile
+return-by r l n c s d true e m = rw e (by-nothing (replied 28 d) r l (layoutReturn n c s d) refl m)
+return-by r l n c s d false e m =
+    let z = return-agrees m n c s d in
+    rw (e, ← z .answer) (by-return _ l (layoutReturn n c s d) (z .code) d (z .agrees))
+
+-- ---- each call
+step-agrees : (r : Record) (l : Ledger) (x : Call) → Matches r l → StepIs (step r x) l x (judge l x)
+unfolding step judge apply
+step-agrees r l (register n s) m = by-status _ l (register n s) _ (register-agrees m n s)
+step-agrees r l (opening n c) m = by-status _ l (opening n c) _ (open-agrees m n c)
+step-agrees r l (reclaim n c) m = by-status _ l (reclaim n c) _ (reclaim-agrees m n c)
+step-agrees r l (close n c) m = by-status _ l (close n c) _ (close-agrees m n c)
+step-agrees r l (repaired n) m = by-status _ l (repaired n) _ (repaired-agrees m n)
+step-agrees r l (forget n) m = by-status _ l (forget n) _ (forget-agrees m n)
+step-agrees r l endGrace m = by-status _ l endGrace _ (end-agrees m)
+step-agrees r l restart m = by-status _ l restart _ (restart-agrees m)
+step-agrees r l (layoutReturn n c s d) m = return-by r l n c s d (ltb (length d) 24) refl m
+step-agrees r l (resilver a b) m = by-list _ r l (resilver a b) _ _ a b (resilver-agrees m a b) m
+step-agrees r l (offered a b) m = by-list _ r l (offered a b) _ _ a b (offered-agrees m a b) m
+
+-- ---- any list of calls
+all-answered : (calls : List Call) (r : Record) (l : Ledger) → Matches r l → answers r calls ≡ verdicts l calls (answers r calls)
+unfolding answers verdicts
+all-answered [] r l m = refl
+all-answered (x ∷ xs) r l m =
+    let s = step-agrees r l x m in
+    ap₂ {C = List Answer} (λ a given. a ∷ given) (s .answer) (all-answered xs (step r x .after) (feed l x (step r x .answer)) (rw (s .answer) (s .after)))
+
+after-all : (calls : List Call) (r : Record) (l : Ledger) → Matches r l → Matches (recordAfter r calls) (ledgerAfter l calls (answers r calls))
+unfolding answers recordAfter ledgerAfter
+after-all [] r l m = m
+after-all (x ∷ xs) r l m = let s = step-agrees r l x m in after-all xs (step r x .after) (feed l x (step r x .answer)) (rw (s .answer) (s .after))
+
+fresh-matches : Matches fresh noRows
+fresh-matches = record { grace = refl; long = refl; rows = Slots.rest (all-replicate 64 blankFile refl); rising = tt }
+
+pub history : Demand3
+unfolding judge
+history calls =
+    let m = after-all calls fresh noRows fresh-matches in
+    record {
+      answered = all-answered calls fresh noRows fresh-matches;
+      resilvers = λ a b. resilver-agrees m a b;
+      offers = λ a b. offered-agrees m a b;
+      marked = one-list isMarked (ledgerOf calls) (m .rising);
+      idle = one-list isOffered (ledgerOf calls) (m .rising);
+    }

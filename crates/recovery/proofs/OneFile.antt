@@ -1,0 +1,220 @@
+-- Calls on one file: each answers what the rules of its row say, and leaves a file that goes with the row as the ledger changes it. In this order: tests of
+-- intents; open; reclaim; close; repaired; restart; the end of grace; a report; the source; a new file.
+use mathlib.Core.Path.{_≡_, refl, ap, sym, _∙_}
+use mathlib.Core.List.{List, [], _∷_}
+use mathlib.Core.Bool.{Bool, true, false, not, cond, Bool·not-not}
+use Prim.Native.Nat.{ℕ, suc, _+_, _<_, _≤_}
+use native.Mathlib.Omega.{arith}
+use lib.ListN.{getD, length, length-set, length-map}
+use lib.Dec.{eqb, leb}
+use borrow.Author.Tests.{eqb-true, le-leb, lt-leb}
+use Rattle.wire.specs.Device.{Device}
+use Rattle.wire.specs.Report.{DeviceError, over}
+use Rattle.files.specs.Lists.{any, chosen, has, with, none}
+use Rattle.files.specs.Places.{bump, first, placeOr}
+use Rattle.files.specs.Mirrors.{noMirror, isGood, placedMirrors, sourceIn}
+use Rattle.files.specs.Blame.{heardNothing, told}
+use Rattle.files.specs.Intents.{noIntent, noIntents, intentOf, isIntent, isFree, isKept, firstTaken, reclaimedIf, unreclaimedIntent}
+use Rattle.files.specs.File as file
+use Rattle.files.specs.File.{fileOf, fileAnswered, takes, opens, reclaims, leaves, mendedFile, reports, restartedFile, endedFile, sourceOf}
+use Rattle.files.specs.declared.intents.Intent.{Intent}
+use Rattle.files.specs.declared.mirrors.Mirror.{Mirror}
+use Rattle.files.specs.declared.file.File.{File}
+use Rattle.files.specs.declared.places.Found.{Found}
+use Rattle.files.specs.declared.places.Found.the-variants.{At, Nothing}
+use Rattle.files.proofs.Slots.{All, Pairs, Slots, Focus, Room, slots-left, slots-fill, slots-chosen, focus, roomFor, pairs-as, all-replicate, fill-length, chosen-length, leftOut-length, missing, found, full, room}
+use Rattle.files.proofs.Sets.{true-false, has-with, none-with, with-old, with-new}
+use Rattle.files.proofs.Copies.{MirrorIs, NoMirror, Copies, copies-unblamed, copies-new}
+use Rattle.recovery.specs.Ledger.{Row, newRow, source, sourceFrom, refused, openRules, intentRules, closeRules, repairedRules, opened, hasReclaimed, closed, mended, restarted, ended, reported}
+use Rattle.recovery.proofs.Relation.{IntentIs, NoIntent, Intents, FileIs, with-intents, with-mark, with-copies, FileAgrees, branch}
+use Rattle.recovery.proofs.Reported.{file-after-report}
+
+-- ---- tests of intents
+module _ (g : Bool) (rs : List ℕ) (c : ℕ) where
+  is-intent : (x : Intent) (d : ℕ) → IntentIs g rs x d → isIntent c x ≡ eqb d c
+  is-intent x d h = rw (h .taken, h .client)
+
+  is-no-intent : (x : Intent) → NoIntent x → isIntent c x ≡ false
+  is-no-intent x h = rw h
+
+abbrev AtIntent : ℕ → Bool → File → Row → Type 0
+AtIntent c g f w = Focus (IntentIs g (w .reclaimed)) NoIntent (isIntent c) (λ d. eqb d c) (f .intents) (w .intents)
+
+at-intent : {g : Bool} {f : File} {w : Row} (c : ℕ) → FileIs g f w → AtIntent c g f w
+at-intent {g} {f} {w} c h = focus (isIntent c) (λ d. eqb d c) (is-intent g (w .reclaimed) c) (is-no-intent g (w .reclaimed) c) (h .intents .places)
+
+first-taken : {g : Bool} {rs : List ℕ} {xs : List Intent} {cs : List ℕ} → Slots (IntentIs g rs) NoIntent xs cs → firstTaken xs ≡ not (none cs)
+unfolding none
+first-taken (Slots.rest All.all-nil) = refl
+first-taken (Slots.rest (All.all-cons h t)) = h
+first-taken (Slots.item r s) = r .taken
+
+pub some-taken : {g : Bool} {f : File} {w : Row} → FileIs g f w → firstTaken (f .intents) ≡ not (none (w .intents))
+some-taken h = first-taken (h .intents .places)
+
+-- ---- open, out of grace
+takes-one : {f : File} {w : Row} (c : ℕ) → FileIs false f w → has c (w .intents) ≡ false
+    → Room (IntentIs false (w .reclaimed)) NoIntent isFree (f .intents) (w .intents)
+    → FileAgrees false (takes c f (first isFree (f .intents))) w (opened c w) (cond (leb 8 (length (w .intents))) 28 0)
+takes-one {f} {w} c h e (full a b) = rw (a, le-leb 8 (length (w .intents)) (omega (arith, b, h .intents .eight))) (record { same = refl; kept = h })
+takes-one {f} {w} c h e (room i s) = rw (s .at, lt-leb 8 (length (w .intents)) (omega (arith, s .less, h .intents .eight)), with-new c (w .intents) e) (record {
+  same = refl;
+  kept = with-intents h (record {
+    places = s .put (intentOf c) c (record { taken = refl; client = refl; reclaimed = λ z. true-false (sym z) });
+    eight = simp length-set (h .intents .eight);
+  });
+})
+
+opens-at : {f : File} {w : Row} (c : ℕ) → FileIs false f w → AtIntent c false f w → FileAgrees false (opens c f (first (isIntent c) (f .intents))) w (opened c w) (refused (openRules c w))
+unfolding has
+opens-at {f} {w} c h (missing a b) = rw (a, b) (takes-one c h b (roomFor isFree (λ x d k. rw (k .taken)) (λ x k. rw k) (h .intents .places)))
+opens-at {f} {w} c h (found i y t) = rw (t .at, with-old c (w .intents) (t .there), t .there) (record { same = refl; kept = h })
+
+pub file-opened : {f : File} {w : Row} (c : ℕ) → FileIs false f w → FileAgrees false (opens c f (first (isIntent c) (f .intents))) w (opened c w) (refused (openRules c w))
+file-opened c h = opens-at c h (at-intent c h)
+
+-- ---- reclaim, in grace
+reclaimed-intent : (rs : List ℕ) (c : ℕ) (x : Intent) (d : ℕ) → IntentIs true rs x d → IntentIs true (with c rs) (reclaimedIf c x) d
+reclaimed-intent rs c x d h = record {
+  taken = h .taken;
+  client = h .client;
+  reclaimed = λ z. rw (has-with c d rs, h .taken, h .client, h .reclaimed refl);
+}
+
+reclaims-at : {f : File} {w : Row} (c : ℕ) → FileIs true f w → AtIntent c true f w → FileAgrees true (reclaims c f (first (isIntent c) (f .intents))) w (hasReclaimed c w) (refused (intentRules c w))
+unfolding has
+reclaims-at c h (missing a b) = rw (a, b) (record { same = refl; kept = h })
+reclaims-at {f} {w} c h (found i y t) = rw (t .at, t .there) (record {
+  same = refl;
+  kept = record {
+    used = h .used;
+    number = h .number;
+    copies = h .copies;
+    intents = record {
+      places = slots-left (reclaimedIf c) (reclaimed-intent (w .reclaimed) c) (λ x k. k) (h .intents .places);
+      eight = length-map (f .intents) (reclaimedIf c) ∙ h .intents .eight;
+    };
+    recovered = λ q. rw (none-with c (w .reclaimed));
+    marked = h .marked;
+  };
+})
+
+pub file-reclaimed : {f : File} {w : Row} (c : ℕ) → FileIs true f w → FileAgrees true (reclaims c f (first (isIntent c) (f .intents))) w (hasReclaimed c w) (refused (intentRules c w))
+file-reclaimed c h = reclaims-at c h (at-intent c h)
+
+-- ---- close
+grace-test : (g a b : Bool) → (g ≡ true → a ≡ b) → cond g (not a) false ≡ cond g (not b) false
+grace-test true a b h = ap not (h refl)
+grace-test false a b h = refl
+
+leaves-at : {g : Bool} {f : File} {w : Row} (c : ℕ) → FileIs g f w → AtIntent c g f w → FileAgrees g (leaves g f (first (isIntent c) (f .intents))) w (closed c w) (refused (closeRules g c w))
+unfolding has
+leaves-at {g} {f} {w} c h (missing a b) = rw (a, b) (record { same = refl; kept = h })
+leaves-at {g} {f} {w} c h (found i y t) = rw (t .at, t .there) (branch (cond g (not (has c (w .reclaimed))) false)
+    (grace-test g _ _ (λ z. t .pair noIntent .reclaimed z ∙ ap (λ d. has d (w .reclaimed)) (eqb-true y c (t .passes))))
+    (λ z. record { same = refl; kept = h })
+    (λ z. record { same = refl; kept = with-intents h (record { places = t .out noIntent refl; eight = leftOut-length noIntent i (f .intents) ∙ h .intents .eight }) }))
+
+pub file-closed : {g : Bool} {f : File} {w : Row} (c : ℕ) → FileIs g f w → FileAgrees g (leaves g f (first (isIntent c) (f .intents))) w (closed c w) (refused (closeRules g c w))
+file-closed c h = leaves-at c h (at-intent c h)
+
+-- ---- repaired
+pub file-repaired : {g : Bool} {f : File} {w : Row} → FileIs g f w
+    → FileAgrees g (cond (not (f .marked)) (fileAnswered 22 f) (cond (firstTaken (f .intents)) (fileAnswered 10008 f) (fileAnswered 0 (mendedFile f)))) w (mended w) (refused (repairedRules w))
+file-repaired {g} {f} {w} h = branch (not (w .marked)) (ap not (h .marked)) (λ z. record { same = refl; kept = h })
+    (λ z. branch (not (none (w .intents))) (some-taken h) (λ y. record { same = refl; kept = h })
+    (λ y. record { same = refl; kept = with-mark (with-copies h (copies-unblamed (h .copies))) refl }))
+
+-- ---- restart
+pub file-restarted : (g : Bool) (f : File) (w : Row) → FileIs g f w → FileIs true (restartedFile f) (restarted w)
+unfolding restartedFile has any none
+file-restarted g f w h = record {
+  used = h .used;
+  number = h .number;
+  copies = h .copies;
+  intents = record {
+    places = slots-left unreclaimedIntent (λ x c k. record { taken = k .taken; client = k .client; reclaimed = λ z. refl }) (λ x k. k) (h .intents .places);
+    eight = length-map (f .intents) unreclaimedIntent ∙ h .intents .eight;
+  };
+  recovered = λ z. refl;
+  marked = h .marked;
+}
+
+-- ---- the end of grace
+kept-intents : {f : File} {w : Row} → FileIs true f w
+    → Pairs (IntentIs true (w .reclaimed)) (chosen isKept (f .intents)) (chosen (λ c. has c (w .reclaimed)) (w .intents))
+kept-intents {w} h = slots-chosen isKept (λ c. has c (w .reclaimed)) (λ x c k. rw (k .taken) (k .reclaimed refl)) (λ x k. rw k) (h .intents .places)
+
+pub file-ended : (f : File) (w : Row) → FileIs true f w → FileIs false (endedFile f) (ended w)
+unfolding endedFile
+file-ended f w h = record {
+  used = h .used;
+  number = h .number;
+  copies = h .copies;
+  intents = record {
+    places = slots-fill (pairs-as (λ x c k. record { taken = k .taken; client = k .client; reclaimed = λ z. true-false (sym z) }) (kept-intents h)) (all-replicate 8 noIntent refl)
+        (omega (arith, chosen-length isKept (f .intents), h .intents .eight));
+    eight = fill-length (chosen isKept (f .intents)) noIntents;
+  };
+  recovered = λ z. true-false (sym z);
+  marked = rw (some-taken h, h .recovered refl, Bool·not-not, h .marked);
+}
+
+-- ---- a report
+reports-at : {g : Bool} {f : File} {w : Row} (c : ℕ) (xs : List DeviceError) → FileIs g f w → AtIntent c g f w
+    → FileAgrees g (reports (over told (heardNothing (f .mirrors) 0) xs) f (first (isIntent c) (f .intents))) w (reported xs w) (refused (intentRules c w))
+unfolding has
+reports-at c xs h (missing a b) = rw (a, b) (record { same = refl; kept = h })
+reports-at c xs h (found i y t) = rw (t .at, t .there) (record { same = refl; kept = file-after-report xs h })
+
+pub file-reported : {g : Bool} {f : File} {w : Row} (c : ℕ) (xs : List DeviceError) → FileIs g f w
+    → FileAgrees g (reports (over told (heardNothing (f .mirrors) 0) xs) f (first (isIntent c) (f .intents))) w (reported xs w) (refused (intentRules c w))
+file-reported c xs h = reports-at c xs h (at-intent c h)
+
+-- ---- the source
+abbrev sourceFromAt : ℕ → Found → ℕ
+sourceFromAt k Nothing = 255
+sourceFromAt k (At i) = k + i
+
+source-step : (k : ℕ) (o : Found) → sourceFromAt k (bump o) ≡ sourceFromAt (suc k) o
+source-step k (At i) = omega arith
+source-step k Nothing = refl
+
+-- `b` is whether the first place is blamed
+source-item : {m : Mirror} {d : Device} (ms : List Mirror) (ds : List Device) (k : ℕ) (bs : List ℕ) (b : Bool) → has k bs ≡ b → m .blamed ≡ b → MirrorIs m d
+    → sourceFromAt (suc k) (first isGood ms) ≡ sourceFrom (suc k) ds bs → sourceFromAt k (first isGood (m ∷ ms)) ≡ sourceFrom k (d ∷ ds) bs
+unfolding first sourceFrom
+source-item ms ds k bs true e q r h = rw (e, r .present, q) (source-step k (first isGood ms) ∙ h)
+source-item ms ds k bs false e q r h = rw (e, r .present, q) (omega arith)
+
+source-none : {ms : List Mirror} → All NoMirror ms → first isGood ms ≡ Nothing
+unfolding first
+source-none All.all-nil = refl
+source-none (All.all-cons h t) = rw (h, source-none t)
+
+source-from : {ms : List Mirror} {ds : List Device} (k : ℕ) (bs : List ℕ) → Slots MirrorIs NoMirror ms ds → ((i : ℕ) → i < length ms → getD ms i noMirror .blamed ≡ has (k + i) bs)
+    → sourceFromAt k (first isGood ms) ≡ sourceFrom k ds bs
+unfolding sourceFrom
+source-from k bs (Slots.rest h) f = rw (source-none h)
+source-from k bs (Slots.item {xs = ms} {ys = ds} r s) f =
+    source-item ms ds k bs (has k bs) refl (f 0 (omega arith) ∙ ap (λ j. has j bs) (omega arith)) r (source-from (suc k) bs s (λ i p. f (suc i) (omega arith) ∙ ap (λ j. has j bs) (omega arith)))
+
+zero-at : (o : Found) → placeOr 255 o ≡ sourceFromAt 0 o
+zero-at (At i) = omega arith
+zero-at Nothing = refl
+
+pub file-source : (g : Bool) (f : File) (w : Row) → FileIs g f w → sourceOf f ≡ source w
+unfolding sourceOf sourceIn
+file-source g f w h =
+    zero-at (first isGood (f .mirrors)) ∙ source-from 0 (w .blamed) (h .copies .mirrors) (λ i p. h .copies .blame i p ∙ ap (λ j. has j (w .blamed)) (omega arith))
+
+-- ---- a new file
+pub file-new : (n : ℕ) (ds : List Device) → length ds ≤ 4 → FileIs false (fileOf n (placedMirrors ds)) (newRow n ds)
+file-new n ds h = record {
+  used = refl;
+  number = refl;
+  copies = copies-new ds h;
+  intents = record { places = Slots.rest (all-replicate 8 noIntent refl); eight = refl };
+  recovered = λ z. true-false (sym z);
+  marked = refl;
+}

@@ -1,0 +1,79 @@
+-- How a record and a ledger go together, and what it is for an answer to agree with the ledger's. In this order: a file's intents; a file; the relation;
+-- a file with one field changed; agreement.
+use mathlib.Core.Path.{_≡_, refl}
+use mathlib.Core.List.{List}
+use mathlib.Core.Bool.{Bool, true, false, not, cond}
+use Prim.Native.Nat.{ℕ}
+use lib.ListN.{length}
+use lib.Dec.{eqb}
+use Rattle.files.specs.Lists.{has, none, Rising}
+use Rattle.files.specs.File as file
+use Rattle.files.specs.declared.intents.Intent.{Intent}
+use Rattle.files.specs.declared.mirrors.Mirror.{Mirror}
+use Rattle.files.specs.declared.file.File.{File}
+use Rattle.files.specs.declared.file.FileAnswered.{FileAnswered}
+use Rattle.files.proofs.Slots.{Slots}
+use Rattle.files.proofs.Copies.{Copies}
+use Rattle.recovery.specs.Ledger.{Row, Ledger, numbers, withIntents, withMark, withBlame}
+use Rattle.recovery.specs.declared.record.Record.{Record}
+use Rattle.recovery.specs.declared.record.Answered.{Answered}
+
+-- ---- a file's intents and a row's clients; g: in grace. Only there does a place say whether its client has reclaimed
+pub record IntentIs (g : Bool) (rs : List ℕ) (x : Intent) (c : ℕ) : Type 0 where
+  pub taken : x .taken ≡ true
+  pub client : x .client ≡ c
+  pub reclaimed : g ≡ true → x .reclaimed ≡ has c rs
+
+abbrev pub NoIntent : Intent → Type 0
+NoIntent x = x .taken ≡ false
+
+pub record Intents (g : Bool) (rs : List ℕ) (xs : List Intent) (cs : List ℕ) : Type 0 where
+  pub places : Slots (IntentIs g rs) NoIntent xs cs
+  pub eight : length xs ≡ 8
+
+-- ---- a file and a row
+pub record FileIs (g : Bool) (f : File) (w : Row) : Type 0 where
+  pub used : f .used ≡ true
+  pub number : f .number ≡ w .number
+  pub copies : Copies (f .mirrors) (w .mirrors) (w .blamed)
+  pub intents : Intents g (w .reclaimed) (f .intents) (w .intents)
+  pub recovered : g ≡ true → f .recovered ≡ not (none (w .reclaimed))
+  pub marked : f .marked ≡ w .marked
+
+abbrev pub NoFile : File → Type 0
+NoFile f = f .used ≡ false
+
+-- ---- THE RELATION
+pub record Matches (r : Record) (l : Ledger) : Type 0 where
+  pub grace : r .grace ≡ l .grace
+  pub long : length (r .files) ≡ 64
+  pub rows : Slots (FileIs (l .grace)) NoFile (r .files) (l .rows)
+  pub rising : Rising (numbers (l .rows))
+
+-- ---- one field changed
+module _ {g : Bool} {f : File} {w : Row} (h : FileIs g f w) where
+  pub with-intents : {xs : List Intent} {cs : List ℕ} → Intents g (w .reclaimed) xs cs → FileIs g (file.withIntents xs f) (withIntents cs w)
+  with-intents s = record { used = h .used; number = h .number; copies = h .copies; intents = s; recovered = h .recovered; marked = h .marked }
+
+  pub with-mark : {a b : Bool} → a ≡ b → FileIs g (file.withMark a f) (withMark b w)
+  with-mark e = record { used = h .used; number = h .number; copies = h .copies; intents = h .intents; recovered = h .recovered; marked = e }
+
+  pub with-copies : {ms : List Mirror} {bs : List ℕ} → Copies ms (w .mirrors) bs → FileIs g (file.withMirrors ms f) (withBlame bs w)
+  with-copies s = record { used = h .used; number = h .number; copies = s; intents = h .intents; recovered = h .recovered; marked = h .marked }
+
+-- ---- an answer agrees: the status is t, and what is left goes with l′ where t is 0 and with l otherwise
+pub record Agrees {X S L : Type 0} (M : S → L → Type 0) (st : X → ℕ) (af : X → S) (x : X) (l l′ : L) (t : ℕ) : Type 0 where
+  pub same : st x ≡ t
+  pub kept : M (af x) (cond (eqb t 0) l′ l)
+
+-- a test of the code that says what a test of the ledger says
+pub branch : {X S L : Type 0} {M : S → L → Type 0} {st : X → ℕ} {af : X → S} {x y : X} {l l′ : L} {s t : ℕ} {b : Bool} (b′ : Bool) → b ≡ b′
+    → (b′ ≡ true → Agrees M st af x l l′ s) → (b′ ≡ false → Agrees M st af y l l′ t) → Agrees M st af (cond b x y) l l′ (cond b′ s t)
+branch true e h k = rw e (h refl)
+branch false e h k = rw e (k refl)
+
+abbrev pub FileAgrees : Bool → FileAnswered → Row → Row → ℕ → Type 0
+FileAgrees g a w w′ t = Agrees (FileIs g) (λ (a : FileAnswered). a .status) (λ (a : FileAnswered). a .file) a w w′ t
+
+abbrev pub RecordAgrees : Answered → Ledger → Ledger → ℕ → Type 0
+RecordAgrees a l l′ t = Agrees Matches (λ (a : Answered). a .status) (λ (a : Answered). a .after) a l l′ t

@@ -1,0 +1,167 @@
+-- LAYOUTRETURN on the record: its answer, its reply and the record that it leaves are what the ledger says. In this order: refusals of steps 1 and 2; steps 5 to
+-- 7; steps 1 to 7; the answer.
+use mathlib.Core.Path.{_≡_, refl, ap, sym, _∙_}
+use mathlib.Core.List.{List, [], _∷_, _++_}
+use mathlib.Core.Bool.{Bool, true, false, not, cond, _&&_}
+use Prim.Native.Nat.{ℕ, _<_}
+use native.Mathlib.Omega.{arith}
+use lib.Dec.{eqb, leb}
+use borrow.Author.Tests.{eqb-true, ne-eqb}
+use Rattle.wire.specs.Report.{DeviceError, Report, Whole, Malformed, Statistics, reportOf, over, outcome}
+use Rattle.wire.specs.Request.{requestOf, bodyOf, refusalOf, unless, answered, arguments, Arguments, asked, Returned, ofFile, ofMany}
+use Rattle.wire.specs.Reader.{Read, Got, Bad}
+use Rattle.wire.specs.Reply.{replyIn}
+use Rattle.wire.specs.declared.request.Request.{Request}
+use Rattle.wire.specs.declared.request.Request.the-variants as request
+use Rattle.wire.proofs.Requests.{refused-number}
+use Rattle.files.specs.Lists.{any}
+use Rattle.files.specs.Places.{first}
+use Rattle.files.specs.Intents.{isIntent}
+use Rattle.files.specs.declared.blame.Heard.{Heard}
+use Rattle.files.specs.Blame.{heardNothing, told, heardOf}
+use Rattle.files.specs.File.{isFile, fileAnswered, ofFile as ifFile, reports, heardFile, reportedFile, asksFile, handedOnCode}
+use Rattle.files.specs.declared.file.File.{File}
+use Rattle.files.specs.declared.file.FileAnswered.{FileAnswered}
+use Rattle.recovery.specs.Calls.{Answer, replied, handedOn}
+use Rattle.recovery.specs.Ledger.{Row, Ledger, registered, rowOf, holds, refused, intentRules, reportRules, judgeRequest, reply, isFault, isStranger, blame, withMark, withBlame, reported, errorsOf, onRow}
+use Rattle.recovery.specs.Record.{onPlace}
+use Rattle.recovery.specs.declared.record.Record.{Record}
+use Rattle.recovery.proofs.Relation.{Matches, RecordAgrees}
+use Rattle.recovery.proofs.Reported.{status-stays}
+use Rattle.recovery.proofs.OneFile.{file-reported}
+use Rattle.recovery.proofs.Calls.{refused-any, on-file}
+
+-- ---- a refusal of steps 1 and 2 is no 0, and not the number that stands for "handed on"
+low : (b : Bool) (s t : ℕ) → s < 20000 → t < 20000 → cond b s t < 20000
+low true s t h k = h
+low false s t h k = k
+
+refusal-low : (layout iomode : ℕ) → refusalOf layout iomode < 20000
+unfolding refusalOf
+refusal-low layout iomode = low (eqb layout 4) (cond (leb 1 iomode && leb iomode 3) 0 10049) 10062 (low (leb 1 iomode && leb iomode 3) 0 10049 (omega arith) (omega arith)) (omega arith)
+
+abbrev Low : Request → Type 0
+Low (request.Refused k) = k < 20000
+Low request.Bulk = Unit {0}
+Low (request.File a n) = Unit {0}
+
+unless-low : (k : ℕ) (r : Request) → k < 20000 → Low r → Low (unless k r)
+unfolding unless
+unless-low k r h l = by (eqb k 0)
+  where
+    by : (b : Bool) → Low (cond b r (request.Refused k))
+    by true = l
+    by false = h
+
+asked-low : (t : Returned) → Low (asked t)
+asked-low (ofFile a b) = tt
+asked-low ofMany = tt
+
+answered-low : (q : Read Arguments) → Low (answered q)
+answered-low Bad = omega arith
+answered-low (Got a (x ∷ rest)) = omega arith
+answered-low (Got a []) = unless-low (refusalOf (a .layout) (a .iomode)) (asked (a .returned)) (refusal-low (a .layout) (a .iomode)) (asked-low (a .returned))
+
+request-low : (s : List ℕ) → Low (requestOf s)
+unfolding requestOf
+request-low s = answered-low (arguments s)
+
+-- a request as steps 1 and 2 leave it
+record Refusal (k : ℕ) : Type 0 where
+  nonzero : k ≡ 0 → ⊥
+  small : k < 20000
+
+abbrev Read-as : Request → Type 0
+Read-as (request.Refused k) = Refusal k
+Read-as request.Bulk = Unit {0}
+Read-as (request.File a n) = Unit {0}
+
+read-as : (s : List ℕ) (q : Request) → requestOf s ≡ q → Read-as q
+read-as s (request.Refused k) e = record { nonzero = refused-number s e; small = rw e at (request-low s) }
+read-as s request.Bulk e = tt
+read-as s (request.File a n) e = tt
+
+-- ---- steps 5 to 7, in grace
+reported-number : (xs : List DeviceError) (w : Row) → reported xs w .number ≡ w .number
+reported-number xs w = by (any (isStranger w) xs) (any isFault xs)
+  where
+    by : (a b : Bool) → cond a (withMark true w) (cond b (withMark true (withBlame (blame w xs (w .blamed)) w)) w) .number ≡ w .number
+    by true b = refl
+    by false true = refl
+    by false false = refl
+
+heard-file : (n c : ℕ) (h : Heard) (f : File) → h .status ≡ 0 → heardFile n c h f ≡ ifFile n f (reports h f (first (isIntent c) (f .intents)))
+heard-file n c h f e = ap (λ k. cond (eqb k 0) (ifFile n f (reports h f (first (isIntent c) (f .intents)))) (fileAnswered k f)) e
+
+report-agrees : {r : Record} {l : Ledger} (n c : ℕ) (p : Report) → Matches r l → RecordAgrees (onPlace n (reportedFile n c p) r) l (onRow l n (reported (errorsOf p))) (refused (reportRules l n c p))
+unfolding reportedFile heardOf outcome
+report-agrees n c Malformed m = refused-any n (reportedFile n c Malformed) 10036 refl (λ f. refl) m
+report-agrees n c Statistics m = refused-any n (reportedFile n c Statistics) 10004 refl (λ f. refl) m
+report-agrees {r} {l} n c (Whole xs) m = on-file n (reportedFile n c (Whole xs)) (reported xs) (λ w. refused (intentRules c w)) (reported-number xs)
+    (λ f w i k. rw (heard-file n c (over told (heardNothing (f .mirrors) 0) xs) f (status-stays xs (heardNothing (f .mirrors) 0)), i) (file-reported c xs k))
+    (λ f i. rw (heard-file n c (over told (heardNothing (f .mirrors) 0) xs) f (status-stays xs (heardNothing (f .mirrors) 0)), i)) m
+
+-- ---- steps 1 to 7: the status that the ledger says, or the number that stands for "handed on"
+abbrev codeOf : Ledger → ℕ → ℕ → List ℕ → Request → ℕ
+codeOf l n c s (request.Refused k) = k
+codeOf l n c s request.Bulk = handedOnCode
+codeOf l n c s (request.File true k) = cond (not (l .grace)) 10033 (refused (reportRules l n c (reportOf (bodyOf s))))
+codeOf l n c s (request.File false k) = cond (l .grace) 10013 handedOnCode
+
+module _ {r : Record} {l : Ledger} (m : Matches r l) (n c : ℕ) (s : List ℕ) where
+  abbrev asks : Bool → Request → File → FileAnswered
+  asks g q f = asksFile n g c s f q
+
+  abbrev Asked : Request → ℕ → Type 0
+  Asked q t = RecordAgrees (onPlace n (asks (r .grace) q) r) l (onRow l n (reported (errorsOf (reportOf (bodyOf s))))) t
+
+  at-phase : (q : Request) {t : ℕ} (b : Bool) → l .grace ≡ b → RecordAgrees (onPlace n (asks b q) r) l (onRow l n (reported (errorsOf (reportOf (bodyOf s))))) t → Asked q t
+  at-phase q b e h = rw (ap (λ g. onPlace n (asks g q) r) (m .grace ∙ e)) h
+
+  ordinary-by : (k : ℕ) (b : Bool) → l .grace ≡ b → Asked (request.File false k) (cond b 10013 handedOnCode)
+  ordinary-by k true e = at-phase (request.File false k) true e (refused-any n (asks true (request.File false k)) 10013 refl (λ f. refl) m)
+  ordinary-by k false e = at-phase (request.File false k) false e (refused-any n (asks false (request.File false k)) handedOnCode refl (λ f. refl) m)
+
+  anonymous-by : (k : ℕ) (b : Bool) → l .grace ≡ b → Asked (request.File true k) (cond (not b) 10033 (refused (reportRules l n c (reportOf (bodyOf s)))))
+  anonymous-by k false e = at-phase (request.File true k) false e (refused-any n (asks false (request.File true k)) 10033 refl (λ f. refl) m)
+  anonymous-by k true e = at-phase (request.File true k) true e (report-agrees n c (reportOf (bodyOf s)) m)
+
+  asks-agrees : (q : Request) → Read-as q → Asked q (codeOf l n c s q)
+  asks-agrees (request.Refused k) h = refused-any n (asks (r .grace) (request.Refused k)) k (ne-eqb k 0 (h .nonzero)) (λ f. refl) m
+  asks-agrees request.Bulk h = refused-any n (asks (r .grace) request.Bulk) handedOnCode refl (λ f. refl) m
+  asks-agrees (request.File true k) h = anonymous-by k (l .grace) refl
+  asks-agrees (request.File false k) h = ordinary-by k (l .grace) refl
+
+-- ---- the answer
+abbrev pub handing : ℕ → List ℕ → Answer
+handing t d = cond (eqb t handedOnCode) (handedOn d) (reply t d)
+
+not-handed : (t : ℕ) → t < 20000 → eqb t handedOnCode ≡ false
+not-handed t h = ne-eqb t handedOnCode (λ e. omega arith)
+
+rules-low : (l : Ledger) (n c : ℕ) (p : Report) → refused (reportRules l n c p) < 20000
+rules-low l n c Malformed = omega arith
+rules-low l n c Statistics = omega arith
+rules-low l n c (Whole xs) = low (not (registered n l)) 70 (cond (not (holds c (rowOf n l))) 10034 0) (omega arith) (low (not (holds c (rowOf n l))) 10034 0 (omega arith) (omega arith))
+
+answer-is : (l : Ledger) (n c : ℕ) (s d : List ℕ) (q : Request) → Read-as q → handing (codeOf l n c s q) d ≡ judgeRequest l n c s d q
+answer-is l n c s d (request.Refused k) h = rw (not-handed k (h .small))
+answer-is l n c s d request.Bulk h = refl
+answer-is l n c s d (request.File true k) h =
+    rw (not-handed _ (low (not (l .grace)) 10033 (refused (reportRules l n c (reportOf (bodyOf s)))) (omega arith) (rules-low l n c (reportOf (bodyOf s)))))
+answer-is l n c s d (request.File false k) h = by (l .grace)
+  where
+    by : (b : Bool) → handing (cond b 10013 handedOnCode) d ≡ cond b (reply 10013 d) (handedOn d)
+    by true = refl
+    by false = refl
+
+-- a LAYOUTRETURN whose reply buffer is long enough: t is its status or that number
+pub record ReturnAgrees (r : Record) (l : Ledger) (n c : ℕ) (s d : List ℕ) : Type 0 where
+  pub code : ℕ
+  pub agrees : RecordAgrees (onPlace n (λ f. asksFile n (r .grace) c s f (requestOf s)) r) l (onRow l n (reported (errorsOf (reportOf (bodyOf s))))) code
+  pub answer : handing code d ≡ judgeRequest l n c s d (requestOf s)
+
+pub return-agrees : {r : Record} {l : Ledger} → Matches r l → (n c : ℕ) (s d : List ℕ) → ReturnAgrees r l n c s d
+return-agrees {r} {l} m n c s d =
+    let h = read-as s (requestOf s) refl in
+    record { code = codeOf l n c s (requestOf s); agrees = asks-agrees m n c s (requestOf s) h; answer = answer-is l n c s d (requestOf s) h }

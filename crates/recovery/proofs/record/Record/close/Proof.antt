@@ -1,0 +1,40 @@
+-- By the place that `place` answers and the answer of the file there.
+use Prim.Native.Nat.{_-_}
+use borrow.Author.Needs.{needs}
+use Rattle.recovery.specs.Record.{closeOf}
+use Rattle.recovery.proofs.record.Record.close.Statement.{statement}
+use Rattle.recovery.proofs.record.Record.close.Tie as tie
+
+place-requires : tie.Need-place-requires
+place-requires c κs = search needs
+
+mul-f : tie.Need-mul-f
+mul-f c = search needs
+
+element-copy-out-f : tie.Need-element-copy-out-f
+element-copy-out-f c = search needs
+
+close-requires : tie.Need-close-requires
+close-requires c κs = search needs
+
+mul-g : tie.Need-mul-g
+mul-g c = search needs
+
+element-set-from-g : tie.Need-element-set-from-g
+element-set-from-g c = search needs
+
+returns : tie.Need-returns
+unfolding closeOf
+returns c = rw (c .before .close .ensures, c .before .before .before .place .ensures .0)
+
+pub close-spec : {M : Type 1} → statement M
+close-spec =
+    tie.close
+    (tie.spec
+    place-requires
+    mul-f
+    element-copy-out-f
+    close-requires
+    mul-g
+    element-set-from-g
+    returns)

@@ -1,0 +1,40 @@
+-- By the place that `place` answers and the answer of the file there.
+use Prim.Native.Nat.{_-_}
+use borrow.Author.Needs.{needs}
+use Rattle.recovery.specs.Record.{openOf}
+use Rattle.recovery.proofs.record.Record.open.Statement.{statement}
+use Rattle.recovery.proofs.record.Record.open.Tie as tie
+
+place-requires : tie.Need-place-requires
+place-requires c κs = search needs
+
+mul-f : tie.Need-mul-f
+mul-f c = search needs
+
+element-copy-out-f : tie.Need-element-copy-out-f
+element-copy-out-f c = search needs
+
+open-requires : tie.Need-open-requires
+open-requires c κs = search needs
+
+mul-g : tie.Need-mul-g
+mul-g c = search needs
+
+element-set-from-g : tie.Need-element-set-from-g
+element-set-from-g c = search needs
+
+returns : tie.Need-returns
+unfolding openOf
+returns c = rw (c .before .«open» .ensures, c .before .before .before .place .ensures .0)
+
+pub open-spec : {M : Type 1} → statement M
+open-spec =
+    tie.close
+    (tie.spec
+    place-requires
+    mul-f
+    element-copy-out-f
+    open-requires
+    mul-g
+    element-set-from-g
+    returns)

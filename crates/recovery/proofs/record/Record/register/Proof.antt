@@ -1,0 +1,71 @@
+-- Each return rewrites with the tests that led there.
+use mathlib.Core.Path.{sym, ap, _∙_}
+use Prim.Native.Nat.{_-_}
+use borrow.Author.Needs.{needs}
+use borrow.Author.Tests.{not-true, not-false}
+use Rattle.recovery.specs.Record.{registerOf}
+use Rattle.files.specs.declared.enrol.Enrolled.{Enrolled}
+use Rattle.recovery.proofs.record.Record.register.Statement.{statement}
+use Rattle.recovery.proofs.record.Record.register.Tie as tie
+
+returns : tie.Need-returns
+unfolding registerOf
+returns c = rw (c .if1 .taken)
+
+enrol-requires : tie.Need-enrol-requires
+enrol-requires c κs = search needs
+
+returns-2 : tie.Need-returns-2
+unfolding registerOf
+returns-2 c = rw (c .before .before .before .if1 .left, sym (ap (λ (x : Enrolled). x .good) (c .before .before .enrol .ensures)) ∙ not-true _ (c .if2 .taken))
+
+place-requires : tie.Need-place-requires
+place-requires c κs = search needs
+
+mul-f : tie.Need-mul-f
+mul-f c = search needs
+
+element-copy-out-f : tie.Need-element-copy-out-f
+element-copy-out-f c = search needs
+
+is-requires : tie.Need-is-requires
+is-requires c κs = search needs
+
+returns-3 : tie.Need-returns-3
+unfolding registerOf
+returns-3 c = rw (← c .before .before .before .place .ensures .0, sym (c .before .is .ensures) ∙ c .if3 .taken, c .before .before .before .before .before .before .before .if1 .left, sym (ap (λ (x : Enrolled). x .good) (c .before .before .before .before .before .before .enrol .ensures)) ∙ not-false _ (c .before .before .before .before .if2 .left))
+
+element-copy-out-last : tie.Need-element-copy-out-last
+element-copy-out-last c = search needs
+
+returns-4 : tie.Need-returns-4
+unfolding registerOf
+returns-4 c = rw (← c .before .before .before .before .before .place .ensures .0, sym (c .before .before .before .is .ensures) ∙ c .before .before .if3 .left, c .if4 .taken, c .before .before .before .before .before .before .before .before .before .if1 .left, sym (ap (λ (x : Enrolled). x .good) (c .before .before .before .before .before .before .before .before .enrol .ensures)) ∙ not-false _ (c .before .before .before .before .before .before .if2 .left))
+
+new-requires : tie.Need-new-requires
+new-requires c κs = search needs
+
+entered-requires : tie.Need-entered-requires
+entered-requires c κs = search needs
+
+returns-5 : tie.Need-returns-5
+unfolding registerOf
+returns-5 c = rw (← c .before .before .before .before .before .before .before .before .before .place .ensures .0, sym (c .before .before .before .before .before .before .before .is .ensures) ∙ c .before .before .before .before .before .before .if3 .left, c .before .before .before .before .if4 .left, c .before .before .before .before .before .before .before .before .before .before .before .before .before .if1 .left, sym (ap (λ (x : Enrolled). x .good) (c .before .before .before .before .before .before .before .before .before .before .before .before .enrol .ensures)) ∙ not-false _ (c .before .before .before .before .before .before .before .before .before .before .if2 .left), c .entered .ensures, c .before .before .new .ensures, ap (λ (x : Enrolled). x .mirrors) (c .before .before .before .before .before .before .before .before .before .before .before .before .enrol .ensures))
+
+pub register-spec : {M : Type 1} → statement M
+register-spec =
+    tie.close
+    (tie.spec
+    returns
+    enrol-requires
+    returns-2
+    place-requires
+    mul-f
+    element-copy-out-f
+    is-requires
+    returns-3
+    element-copy-out-last
+    returns-4
+    new-requires
+    entered-requires
+    returns-5)

@@ -1,0 +1,40 @@
+-- By the place that `place` answers and the answer of the file there.
+use Prim.Native.Nat.{_-_}
+use borrow.Author.Needs.{needs}
+use Rattle.recovery.specs.Record.{returnedOf}
+use Rattle.recovery.proofs.record.Record.returned.Statement.{statement}
+use Rattle.recovery.proofs.record.Record.returned.Tie as tie
+
+place-requires : tie.Need-place-requires
+place-requires c κs = search needs
+
+mul-f : tie.Need-mul-f
+mul-f c = search needs
+
+element-copy-out-f : tie.Need-element-copy-out-f
+element-copy-out-f c = search needs
+
+layoutreturn-requires : tie.Need-layoutreturn-requires
+layoutreturn-requires c κs = search needs
+
+mul-g : tie.Need-mul-g
+mul-g c = search needs
+
+element-set-from-g : tie.Need-element-set-from-g
+element-set-from-g c = search needs
+
+returns : tie.Need-returns
+unfolding returnedOf
+returns c = rw (c .before .layoutreturn .ensures, c .before .before .before .place .ensures .0)
+
+pub returned-spec : {M : Type 1} → statement M
+returned-spec =
+    tie.close
+    (tie.spec
+    place-requires
+    mul-f
+    element-copy-out-f
+    layoutreturn-requires
+    mul-g
+    element-set-from-g
+    returns)

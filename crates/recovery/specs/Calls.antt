@@ -1,0 +1,19 @@
+-- DEFINITION. The calls of a history, with what the host passes and the buffers that it lends, and what each call is answered (paper 01, "Histories").
+use mathlib.Core.List.{List}
+use Prim.Native.Nat.{ℕ}
+
+-- mirrors, request and reply are bytes, 16 a device; a listing is lent a slice of file numbers and a slice of sources
+pub data Call : Type 0 where
+  register : (file : ℕ) (mirrors : List ℕ) → Call
+  opening reclaim close : (file client : ℕ) → Call
+  repaired forget : (file : ℕ) → Call
+  endGrace restart : Call
+  layoutReturn : (file client : ℕ) (request reply : List ℕ) → Call
+  resilver offered : (numbers sources : List ℕ) → Call
+
+-- a LAYOUTRETURN answers a status, or is handed on, with the reply buffer afterwards; a listing its status, its count and both slices afterwards
+pub data Answer : Type 0 where
+  said : (status : ℕ) → Answer
+  replied : (status : ℕ) (reply : List ℕ) → Answer
+  handedOn : (reply : List ℕ) → Answer
+  listed : (status count : ℕ) (numbers sources : List ℕ) → Answer

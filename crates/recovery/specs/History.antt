@@ -1,0 +1,74 @@
+-- DEFINITION. Demand 3 (paper 01, "Histories"): any list of calls from a fresh record, each on the record that the last one left, and the ledger that goes
+-- along with it. In this order: a step; a whole history; the demand.
+use mathlib.Core.Path.{_≡_}
+use mathlib.Core.List.{List, [], _∷_}
+use mathlib.Core.Bool.{Bool, true, false, cond}
+use Prim.Native.Nat.{ℕ}
+use Rattle.recovery.specs.Calls.{Call, register, opening, reclaim, close, repaired, forget, endGrace, restart, layoutReturn, resilver, offered, Answer, said, replied, handedOn}
+use Rattle.recovery.specs.Ledger.{Ledger, noRows, judge, feed, isMarked, isOffered, needRepair, forCopying}
+use Rattle.recovery.specs.Lists.{OneList}
+use Rattle.recovery.specs.Record.{fresh, registerOf, openOf, reclaimOf, closeOf, repairedOf, forgetOf, endOf, restartOf, layoutreturnOf, replyAfter, listingOf}
+use Rattle.recovery.specs.declared.record.Record.{Record}
+use Rattle.recovery.specs.declared.record.Answered.{Answered}
+use Rattle.recovery.specs.declared.layoutreturn.Returned.{Returned}
+
+-- ---- a step: a call is the method of that name, and each line cites the definition that the method's promise says its answer equals
+pub record Step : Type 0 where
+  pub answer : Answer
+  pub after : Record
+
+abbrev pub stepOf : Answered → Step
+stepOf a = record { answer = said (a .status); after = a .after }
+
+-- d is the reply buffer afterwards
+abbrev pub returnStep : Returned → List ℕ → Step
+returnStep a d = record { answer = cond (a .handed) (handedOn d) (replied (a .status) d); after = a .after }
+
+unfoldable pub step : Record → Call → Step
+step r (register n s) = stepOf (registerOf n s r)
+step r (opening n c) = stepOf (openOf n c r)
+step r (reclaim n c) = stepOf (reclaimOf n c r)
+step r (close n c) = stepOf (closeOf n c r)
+step r (repaired n) = stepOf (repairedOf n r)
+step r (forget n) = stepOf (forgetOf n r)
+step r endGrace = stepOf (endOf r)
+step r restart = stepOf (restartOf r)
+step r (layoutReturn n c s d) = returnStep (layoutreturnOf n c s d r) (replyAfter n c s d r)
+step r (resilver a b) = record { answer = listingOf false r a b; after = r }
+step r (offered a b) = record { answer = listingOf true r a b; after = r }
+
+-- ---- a history
+-- the record's answers, in order, and the record after all calls
+unfoldable pub answers : Record → List Call → List Answer
+answers r [] = []
+answers r (x ∷ xs) = step r x .answer ∷ answers (step r x .after) xs
+
+unfoldable pub recordAfter : Record → List Call → Record
+recordAfter r [] = r
+recordAfter r (x ∷ xs) = recordAfter (step r x .after) xs
+
+-- what the ledger says before each call, and the ledger after all calls; it is fed the calls and the answers, and nothing else
+unfoldable pub verdicts : Ledger → List Call → List Answer → List Answer
+verdicts l [] given = []
+verdicts l (x ∷ xs) [] = []
+verdicts l (x ∷ xs) (a ∷ given) = judge l x ∷ verdicts (feed l x a) xs given
+
+unfoldable pub ledgerAfter : Ledger → List Call → List Answer → Ledger
+ledgerAfter l [] given = l
+ledgerAfter l (x ∷ xs) [] = l
+ledgerAfter l (x ∷ xs) (a ∷ given) = ledgerAfter (feed l x a) xs given
+
+-- ---- the demand, of a list of calls: each answer is what the ledger before that call says, every lent byte included; after all of them both listings
+-- are the ledger's; and the ledger's two lists are the lists that the paper's sentences mean
+abbrev pub ledgerOf : List Call → Ledger
+ledgerOf calls = ledgerAfter noRows calls (answers fresh calls)
+
+pub record Holds (calls : List Call) : Type 0 where
+  pub answered : answers fresh calls ≡ verdicts noRows calls (answers fresh calls)
+  pub resilvers : (a b : List ℕ) → listingOf false (recordAfter fresh calls) a b ≡ judge (ledgerOf calls) (resilver a b)
+  pub offers : (a b : List ℕ) → listingOf true (recordAfter fresh calls) a b ≡ judge (ledgerOf calls) (offered a b)
+  pub marked : OneList isMarked (ledgerOf calls) (needRepair (ledgerOf calls))
+  pub idle : OneList isOffered (ledgerOf calls) (forCopying (ledgerOf calls))
+
+abbrev pub Demand3 : Type 0
+Demand3 = (calls : List Call) → Holds calls

@@ -1,0 +1,268 @@
+-- DEFINITION. The ledger of a history (paper 01, "The ledger"): it is fed each call and its answer, and nothing that the record holds. In this order:
+-- rows and the ledger; what a row says; the rules of refusal; the two lists; LAYOUTRETURN; `judge`, which answer each call must get; rows as calls
+-- change them; `feed`, what an answered call does.
+use mathlib.Core.List.{List, [], _∷_, _++_, map}
+use mathlib.Core.Bool.{Bool, true, false, not, cond}
+use Prim.Native.Nat.{ℕ, suc}
+use lib.ListN.{length}
+use lib.Dec.{eqb, leb, ltb}
+use Rattle.wire.specs.Device.{Device}
+use Rattle.wire.specs.Report.{DeviceError, Report, Whole, Malformed, Statistics, reportOf}
+use Rattle.wire.specs.Request.{requestOf, bodyOf}
+use Rattle.wire.specs.Reply.{replyIn}
+use Rattle.wire.specs.declared.request.Request.{Request}
+use Rattle.wire.specs.declared.request.Request.the-variants as request
+use Rattle.files.specs.Lists.{any, chosen, has, with, none, amend, discard, firstOr, fill}
+use Rattle.files.specs.Devices.{deviceOf, mirrorsIn, isMirror, placeOf, badMirrors}
+use Rattle.recovery.specs.Calls.{Call, register, opening, reclaim, close, repaired, forget, endGrace, restart, layoutReturn, resilver, offered, Answer, said, replied, handedOn, listed}
+
+-- ---- rows
+-- a file's number, mirrors by place from 0, clients with an intent, clients that reclaimed, mark and blamed places
+pub record Row : Type 0 where
+  pub number : ℕ
+  pub mirrors : List Device
+  pub intents : List ℕ
+  pub reclaimed : List ℕ
+  pub marked : Bool
+  pub blamed : List ℕ
+
+-- a row with number and mirrors only
+abbrev pub newRow : ℕ → List Device → Row
+newRow n ds = record { number = n; mirrors = ds; intents = []; reclaimed = []; marked = false; blamed = [] }
+
+abbrev pub withIntents : List ℕ → Row → Row
+withIntents cs w = record { number = w .number; mirrors = w .mirrors; intents = cs; reclaimed = w .reclaimed; marked = w .marked; blamed = w .blamed }
+
+abbrev pub withReclaimed : List ℕ → Row → Row
+withReclaimed cs w = record { number = w .number; mirrors = w .mirrors; intents = w .intents; reclaimed = cs; marked = w .marked; blamed = w .blamed }
+
+abbrev pub withMark : Bool → Row → Row
+withMark b w = record { number = w .number; mirrors = w .mirrors; intents = w .intents; reclaimed = w .reclaimed; marked = b; blamed = w .blamed }
+
+abbrev pub withBlame : List ℕ → Row → Row
+withBlame bs w = record { number = w .number; mirrors = w .mirrors; intents = w .intents; reclaimed = w .reclaimed; marked = w .marked; blamed = bs }
+
+-- the rows stand by rising number
+pub record Ledger : Type 0 where
+  pub grace : Bool
+  pub rows : List Row
+
+-- without rows and not in grace
+abbrev pub noRows : Ledger
+noRows = record { grace = false; rows = [] }
+
+abbrev pub withRows : List Row → Ledger → Ledger
+withRows ws l = record { grace = l .grace; rows = ws }
+
+abbrev pub withGrace : Bool → Ledger → Ledger
+withGrace g l = record { grace = g; rows = l .rows }
+
+abbrev pub isRow : ℕ → Row → Bool
+isRow n w = eqb (w .number) n
+
+-- registered files are those with a row
+unfoldable pub registered : ℕ → Ledger → Bool
+registered n l = any (isRow n) (l .rows)
+
+unfoldable pub rowOf : ℕ → Ledger → Row
+rowOf n l = firstOr (isRow n) (newRow n []) (l .rows)
+
+-- ---- what a row says
+-- whether a device is one of the mirrors, and at which place
+abbrev pub names : Row → Device → Bool
+names w d = isMirror d (w .mirrors)
+
+abbrev pub placeIn : Row → Device → ℕ
+placeIn w d = placeOf d (w .mirrors)
+
+-- whether a client has an intent, whether anybody has, and whether a client has reclaimed
+abbrev pub holds : ℕ → Row → Bool
+holds c w = has c (w .intents)
+
+abbrev pub isOpen : Row → Bool
+isOpen w = not (none (w .intents))
+
+abbrev pub reclaimedBy : ℕ → Row → Bool
+reclaimedBy c w = has c (w .reclaimed)
+
+-- whether the end of grace marks the file: there is an intent, and nobody has reclaimed
+abbrev pub lost : Row → Bool
+lost w = cond (isOpen w) (none (w .reclaimed)) false
+
+-- the lowest place not blamed, if the list's first is k, or 255
+unfoldable pub sourceFrom : ℕ → List Device → List ℕ → ℕ
+sourceFrom k [] bs = 255
+sourceFrom k (d ∷ ds) bs = cond (has k bs) (sourceFrom (suc k) ds bs) k
+
+abbrev pub source : Row → ℕ
+source w = sourceFrom 0 (w .mirrors) (w .blamed)
+
+-- ---- the rules of refusal: the first that applies
+pub data Rule (A : Type 0) : Type 0 where
+  _⇒_ : Bool → A → Rule A
+
+infix 68 _⇒_
+abbrev pub firstOf : {A : Type 0} → List (Rule A) → A → A
+firstOf [] z = z
+firstOf ((b ⇒ s) ∷ rs) z = cond b s (firstOf rs z)
+
+-- or 0
+abbrev pub refused : List (Rule ℕ) → ℕ
+refused rs = firstOf rs 0
+
+-- what each call says of the row of its file; g is whether in grace
+abbrev pub openRules : ℕ → Row → List (Rule ℕ)
+openRules c w = holds c w ⇒ 0 ∷ leb 8 (length (w .intents)) ⇒ 28 ∷ []
+
+abbrev pub intentRules : ℕ → Row → List (Rule ℕ)
+intentRules c w = not (holds c w) ⇒ 10034 ∷ []
+
+abbrev pub closeRules : Bool → ℕ → Row → List (Rule ℕ)
+closeRules g c w = not (holds c w) ⇒ 10025 ∷ cond g (not (reclaimedBy c w)) false ⇒ 10025 ∷ []
+
+abbrev pub repairedRules : Row → List (Rule ℕ)
+repairedRules w = not (w .marked) ⇒ 22 ∷ isOpen w ⇒ 10008 ∷ []
+
+abbrev pub forgetRules : Row → List (Rule ℕ)
+forgetRules w = w .marked ⇒ 10008 ∷ isOpen w ⇒ 10008 ∷ []
+
+-- ---- the two lists, by rising number
+-- a file needs repair while its row has the mark
+abbrev pub isMarked : Row → Bool
+isMarked w = w .marked
+
+-- offered for copying are those of them with no intent
+abbrev pub isOffered : Row → Bool
+isOffered w = cond (isMarked w) (not (isOpen w)) false
+
+abbrev pub needRepair : Ledger → List Row
+needRepair l = chosen isMarked (l .rows)
+
+abbrev pub forCopying : Ledger → List Row
+forCopying l = chosen isOffered (l .rows)
+
+abbrev pub numbers : List Row → List ℕ
+numbers ws = map (λ w. w .number) ws
+
+abbrev pub sources : List Row → List ℕ
+sources ws = map source ws
+
+-- a listing fills the two slices that it is lent, a and b, or neither; later places stay
+unfoldable pub lend : List ℕ → List ℕ → List ℕ → List ℕ → Answer
+lend ns ss a b =
+    cond (leb (length ns) (length a))
+    (cond (leb (length ns) (length b)) (listed 0 (length ns) (fill ns a) (fill ss b)) (listed 28 0 a b))
+    (listed 28 0 a b)
+
+abbrev pub listOf : List Row → List ℕ → List ℕ → Answer
+listOf ws a b = lend (numbers ws) (sources ws) a b
+
+-- ---- LAYOUTRETURN
+abbrev pub reply : ℕ → List ℕ → Answer
+reply s d = replied s (replyIn s d)
+
+-- step 5
+abbrev pub bodyRules : Report → List (Rule ℕ)
+bodyRules Malformed = true ⇒ 10036 ∷ []
+bodyRules Statistics = true ⇒ 10004 ∷ []
+bodyRules (Whole xs) = []
+
+-- steps 5 and 6
+abbrev pub reportRules : Ledger → ℕ → ℕ → Report → List (Rule ℕ)
+reportRules l n c p = bodyRules p ++ not (registered n l) ⇒ 70 ∷ intentRules c (rowOf n l)
+
+-- steps 1 to 6: s is the request, d the reply buffer. Step 4: in grace a stateid that is not all zeros gets 10013; not in grace, all zeros get 10033
+abbrev pub judgeRequest : Ledger → ℕ → ℕ → List ℕ → List ℕ → Request → Answer
+judgeRequest l n c s d (request.Refused k) = reply k d
+judgeRequest l n c s d request.Bulk = handedOn d
+judgeRequest l n c s d (request.File true k) = reply (refused (not (l .grace) ⇒ 10033 ∷ reportRules l n c (reportOf (bodyOf s)))) d
+judgeRequest l n c s d (request.File false k) = firstOf (l .grace ⇒ reply 10013 d ∷ []) (handedOn d)
+
+-- ---- what the ledger before a call says that it is answered
+unfoldable pub judge : Ledger → Call → Answer
+judge l (register n s) = said (refused (l .grace ⇒ 10013 ∷ badMirrors s ⇒ 22 ∷ registered n l ⇒ 17 ∷ leb 64 (length (l .rows)) ⇒ 28 ∷ []))
+judge l (opening n c) = said (refused (l .grace ⇒ 10013 ∷ not (registered n l) ⇒ 70 ∷ openRules c (rowOf n l)))
+judge l (reclaim n c) = said (refused (not (l .grace) ⇒ 10033 ∷ not (registered n l) ⇒ 70 ∷ intentRules c (rowOf n l)))
+judge l (close n c) = said (refused (not (registered n l) ⇒ 70 ∷ closeRules (l .grace) c (rowOf n l)))
+judge l (repaired n) = said (refused (not (registered n l) ⇒ 70 ∷ repairedRules (rowOf n l)))
+judge l (forget n) = said (refused (l .grace ⇒ 10013 ∷ not (registered n l) ⇒ 70 ∷ forgetRules (rowOf n l)))
+judge l endGrace = said (refused (not (l .grace) ⇒ 10033 ∷ []))
+judge l restart = said 0
+judge l (layoutReturn n c s d) = firstOf (ltb (length d) 24 ⇒ replied 28 d ∷ []) (judgeRequest l n c s d (requestOf s))
+judge l (resilver a b) = listOf (needRepair l) a b
+judge l (offered a b) = listOf (forCopying l) a b
+
+-- ---- rows as calls change them
+abbrev pub opened : ℕ → Row → Row
+opened c w = withIntents (with c (w .intents)) w
+
+abbrev pub hasReclaimed : ℕ → Row → Row
+hasReclaimed c w = withReclaimed (with c (w .reclaimed)) w
+
+abbrev pub closed : ℕ → Row → Row
+closed c w = withIntents (discard (λ x. eqb x c) (w .intents)) w
+
+abbrev pub mended : Row → Row
+mended w = withMark false (withBlame [] w)
+
+abbrev pub restarted : Row → Row
+restarted w = withReclaimed [] w
+
+-- the mark first, then the intent of each client that has not reclaimed is dropped
+abbrev pub ended : Row → Row
+ended w = withMark (cond (lost w) true (w .marked)) (withIntents (chosen (λ c. reclaimedBy c w) (w .intents)) w)
+
+-- step 7: a device with a status other than 0 is blamed
+abbrev pub isFault : DeviceError → Bool
+isFault x = not (eqb (x .status) 0)
+
+unfoldable pub blame : Row → List DeviceError → List ℕ → List ℕ
+blame w [] bs = bs
+blame w (x ∷ xs) bs = blame w xs (cond (isFault x) (with (placeIn w (deviceOf x)) bs) bs)
+
+abbrev pub isStranger : Row → DeviceError → Bool
+isStranger w x = not (names w (deviceOf x))
+
+-- if a named device is no mirror the file is marked and nobody blamed; else each fault is blamed, and one such marks
+abbrev pub reported : List DeviceError → Row → Row
+reported xs w =
+    cond (any (isStranger w) xs) (withMark true w)
+    (cond (any isFault xs) (withMark true (withBlame (blame w xs (w .blamed)) w)) w)
+
+-- the device errors of an accepted request
+abbrev pub errorsOf : Report → List DeviceError
+errorsOf Malformed = []
+errorsOf Statistics = []
+errorsOf (Whole xs) = xs
+
+-- a row among others, before the first that is greater
+unfoldable pub insert : Row → List Row → List Row
+insert w [] = w ∷ []
+insert w (v ∷ vs) = cond (leb (v .number) (w .number)) (v ∷ insert w vs) (w ∷ v ∷ vs)
+
+abbrev pub onRow : Ledger → ℕ → (Row → Row) → Ledger
+onRow l n g = withRows (amend (isRow n) g (l .rows)) l
+
+-- ---- what an accepted call does
+unfoldable pub apply : Ledger → Call → Ledger
+apply l (register n s) = withRows (insert (newRow n (mirrorsIn s)) (l .rows)) l
+apply l (opening n c) = onRow l n (opened c)
+apply l (reclaim n c) = onRow l n (hasReclaimed c)
+apply l (close n c) = onRow l n (closed c)
+apply l (repaired n) = onRow l n mended
+apply l (forget n) = withRows (discard (isRow n) (l .rows)) l
+apply l endGrace = withGrace false (withRows (map ended (l .rows)) l)
+apply l restart = withGrace true (withRows (map restarted (l .rows)) l)
+apply l (layoutReturn n c s d) = onRow l n (reported (errorsOf (reportOf (bodyOf s))))
+apply l (resilver a b) = l
+apply l (offered a b) = l
+
+-- a call that is refused or handed on, and a listing, change nothing
+abbrev pub accepted : Answer → Bool
+accepted (said s) = eqb s 0
+accepted (replied s d) = eqb s 0
+accepted (handedOn d) = false
+accepted (listed s n a b) = false
+
+unfoldable pub feed : Ledger → Call → Answer → Ledger
+feed l x a = cond (accepted a) (apply l x) l

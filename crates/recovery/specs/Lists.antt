@@ -1,0 +1,34 @@
+-- DEFINITION. The list rule as what it means (paper 01, "The ledger"): the resilver list gives each file that needs repair once, by rising number, with
+-- its source; the other list keeps only files with no intent.
+use mathlib.Core.Path.{_≡_}
+use mathlib.Core.List.{List, [], _∷_}
+use mathlib.Core.Bool.{Bool, true, false, cond}
+use Prim.Native.Nat.{ℕ, _<_}
+use lib.ListN.{length}
+use Rattle.files.specs.Lists.{has, Rising}
+use Rattle.recovery.specs.Ledger.{Row, Ledger, registered, rowOf, isMarked, isOffered, needRepair, forCopying, numbers, sources}
+
+-- s is the source of a row: the lowest mirror place not blamed, or 255 if there is none
+pub data IsSource (w : Row) (s : ℕ) : Type 0 where
+  lowest : s < length (w .mirrors) → has s (w .blamed) ≡ false → ((i : ℕ) → i < s → has i (w .blamed) ≡ true) → IsSource w s
+  nowhere : s ≡ 255 → ((i : ℕ) → i < length (w .mirrors) → has i (w .blamed) ≡ true) → IsSource w s
+
+-- each file of a list with its source
+pub data Sources (l : Ledger) : List ℕ → List ℕ → Type 0 where
+  sources-nil : Sources l [] []
+  sources-cons : {n s : ℕ} {ns ss : List ℕ} → IsSource (rowOf n l) s → Sources l ns ss → Sources l (n ∷ ns) (s ∷ ss)
+
+-- whether the file n has a row, and one that passes
+abbrev pub rowPasses : (Row → Bool) → ℕ → Ledger → Bool
+rowPasses q n l = cond (registered n l) (q (rowOf n l)) false
+
+-- ns and ss are the list of those that pass: strictly rising, a file is there exactly when its row passes, and each has its source
+pub record IsList (q : Row → Bool) (l : Ledger) (ns ss : List ℕ) : Type 0 where
+  pub rising : Rising ns
+  pub exactly : (n : ℕ) → has n ns ≡ rowPasses q n l
+  pub each : Sources l ns ss
+
+-- the list is such a list, and there is no other
+pub record OneList (q : Row → Bool) (l : Ledger) (ws : List Row) : Type 0 where
+  pub is : IsList q l (numbers ws) (sources ws)
+  pub only : (ns ss : List ℕ) → IsList q l ns ss → (ns ≡ numbers ws) × (ss ≡ sources ws)

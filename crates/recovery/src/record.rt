@@ -1,0 +1,289 @@
+// The record (paper 01, "The recovery record"): at most 64 files, by rising number, the free places last; and whether it is in grace. Each call
+// answers its status and the record afterwards. First the loops over the 64 places, then the calls in the paper's order.
+use files::file::File;
+ghost use mathlib.Core.Path.{_≡_};
+ghost use mathlib.Core.List.{map};
+ghost use Prim.Native.Nat.{_<_};
+ghost use Rattle.files.specs.Places.{leftOut};
+ghost use Rattle.files.specs.File.{blankFile, restartedFile, endedFile};
+ghost use Rattle.recovery.specs.Record.{fresh, placeIn, enter, registerOf, openOf, reclaimOf, closeOf, repairedOf, forgetOf, endOf, restartOf};
+
+#[repr(C)]
+pub struct Record {
+    pub files: [File; 64],
+    pub grace: bool,
+}
+
+// What a call answers, and the record afterwards.
+#[repr(C)]
+pub struct Answered {
+    pub status: u32,
+    pub after: Record,
+}
+
+// The files with `x` among them by its number: those after it move up one place, up to the first free place.
+fn entered(files: [File; 64], x: File) -> [File; 64]
+    ensures { λ r. ⌜ r ≡ enter x files ⌝ }
+{
+    let mut fs = files;
+    let mut x = x;
+    let mut i: usize = 0;
+    while i < 64 {
+        let y = fs[i];
+        let free = y.free();
+        if free {
+            fs[i] = x;
+            return fs;
+        }
+        if y.number <= x.number {
+            i = i + 1;
+            continue;
+        }
+        fs[i] = x;
+        x = y;
+        i = i + 1;
+    }
+    fs
+}
+
+// The files without that at `at`: those after it move down one place.
+fn left_out(files: [File; 64], at: usize) -> [File; 64]
+    requires { ⌜ at < 64 ⌝ }
+    ensures { λ r. ⌜ r ≡ leftOut blankFile at files ⌝ }
+{
+    let mut fs = files;
+    let mut i = at;
+    while i < 63 {
+        let y = fs[i + 1];
+        fs[i] = y;
+        i = i + 1;
+    }
+    let last = File::blank();
+    fs[63] = last;
+    fs
+}
+
+// Each file after the end of grace.
+fn ended(files: [File; 64]) -> [File; 64]
+    ensures { λ r. ⌜ r ≡ map endedFile files ⌝ }
+{
+    let mut fs = files;
+    let mut i: usize = 0;
+    while i < 64 {
+        let f = fs[i];
+        let g = f.ended();
+        fs[i] = g;
+        i = i + 1;
+    }
+    fs
+}
+
+// Each file after a restart.
+fn restarted(files: [File; 64]) -> [File; 64]
+    ensures { λ r. ⌜ r ≡ map restartedFile files ⌝ }
+{
+    let mut fs = files;
+    let mut i: usize = 0;
+    while i < 64 {
+        let f = fs[i];
+        let g = f.restarted();
+        fs[i] = g;
+        i = i + 1;
+    }
+    fs
+}
+
+impl Record {
+    // Empty, not in grace.
+    pub fn fresh() -> Record
+        ensures { λ r. ⌜ r ≡ fresh ⌝ }
+    {
+        let f = File::blank();
+        let fs = [f; 64];
+        Record {
+            files: fs,
+            grace: false,
+        }
+    }
+
+    // The place of a file, or the last place if there is no such file.
+    pub fn place(self, number: u64) -> usize
+        ensures { λ r. ⌜ (r ≡ placeIn number self) × (r < 64) ⌝ }
+    {
+        let mut i: usize = 0;
+        while i < 64 {
+            let f = self.files[i];
+            let hit = f.is(number);
+            if hit {
+                return i;
+            }
+            i = i + 1;
+        }
+        63
+    }
+
+    // Register a file with its mirrors, 16 bytes a device: 10013 in grace; 22 bad mirror list; 17 registered; 28 if 64 are registered.
+    pub fn register(mut self, file: u64, mirrors: &[u8]) -> Answered
+        ensures { λ r. ⌜ r ≡ registerOf file (now (mirrors .entry)) self ⌝ }
+    {
+        if self.grace {
+            return Answered {
+                status: 10013,
+                after: self,
+            };
+        }
+        let e = files::enrol::enrol(mirrors);
+        if !e.good {
+            return Answered {
+                status: 22,
+                after: self,
+            };
+        }
+        let i = self.place(file);
+        let f = self.files[i];
+        let hit = f.is(file);
+        if hit {
+            return Answered {
+                status: 17,
+                after: self,
+            };
+        }
+        let last = self.files[63];
+        if last.used {
+            return Answered {
+                status: 28,
+                after: self,
+            };
+        }
+        let ms = e.mirrors;
+        let x = File::new(file, ms);
+        let old = self.files;
+        let fs = entered(old, x);
+        self.files = fs;
+        Answered {
+            status: 0,
+            after: self,
+        }
+    }
+
+    // Open for writing: 10013 in grace; 70; held already: 0, no change; 28 if 8 are held.
+    pub fn open(mut self, file: u64, client: u64) -> Answered
+        ensures { λ r. ⌜ r ≡ openOf file client self ⌝ }
+    {
+        let i = self.place(file);
+        let f = self.files[i];
+        let grace = self.grace;
+        let a = f.open(file, grace, client);
+        let g = a.file;
+        self.files[i] = g;
+        Answered {
+            status: a.status,
+            after: self,
+        }
+    }
+
+    // Reclaim: 10033 not in grace; 70; 10034 no intent; again: 0, no change.
+    pub fn reclaim(mut self, file: u64, client: u64) -> Answered
+        ensures { λ r. ⌜ r ≡ reclaimOf file client self ⌝ }
+    {
+        let i = self.place(file);
+        let f = self.files[i];
+        let grace = self.grace;
+        let a = f.reclaim(file, grace, client);
+        let g = a.file;
+        self.files[i] = g;
+        Answered {
+            status: a.status,
+            after: self,
+        }
+    }
+
+    // Close: 70; 10025 no intent, or in grace and not reclaimed.
+    pub fn close(mut self, file: u64, client: u64) -> Answered
+        ensures { λ r. ⌜ r ≡ closeOf file client self ⌝ }
+    {
+        let i = self.place(file);
+        let f = self.files[i];
+        let grace = self.grace;
+        let a = f.close(file, grace, client);
+        let g = a.file;
+        self.files[i] = g;
+        Answered {
+            status: a.status,
+            after: self,
+        }
+    }
+
+    // Repaired: 70; 22 not marked; 10008 an intent is open.
+    pub fn repaired(mut self, file: u64) -> Answered
+        ensures { λ r. ⌜ r ≡ repairedOf file self ⌝ }
+    {
+        let i = self.place(file);
+        let f = self.files[i];
+        let grace = self.grace;
+        let a = f.repaired(file, grace);
+        let g = a.file;
+        self.files[i] = g;
+        Answered {
+            status: a.status,
+            after: self,
+        }
+    }
+
+    // Forget a file: 10013 in grace; 70; 10008 marked or an intent is open.
+    pub fn forget(mut self, file: u64) -> Answered
+        ensures { λ r. ⌜ r ≡ forgetOf file self ⌝ }
+    {
+        let i = self.place(file);
+        let f = self.files[i];
+        let grace = self.grace;
+        let status = f.forget(file, grace);
+        if status != 0 {
+            return Answered {
+                status: status,
+                after: self,
+            };
+        }
+        let old = self.files;
+        let fs = left_out(old, i);
+        self.files = fs;
+        Answered {
+            status: 0,
+            after: self,
+        }
+    }
+
+    // End of grace: 10033 not in grace.
+    pub fn end_grace(mut self) -> Answered
+        ensures { λ r. ⌜ r ≡ endOf self ⌝ }
+    {
+        if !self.grace {
+            return Answered {
+                status: 10033,
+                after: self,
+            };
+        }
+        let old = self.files;
+        let fs = ended(old);
+        self.files = fs;
+        self.grace = false;
+        Answered {
+            status: 0,
+            after: self,
+        }
+    }
+
+    // Restart: no refusal.
+    pub fn restart(mut self) -> Answered
+        ensures { λ r. ⌜ r ≡ restartOf self ⌝ }
+    {
+        let old = self.files;
+        let fs = restarted(old);
+        self.files = fs;
+        self.grace = true;
+        Answered {
+            status: 0,
+            after: self,
+        }
+    }
+}
