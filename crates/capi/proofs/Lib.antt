@@ -1,0 +1,2 @@
+-- Types: the record and what a call answers, as the laws of `walks` take them.
+mod Types
