@@ -1,14 +1,7 @@
-<<<<<<< HEAD
--- Layout bodies. Bodies: the check. Stores: the bytes of extents as they are stored. Rows: the answers of the writer. RoundTrip, Demand2: what is
--- written reads back, and what is read writes back.
--- LAYOUTRETURN. Readers: fields read one after another. Devices: device ids. Requests, RequestModel: the request. Reports, ReportModel: the report.
--- Replies: the reply. RequestExamples, ReportExamples: computed examples.
-=======
 -- Layout bodies. Bodies: the check. Views: what a view answers; ViewTypes: the view, as the laws of `walks` take it. Stores: the bytes of extents as they
 -- are stored. Rows: the answers of the writer. RoundTrip, Demand2: what is written reads back, and what is read writes back.
--- LAYOUTRETURN. Readers: fields read one after another. Devices: device ids. Requests, RequestModel: the request. Reports, ReportModel: the report,
--- with computed examples in ReportExamples. Replies: the reply.
->>>>>>> 2e834726f38c21444822efa1396011a2d63f87d9
+-- LAYOUTRETURN. Readers: fields read one after another. Devices: device ids. Requests, RequestModel: the request. Reports, ReportModel: the report.
+-- Replies: the reply. RequestExamples, ReportExamples: computed examples.
 pub mod Bodies
 pub mod Views
 pub mod ViewTypes
