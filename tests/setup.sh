@@ -16,7 +16,7 @@ fuzzer() {
 }
 
 missing=''
-for command in gcc ld clang python3 rustc pkg-config; do
+for command in gcc g++ ld clang python3 rustc pkg-config; do
     command -v "$command" > /dev/null || missing="$missing $command"
 done
 fuzzer || missing="$missing fuzzer"

@@ -1,0 +1,32 @@
+#!/bin/sh
+# install.sh: installs below a temporary prefix, and links and runs a server of ten lines by what pkg-config says.
+set -e
+cd "$(dirname "$0")/.."
+room=$(mktemp -d)
+trap 'rm -rf "$room"' EXIT
+make --no-print-directory -s install-only PREFIX="$room/usr"
+cat > "$room/server.c" << 'C'
+#include <stellcircle.h>
+#include <stdio.h>
+int main(void)
+{
+    static struct sc_record record;
+    static struct sc_epochs epochs;
+    const uint8_t mirrors[32] = {1}, body[4] = {0};
+    uint64_t place;
+    sc_record_fresh(&record);
+    sc_epochs_fresh(&epochs);
+    printf("%u", sc_record_register(&record, 7, mirrors, 32));
+    printf(" %u", sc_record_open(&record, 7, 1));
+    printf(" %u", sc_epochs_join(&epochs, 0));
+    printf(" %u\n", sc_layout_check(body, 4, &place));
+    return 0;
+}
+C
+export PKG_CONFIG_PATH="$room/usr/lib/pkgconfig"
+for compile in "gcc -std=c11" "g++ -x c++ -std=c++11" "clang -std=c11"; do
+    # shellcheck disable=SC2046,SC2086
+    $compile -Wall -Wextra -Wpedantic -Werror -o "$room/server" "$room/server.c" -x none $(pkg-config --cflags --libs stellcircle)
+    [ "$("$room/server")" = "0 0 0 0" ] || { echo "install: the server of $compile answers otherwise"; exit 1; }
+done
+echo "install: a server links by pkg-config, with gcc, g++ and clang"
