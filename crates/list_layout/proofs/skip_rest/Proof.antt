@@ -1,3 +1,4 @@
+-- skip_rest ends: its count of turns falls.
 use native.Mathlib.Omega.{arith}
 use borrow.Author.Needs.{needs}
 use Rattle.list_layout.proofs.skip_rest.Statement.{statement}

@@ -1,3 +1,4 @@
+-- put_decimal meets its contract by the law of the last digit; the number falls at each call.
 use Prim.Native.Nat.{_+_, _%_}
 use Rattle.list_layout.proofs.Texts.{byte, kept, then, one-digit, last-digit, length-front}
 use native.Mathlib.Omega.{arith}

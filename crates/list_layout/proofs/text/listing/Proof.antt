@@ -1,3 +1,4 @@
+-- listing meets its contract: the text is the input's, and no text is longer than the buffer.
 use Rattle.list_layout.proofs.Texts.{refused-short, accepted-short, whole}
 use Rattle.list_layout.specs.Text.{textOf, listed}
 use Rattle.wire.proofs.Bodies.{accepted}

@@ -1,3 +1,4 @@
+-- put_accepted stores the head and then the lines.
 use Rattle.list_layout.specs.Text.{acceptedText}
 use Rattle.list_layout.proofs.Texts.{kept, then, number-ends}
 use native.Mathlib.Omega.{arith}

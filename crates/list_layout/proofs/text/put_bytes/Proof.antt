@@ -1,3 +1,4 @@
+-- put_bytes stores one more byte at each turn.
 use Rattle.xdr.proofs.Be.{one-store}
 use lib.Seq.{sets, take-all}
 use lib.ListN.{length, take, length-set}

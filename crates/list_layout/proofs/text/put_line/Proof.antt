@@ -1,3 +1,4 @@
+-- put_line stores the four numbers of the extent, one after the other.
 use lib.Seq.{drop-drop}
 use Rattle.list_layout.specs.Text.{lineOf}
 use Rattle.list_layout.proofs.Texts.{kept, then, number-ends}

@@ -1,3 +1,4 @@
+-- put_lines stores one more line at each turn.
 use native.Mathlib.Nat.{zero-add}
 use Rattle.wire.specs.Layout.{extentOf}
 use lib.ListN.{drop}

@@ -1,3 +1,4 @@
+-- put_number stores the digits and then the byte after them.
 use Rattle.list_layout.specs.Text.{numberText}
 use Rattle.list_layout.proofs.Texts.{byte, kept, then, length-digits}
 use native.Mathlib.Omega.{arith}

@@ -1,3 +1,4 @@
+-- put_refused stores its four parts, one after the other.
 use Rattle.list_layout.specs.Text.{refusedText}
 use Rattle.list_layout.proofs.Texts.{kept, then, number-ends}
 use native.Mathlib.Omega.{arith}

@@ -1,3 +1,4 @@
+-- fill stores one more extent at each turn.
 use borrow.Author.Needs.{needs}
 use native.Mathlib.Omega.{arith}
 use Prim.Native.Nat.{_≤_, _-_}

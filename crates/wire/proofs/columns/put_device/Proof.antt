@@ -1,3 +1,4 @@
+-- put_device stores sixteen bytes as two eights.
 use Rattle.wire.proofs.Stores.{sixteen}
 use native.Mathlib.Omega.{arith}
 use borrow.Author.Needs.{needs}

@@ -1,3 +1,4 @@
+-- put_numbers stores four numbers, one after the other.
 use Rattle.wire.proofs.Stores.{four-numbers}
 use lib.ListN.{getD}
 use borrow.Author.Needs.{needs}

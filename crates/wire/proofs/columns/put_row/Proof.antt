@@ -1,3 +1,4 @@
+-- put_row stores the device and then the numbers.
 use Rattle.xdr.specs.Be.{beBytes}
 use lib.Seq.{sets}
 use Prim.Native.Nat.{_+_}

@@ -1,3 +1,4 @@
+-- same_count meets its contract, length by length.
 use lib.ListN.{length}
 use borrow.Author.Tests.{eq-eqb, ne-eqb}
 use borrow.Author.Needs.{needs}

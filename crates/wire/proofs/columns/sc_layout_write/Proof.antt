@@ -1,3 +1,4 @@
+-- sc_layout_write hands out the two numbers of the answer.
 use Rattle.wire.proofs.Rows.{handed}
 use borrow.Author.Needs.{needs}
 use Rattle.wire.proofs.columns.sc_layout_write.Statement.{statement}

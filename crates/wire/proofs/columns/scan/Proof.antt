@@ -1,3 +1,4 @@
+-- scan meets its contract by the turns of the one pass.
 use Rattle.wire.specs.Columns.{rowOf}
 use Rattle.extents.proofs.OnePass.{accepted-end}
 use Rattle.extents.proofs.Turns.{Scanning, starts, stops, goes-on, ends}

@@ -1,3 +1,4 @@
+-- write meets its contract by the laws of the writer's answers and of stores.
 use borrow.Author.Tests.{not-true, not-false}
 use mathlib.Core.Path.{_≡_, refl, sym, ap, _∙_}
 use lib.Seq.{sets}

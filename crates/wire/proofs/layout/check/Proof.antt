@@ -1,3 +1,4 @@
+-- check meets its contract by the laws of a body's verdict.
 use mathlib.Core.Path.{_∙_}
 use Rattle.wire.proofs.Bodies.{too-short, too-many, wrong-length, judged}
 use native.Mathlib.Omega.{arith}

@@ -1,3 +1,4 @@
+-- device copies 16 bytes, one more at each turn.
 use borrow.Author.Needs.{needs}
 use native.Mathlib.Omega.{arith}
 use Prim.Native.Nat.{ℕ, suc, _≤_, _<_, _+_, _-_}

@@ -1,3 +1,4 @@
+-- extent meets its contract by the law of a place by the numbers of the check.
 use Rattle.wire.proofs.Bodies.{by-numbers}
 use mathlib.Core.Path.{sym, _∙_}
 use borrow.Author.Needs.{needs}

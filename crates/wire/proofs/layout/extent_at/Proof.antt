@@ -1,3 +1,4 @@
+-- extent_at reads the five fields where the definition has them.
 use lib.Seq.{drop-drop}
 use borrow.Author.Needs.{needs}
 use Rattle.wire.proofs.layout.extent_at.Statement.{statement}

@@ -1,3 +1,4 @@
+-- extent_in meets its contract, test by test.
 use mathlib.Core.Bool.{and-false}
 use mathlib.Core.Path.{_∙_}
 use borrow.Author.Tests.{eq-eqb, ne-eqb, lt-ltb, le-ltb}

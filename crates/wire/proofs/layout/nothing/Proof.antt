@@ -1,3 +1,4 @@
+-- nothing is the refusal with an extent of zeros.
 use borrow.Author.Needs.{needs}
 use Rattle.wire.proofs.layout.nothing.Statement.{statement}
 use Rattle.wire.proofs.layout.nothing.Tie as tie

@@ -1,3 +1,4 @@
+-- sc_layout_check hands out the two numbers of the verdict.
 use mathlib.Core.Path.{sym, ap, _∙_}
 use Rattle.extents.specs.Extents.{numberOf, placeOf}
 use borrow.Author.Needs.{needs}

@@ -1,3 +1,4 @@
+-- scan meets its contract by the turns of the one pass.
 use Rattle.xdr.specs.Be.{beNat}
 use lib.ListN.{drop}
 use mathlib.Core.List.{List}
