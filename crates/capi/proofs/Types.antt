@@ -1,5 +1,9 @@
--- The record and what a call answers, as the laws of `walks` take them.
+-- The record, a file, and what a call on either answers, as the laws of `walks` take them.
 use Rattle.walks.proofs.Types.{Rec, Stepped}
+use Rattle.files.specs.declared.file.FileAnswered.{FileAnswered}
+use Rattle.files.proofs.file.File as F
+use Rattle.files.proofs.file.File.Laws as F′
+use Rattle.files.proofs.file.FileAnswered as A
 use Rattle.recovery.specs.declared.record.Answered.{Answered}
 use Rattle.recovery.proofs.record.Record as T
 use Rattle.recovery.proofs.record.Record.Laws as T′
@@ -10,3 +14,9 @@ whole = record { T = T.the-type; laws = T′.the-laws; plain = T′.the-plain; l
 
 abbrev pub answered : Stepped whole
 answered = record { name = S.the-type .name; D = Answered; status = λ s. s .status; rec = λ s. s .after; one = S.the-type .to-one }
+
+abbrev pub file : Rec
+file = record { T = F.the-type; laws = F′.the-laws; plain = F′.the-plain; lowers = F′.lowers }
+
+abbrev pub file-answered : Stepped file
+file-answered = record { name = A.the-type .name; D = FileAnswered; status = λ s. s .status; rec = λ s. s .file; one = A.the-type .to-one }

@@ -1,25 +1,64 @@
 // What a C server calls on a recovery record that it owns (paper 01, "The recovery record"): each call of the record, on the record where it
-// lies, with the promise of the method by value. First the covered functions that a call needs beside those of `recovery`, then the calls.
-use recovery::listing::Listed;
-use recovery::record::Answered;
+// lies, with the promise of the method by value. A call on one file takes that file out of its place and puts it back; the others go by value.
+// First a file's place, then the functions by value that `recovery` and `files` lack, then the calls in the paper's order.
+use files::file::File;
+use files::file::FileAnswered;
+use files::file::HANDED_ON;
 use recovery::record::Record;
 ghost use mathlib.Core.Path.{_≡_};
 ghost use mathlib.Core.Bool.{true, false};
 ghost use Rattle.recovery.specs.Calls.{listed};
 ghost use Rattle.recovery.specs.Record.{fresh, registerOf, openOf, reclaimOf, closeOf, repairedOf, forgetOf, endOf, restartOf, listingOf, layoutreturnOf, replyAfter};
-ghost use Rattle.capi.specs.Calls.{numbered};
+ghost use Prim.Native.Nat.{_<_};
+ghost use Rattle.capi.specs.Place.{isNumbered, soughtIn};
+ghost use Rattle.capi.specs.Returned.{answeredFile, fileReply};
+
+// ---- The place of a file.
+// Whether a place with this flag and number is the file's.
+fn is(used: bool, number: u64, file: u64) -> bool
+    ensures { λ r. ⌜ r ≡ isNumbered used number file ⌝ }
+{
+    if used { number == file } else { false }
+}
+
+// The place of a file, or the last place: the record is read where it lies.
+fn position(r: &Record, file: u64) -> usize
+    ensures { λ i. ⌜ (i ≡ soughtIn file (now (r .entry))) × (i < 64) ⌝ }
+{
+    let mut i: usize = 0;
+    while i < 63 {
+        if is(r.files[i].used, r.files[i].number, file) {
+            break;
+        }
+        i = i + 1;
+    }
+    i
+}
 
 // ---- By value.
-// LAYOUTRETURN with its answer as one number: the status, or HANDED_ON.
-fn returned(r: Record, client: u64, file: u64, request: &[u8], reply: &mut [u8]) -> Answered
-    ensures { λ s. ⌜ (s ≡ numbered (layoutreturnOf file client (now (request .entry)) (now (reply .entry)) r)) × (now (reply .exit) ≡ replyAfter file client (now (request .entry)) (now (reply .entry)) r) ⌝ }
+// LAYOUTRETURN on one file, with its reply: a reply buffer under 24 bytes gets 28 before all else, and where it is handed on none is written.
+fn answered(
+    f: File,
+    client: u64,
+    grace: bool,
+    number: u64,
+    request: &[u8],
+    reply: &mut [u8],
+) -> FileAnswered
+    ensures { λ s. ⌜ (s ≡ answeredFile number grace client (now (request .entry)) (now (reply .entry)) f) × (now (reply .exit) ≡ fileReply number grace client (now (request .entry)) (now (reply .entry)) f) ⌝ }
 {
-    let a = r.layoutreturn(client, file, request, reply);
-    let after = a.after;
-    Answered {
-        status: a.status,
-        after: after,
+    if reply.len() < 24 {
+        return FileAnswered {
+            status: 28,
+            file: f,
+        };
     }
+    let a = f.layoutreturn(number, grace, client, request);
+    if a.status == HANDED_ON {
+        return a;
+    }
+    wire::reply::write(reply, a.status);
+    a
 }
 
 // The resilver list, with its count through a pointer.
@@ -69,8 +108,9 @@ pub extern "C" fn sc_record_register(r: &mut Record, file: u64, mirrors: &[u8]) 
 pub extern "C" fn sc_record_open(r: &mut Record, file: u64, client: u64) -> u32
     ensures { λ s. ⌜ (s ≡ openOf file client (now (r .entry)) .status) × (now (r .exit) ≡ openOf file client (now (r .entry)) .after) ⌝ }
 {
-    let s = Record::open(*r, file, client);
-    *r = s.after;
+    let i = position(r, file);
+    let s = File::open(r.files[i], file, r.grace, client);
+    r.files[i] = s.file;
     s.status
 }
 
@@ -78,8 +118,9 @@ pub extern "C" fn sc_record_open(r: &mut Record, file: u64, client: u64) -> u32
 pub extern "C" fn sc_record_reclaim(r: &mut Record, file: u64, client: u64) -> u32
     ensures { λ s. ⌜ (s ≡ reclaimOf file client (now (r .entry)) .status) × (now (r .exit) ≡ reclaimOf file client (now (r .entry)) .after) ⌝ }
 {
-    let s = Record::reclaim(*r, file, client);
-    *r = s.after;
+    let i = position(r, file);
+    let s = File::reclaim(r.files[i], file, r.grace, client);
+    r.files[i] = s.file;
     s.status
 }
 
@@ -87,8 +128,9 @@ pub extern "C" fn sc_record_reclaim(r: &mut Record, file: u64, client: u64) -> u
 pub extern "C" fn sc_record_close(r: &mut Record, file: u64, client: u64) -> u32
     ensures { λ s. ⌜ (s ≡ closeOf file client (now (r .entry)) .status) × (now (r .exit) ≡ closeOf file client (now (r .entry)) .after) ⌝ }
 {
-    let s = Record::close(*r, file, client);
-    *r = s.after;
+    let i = position(r, file);
+    let s = File::close(r.files[i], file, r.grace, client);
+    r.files[i] = s.file;
     s.status
 }
 
@@ -96,8 +138,9 @@ pub extern "C" fn sc_record_close(r: &mut Record, file: u64, client: u64) -> u32
 pub extern "C" fn sc_record_repaired(r: &mut Record, file: u64) -> u32
     ensures { λ s. ⌜ (s ≡ repairedOf file (now (r .entry)) .status) × (now (r .exit) ≡ repairedOf file (now (r .entry)) .after) ⌝ }
 {
-    let s = Record::repaired(*r, file);
-    *r = s.after;
+    let i = position(r, file);
+    let s = File::repaired(r.files[i], file, r.grace);
+    r.files[i] = s.file;
     s.status
 }
 
@@ -140,8 +183,9 @@ pub extern "C" fn sc_record_layoutreturn(
         × (now (r .exit) ≡ layoutreturnOf file client (now (request .entry)) (now (reply .entry)) (now (r .entry)) .after)
         × (now (reply .exit) ≡ replyAfter file client (now (request .entry)) (now (reply .entry)) (now (r .entry))) ⌝ }
 {
-    let s = returned(*r, client, file, request, reply);
-    *r = s.after;
+    let i = position(r, file);
+    let s = answered(r.files[i], client, r.grace, file, request, reply);
+    r.files[i] = s.file;
     s.status
 }
 

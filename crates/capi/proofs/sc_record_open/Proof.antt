@@ -1,17 +1,22 @@
--- `sc_record_open` meets its contract, by the law of a record in place over `Record::open`.
+-- `sc_record_open` meets its contract, by the law of a call on one file over `File::open`.
+use mathlib.Core.Path.{refl}
 use mathlib.Core.List.{[], _∷_}
 use mir.Syntax.{w64}
 use Rattle.walks.proofs.Args.{num}
-use Rattle.walks.proofs.InPlace as in-place
+use Rattle.files.specs.File.{openedFile}
+use Rattle.files.proofs.file.File.open.Symbol as g
+use Rattle.files.proofs.file.File.open.Met as g-thm
 use Rattle.recovery.specs.Record.{openOf}
-use Rattle.recovery.proofs.record.Record.open.Symbol as g
-use Rattle.recovery.proofs.record.Record.open.Met as g-thm
-use Rattle.capi.proofs.Types.{whole, answered}
+use Rattle.capi.proofs.Fields.{files, grace}
+use Rattle.capi.proofs.OnFile.{on-file}
+use Rattle.capi.proofs.position.Symbol as p
+use Rattle.capi.proofs.position.Met as p-thm
 use Rattle.capi.proofs.sc_record_open.Key.{name as #f}
 use Rattle.capi.proofs.sc_record_open.Statement as stated
 use Rattle.capi.proofs.sc_record_open.Code as code
 
 pub sc-record-open-spec : {M : Type 1} → stated.statement M
-unfolding code.routine
+unfolding code.routine files grace openOf
 sc-record-open-spec 𝓤 H 𝓜 𝓖 𝓡 =
-    in-place.of whole answered (num w64 ∷ num w64 ∷ []) (λ h i. openOf (i .0) (i .1 .0) h) 𝓤 H 𝓜 𝓖 𝓡 code.env #f g.name g.routine code.calls-recovery·record·Record·open (code.unfolded 𝓤 H 𝓜 𝓡) (g-thm.met 𝓤 H 𝓜 𝓖 𝓡)
+    on-file (num w64 ∷ []) (λ n g i. openedFile n g (i .0)) (λ r n i. openOf n (i .0) r) (λ r n i. refl)
+    𝓤 H 𝓜 𝓖 𝓡 code.env #f p.name g.name p.routine g.routine code.calls-capi·position code.calls-files·file·File·open (code.unfolded 𝓤 H 𝓜 𝓡) (p-thm.met 𝓤 H 𝓜 𝓖 𝓡) (g-thm.met 𝓤 H 𝓜 𝓖 𝓡)

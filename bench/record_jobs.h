@@ -1,0 +1,53 @@
+/* The jobs of bench/record.c for one version of the record, of type R, whose calls are P(record_open) and so on. A job has a state that is put back
+ * before each run; a run is its calls, each answer added to P(sum). */
+static R P(state), P(held);
+static uint64_t P(sum);
+
+/* FILES files with two mirrors each, and so many clients' intents on each; afterwards restarted, and grace ended, as asked */
+static void P(filled)(int intents, int restarted, int ended)
+{
+    P(record_fresh)(&P(state));
+    for (int k = 0; k < FILES; k++)
+        P(record_register)(&P(state), number(k), mirrors, 32);
+    for (int c = 1; c <= intents; c++)
+        for (int k = 0; k < FILES; k++)
+            P(record_open)(&P(state), number(k), (uint64_t)c);
+    if (restarted)
+        P(record_restart)(&P(state));
+    if (ended)
+        P(record_end_grace)(&P(state));
+}
+
+static void P(empty)(void) { P(record_fresh)(&P(state)); }
+static void P(idle)(void) { P(filled)(0, 0, 0); }
+static void P(seven)(void) { P(filled)(7, 0, 0); }
+static void P(full)(void) { P(filled)(8, 0, 0); }
+static void P(grace)(void) { P(filled)(8, 1, 0); }
+static void P(lost)(void) { P(filled)(8, 1, 1); }
+
+/* in grace, and every second client has reclaimed */
+static void P(half)(void)
+{
+    P(filled)(8, 1, 0);
+    for (int k = 0; k < FILES; k++)
+        for (int c = 2; c <= 8; c += 2)
+            P(record_reclaim)(&P(state), number(k), (uint64_t)c);
+}
+
+#define EACH for (int k = 0; k < FILES; k++) P(sum) +=
+static void P(open_held)(void) { EACH P(record_open)(&P(held), number(k), 8); }
+static void P(open_ninth)(void) { EACH P(record_open)(&P(held), number(k), 9); }
+static void P(open_eighth)(void) { EACH P(record_open)(&P(held), number(k), 8); }
+static void P(reclaim)(void) { EACH P(record_reclaim)(&P(held), number(k), (uint64_t)(k % 8 + 1)); }
+static void P(close)(void) { EACH P(record_close)(&P(held), number(k), (uint64_t)(k * 5 % 8 + 1)); }
+static void P(repaired)(void) { EACH P(record_repaired)(&P(held), number(k)); }
+static void P(report_1)(void) { EACH P(record_layoutreturn)(&P(held), 8, number(k), one, one_len, reply, sizeof reply) + reply[7]; }
+static void P(report_20)(void) { EACH P(record_layoutreturn)(&P(held), 8, number(k), twenty, twenty_len, reply, sizeof reply) + reply[7]; }
+static void P(handed_on)(void) { EACH P(record_layoutreturn)(&P(held), 8, number(k), bulk, sizeof bulk, reply, sizeof reply); }
+static void P(enter)(void) { EACH P(record_register)(&P(held), number(k * 37 % FILES), mirrors, 32); }
+static void P(forget)(void) { EACH P(record_forget)(&P(held), number(k * 37 % FILES)); }
+static void P(restart)(void) { EACH P(record_restart)(&P(held)); }
+static void P(end)(void) { P(sum) += P(record_end_grace)(&P(held)); }
+static void P(resilver)(void) { EACH P(record_resilver)(&P(held), files, FILES, sources, FILES, &count) + count + files[63] + sources[5]; }
+static void P(offered)(void) { EACH P(record_offered)(&P(held), files, FILES, sources, FILES, &count) + count + files[63] + sources[5]; }
+#undef EACH

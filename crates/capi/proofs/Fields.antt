@@ -1,0 +1,36 @@
+-- The fields that a walk goes to: the files of a record and its flag, and a file's flag and number.
+use mathlib.Core.Path.{refl}
+use native.Mathlib.Omega.{arith}
+use denote.Builtin.{u64, bool}
+use denote.Struct.Declared.{row}
+use borrow.Struct.Behind.{look-at, put-at}
+use borrow.Struct.Items.{cut-records}
+use Rattle.walks.proofs.Element.{Elements, Kept}
+use Rattle.files.proofs.file.File as F
+use Rattle.files.proofs.file.File.Laws as F′
+use Rattle.recovery.specs.Record.{withFiles}
+use Rattle.recovery.proofs.record.Record as T
+use Rattle.recovery.proofs.record.Record.Laws as T′
+
+unfoldable pub files : Elements T.the-type F.the-type
+files = record {
+  k = 0;
+  n = 64;
+  d = 0;
+  list = λ r. r .files;
+  over = λ r fs. withFiles fs r;
+  keeps = λ r. refl;
+  found = refl;
+  room = λ i l. record { fits = omega arith };
+  cut = λ M 𝓤 H A W q r fs a. cut-records 𝓤 H A q (row T.the-type) F.the-type 64 0 r (withFiles fs r) (r .files) fs a
+      (put-at 𝓤 H A W q T.the-type T′.the-laws 0 0 refl refl a r (withFiles fs r) (T.struct .as-values r) fs refl refl);
+}
+
+unfoldable pub grace : Kept T.the-type bool
+grace = record { k = 1; d = 15360; get = λ r. r .grace; found = refl; cut = λ M 𝓤 H A W q r a. look-at 𝓤 H A W q T.the-type T′.the-laws 1 15360 refl refl a r (T.struct .as-values r) refl }
+
+unfoldable pub used : Kept F.the-type bool
+used = record { k = 3; d = 232; get = λ f. f .used; found = refl; cut = λ M 𝓤 H A W q f a. look-at 𝓤 H A W q F.the-type F′.the-laws 3 232 refl refl a f (F.struct .as-values f) refl }
+
+unfoldable pub number : Kept F.the-type u64
+number = record { k = 0; d = 0; get = λ f. f .number; found = refl; cut = λ M 𝓤 H A W q f a. look-at 𝓤 H A W q F.the-type F′.the-laws 0 0 refl refl a f (F.struct .as-values f) refl }

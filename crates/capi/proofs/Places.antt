@@ -1,0 +1,68 @@
+-- What is done at the place that is sought is what the definitions of crate recovery say of it, in this order: the place; a call on one file;
+-- LAYOUTRETURN with its reply.
+use mathlib.Core.Path.{_≡_, refl, sym, ap, _∙_}
+use mathlib.Core.List.{List}
+use mathlib.Core.Bool.{Bool, true, false}
+use Prim.Native.Nat.{ℕ, zero, suc, _+_, _<_}
+use native.Mathlib.Omega.{arith}
+use lib.ListN.{getD, length}
+use lib.Seq.{set-getD}
+use lib.Dec.{ltb}
+use Rattle.walks.specs.Seek.{which, seek}
+use Rattle.files.specs.Places.{first, placeOr}
+use Rattle.files.specs.File.{noFile, isFile, fileAnswered, returnedFile}
+use Rattle.files.specs.declared.file.File.{File}
+use Rattle.files.specs.declared.file.FileAnswered.{FileAnswered}
+use Rattle.files.specs.declared.places.Found.{Found}
+use Rattle.files.proofs.Loops.{Searching, searching, hit, miss, over}
+use Rattle.recovery.specs.Record.{placeIn, putFile, onPlace, answered, returnedOf, layoutreturnOf, replyAfter}
+use Rattle.recovery.specs.declared.record.Record.{Record}
+use Rattle.recovery.specs.declared.record.Answered.{Answered}
+use Rattle.recovery.specs.declared.layoutreturn.Returned.{Returned}
+use Rattle.capi.specs.Place.{soughtIn}
+use Rattle.capi.specs.Returned.{answeredFile, fileReply}
+
+-- ---- the place: a search that has come to i answers o, and n is what the places after i give
+module _ {A : Type 0} (p : A → Bool) (d : A) (l : List A) (e : ℕ) (o : Found) where
+  turn : (i n : ℕ) (b : Bool) → b ≡ p (getD l i d) → Searching p l i o → i < length l → (Searching p l (i + 1) o → n ≡ placeOr e o) → which b i n ≡ placeOr e o
+  turn i n true t s h next = ap (placeOr e) (hit s d h true t refl)
+  turn i n false t s h next = next (miss s d h false t refl)
+
+  last : (i : ℕ) (b : Bool) → b ≡ p (getD l i d) → Searching p l i o → length l ≡ i + 1 → e ≡ i → i ≡ placeOr e o
+  last i true t s h q = ap (placeOr e) (hit s d (omega (arith, h)) true t refl)
+  last i false t s h q = sym q ∙ ap (placeOr e) (over (miss s d (omega (arith, h)) false t refl) (omega (arith, h)))
+
+  sought : (t i : ℕ) → Searching p l i o → length l ≡ i + suc t → e ≡ i + t → seek p d l t i ≡ placeOr e o
+  sought zero i s h q = last i (p (getD l i d)) refl s (omega (arith, h)) (omega (arith, q))
+  sought (suc t) i s h q = turn i (seek p d l t (i + 1)) (p (getD l i d)) refl s (omega (arith, h)) (λ s′. sought t (i + 1) s′ (omega (arith, h)) (omega (arith, q)))
+
+sought-place : (n : ℕ) (r : Record) → length (r .files) ≡ 64 → soughtIn n r ≡ placeIn n r
+unfolding soughtIn placeIn
+sought-place n r h = sought (isFile n) noFile (r .files) 63 (first (isFile n) (r .files)) 63 0 (searching (isFile n) (r .files)) (omega (arith, h)) (omega arith)
+
+-- ---- a call on one file
+abbrev pub at-sought : ℕ → (File → FileAnswered) → Record → Answered
+at-sought n q r = putFile r (soughtIn n r) (q (getD (r .files) (soughtIn n r) noFile))
+
+pub on-sought : (n : ℕ) (q : File → FileAnswered) (r : Record) → length (r .files) ≡ 64 → at-sought n q r ≡ onPlace n q r
+on-sought n q r h = ap (λ i. putFile r i (q (getD (r .files) i noFile))) (sought-place n r h)
+
+-- ---- LAYOUTRETURN with its reply
+-- a file that is put back as it was changes nothing
+stays : (r : Record) (i s : ℕ) → putFile r i (fileAnswered s (getD (r .files) i noFile)) ≡ answered s r
+stays r i s = ap (λ fs. answered s (record { files = fs; grace = r .grace })) (set-getD (r .files) i noFile)
+
+abbrev numbered : Returned → Answered
+numbered a = answered (a .status) (a .after)
+
+pub returned-so : (n c : ℕ) (s d : List ℕ) (r : Record) → length (r .files) ≡ 64 → at-sought n (answeredFile n (r .grace) c s d) r ≡ numbered (layoutreturnOf n c s d r)
+unfolding answeredFile layoutreturnOf returnedOf
+returned-so n c s d r h = on-sought n (answeredFile n (r .grace) c s d) r h ∙ by-room (ltb (length d) 24) refl
+  where
+    by-room : (b : Bool) → b ≡ ltb (length d) 24 → onPlace n (answeredFile n (r .grace) c s d) r ≡ numbered (layoutreturnOf n c s d r)
+    by-room true e = rw (← e) (stays r (placeIn n r) 28)
+    by-room false e = rw (← e)
+
+pub reply-so : (n c : ℕ) (s d : List ℕ) (r : Record) → length (r .files) ≡ 64 → fileReply n (r .grace) c s d (getD (r .files) (soughtIn n r) noFile) ≡ replyAfter n c s d r
+unfolding fileReply replyAfter returnedOf
+reply-so n c s d r h = ap (λ i. fileReply n (r .grace) c s d (getD (r .files) i noFile)) (sought-place n r h)
