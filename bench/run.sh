@@ -10,3 +10,4 @@ gcc -std=c11 -O2 -Wall -Wextra -Werror -Iinclude -o target/bench/layout bench/la
 target/bench/layout
 bench/report.sh
 bench/epochs.sh
+bench/record.sh
