@@ -1,4 +1,5 @@
--- What the code's tests say of a request.
+-- What the code's tests say of a request. In order: equal bytes; step 2; step 1 for return type 1; step 1; a form fits the bytes; steps 1 to 3;
+-- refusals are not 0; where the body lies.
 use Prim.Native.Nat.{ℕ, zero, suc, _+_, _-_, _*_, _%_, _≤_, _<_}
 use mathlib.Core.Path.{_≡_, refl, sym, ap, _∙_}
 use mathlib.Core.List.{List, [], _∷_}
@@ -20,6 +21,23 @@ use Rattle.wire.specs.declared.request.Request.{Request}
 use Rattle.wire.specs.declared.request.Request.the-variants.{Refused, Bulk, File}
 use Rattle.wire.proofs.Readers.{by-test}
 use Rattle.wire.proofs.RequestModel.{as-tested, body-lies}
+
+-- ---- equal bytes
+false-true : false ≡ true → ⊥
+false-true e =
+    let z : _≡_ {A = ℕ} 0 1 = cc in
+    omega arith
+
+pub same-are : (a b : List ℕ) → sameBytes a b ≡ true → a ≡ b
+unfolding sameBytes
+same-are [] [] h = refl
+same-are [] (y ∷ b) h = absurd (false-true h)
+same-are (x ∷ a) [] h = absurd (false-true h)
+same-are (x ∷ a) (y ∷ b) h = by-head (eqb x y) refl h (same-are a b)
+  where
+    by-head : (e : Bool) → eqb x y ≡ e → e && sameBytes a b ≡ true → (sameBytes a b ≡ true → a ≡ b) → x ∷ a ≡ y ∷ b
+    by-head true e h go = rw (eqb-true x y e, go h)
+    by-head false e h go = absurd (false-true h)
 
 -- lists of different lengths differ
 pub other-length : (a b : List ℕ) → (length a ≡ length b → ⊥) → false ≡ sameBytes a b

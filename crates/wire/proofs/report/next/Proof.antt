@@ -1,4 +1,6 @@
--- Rests on the laws of the first device error from a cursor on. The measure is the count of records to come.
+-- Rests on the laws of the first device error from a cursor on. The measure is what is left of the bytes, whatever the count says.
+use Prim.Native.Nat.{_-_}
+use lib.ListN.{length}
 use mathlib.Core.Path.{_≡_, refl, sym, _∙_}
 use Rattle.wire.specs.ReportSteps.{nextAt}
 use Rattle.wire.specs.declared.report.Cursor.{Cursor}
@@ -13,8 +15,7 @@ Inv-loop s at₀ records₀ devices₀ at records devices =
     nextAt s (record { at = at; records = records; devices = devices }) ≡ nextAt s (record { at = at₀; records = records₀; devices = devices₀ })
 
 abbrev μ-loop : tie.MeasureT-loop
-μ-loop s at₀ records₀ devices₀ at records devices =
-    records
+μ-loop s at₀ records₀ devices₀ at records devices = length s - at
 
 loop-holds : tie.Need-loop-holds Inv-loop μ-loop
 loop-holds c =
