@@ -4,5 +4,6 @@ pub mod Replies
 pub mod ReportExamples
 pub mod ReportModel
 pub mod Reports
+pub mod RequestExamples
 pub mod RequestModel
 pub mod Requests

@@ -10,7 +10,7 @@ use lib.Seq.{drop-drop}
 use lib.Dec.{ltb, eqb}
 use Rattle.xdr.specs.Be.{beNat}
 use Rattle.wire.specs.Reader.{Read, Got, Bad, Reader, onward, _>>=_, give, number, inTurn, counted}
-use Rattle.wire.specs.Report.{Report, Whole, Malformed, Statistics, DeviceError, Returned, deviceError, ioerr, layoutreturn, joined, judged, reportOf}
+use Rattle.wire.specs.Report.{Report, Whole, Malformed, Statistics, DeviceError, Contents, deviceError, ioerr, layoutreturn, joined, judged, reportOf}
 use Rattle.wire.specs.ReportSteps.{naming, errorIn, statistics, devices, records}
 use Rattle.wire.proofs.Readers.{Leads, no-bytes, number-first, opaque-first, then, none-left}
 
@@ -22,7 +22,7 @@ device-read i = then (opaque-first 16) (λ device. then (number-first 4) (λ sta
 -- an error record is 36 bytes, the last four of which count its device errors, and then those
 record-read : (i : ℕ) → Leads 36 (ioerr i) (λ s. inTurn 0 (beNat 4 (drop 16 (drop 8 (drop 8 s)))) (λ _. deviceError i))
 unfolding ioerr
-record-read i = then (number-first 8) (λ offset. then (number-first 8) (λ extent. then (opaque-first 16) (λ stateid. then (number-first 4) (λ n. no-bytes _))))
+record-read i = then (number-first 8) (λ offset. then (number-first 8) (λ len. then (opaque-first 16) (λ stateid. then (number-first 4) (λ n. no-bytes _))))
 
 -- ---- all device errors of a list are named
 abbrev nameAll : List DeviceError → Report → Report
@@ -106,7 +106,7 @@ records-read total (suc n) i s e =
     by-size false r e = e
 
 -- ---- the whole body
-with-count : List (List DeviceError) → Reader Returned
+with-count : List (List DeviceError) → Reader Contents
 with-count rs = number 4 >>= λ n. give (record { records = rs; statistics = n })
 
 last-read : (rs : List (List DeviceError)) (t : List ℕ) → judged (with-count rs t) ≡ nameAll (joined rs) (statistics t)

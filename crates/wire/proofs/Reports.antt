@@ -16,7 +16,7 @@ use Rattle.xdr.specs.Be.{beNat}
 use Rattle.wire.specs.Device.{halves}
 use Rattle.wire.specs.Report.{Report, DeviceError, reportOf, statusOf, over, outcome}
 use Rattle.wire.specs.Report as report
-use Rattle.wire.specs.ReportSteps.{naming, errorIn, statistics, devices, records, startOf, stepAt, ending, lastStep, recordStep, placeOf, deviceStep, nextBy, nextPast, nextAt, errorAt, reportFrom, after, afterNext, resumedAt, numbersOf, handed}
+use Rattle.wire.specs.ReportSteps.{naming, errorIn, statistics, devices, records, startOf, stepAt, ending, lastStep, recordStep, placeOf, deviceStep, nextBy, nextPast, nextAt, errorAt, reportFrom, after, afterNext, endOf, Numbers, resumedAt, numbersOf, handed, afterHanded}
 use Rattle.wire.specs.declared.report.Cursor.{Cursor}
 use Rattle.wire.specs.declared.report.Entry.{Entry}
 use Rattle.wire.specs.declared.report.Entry.the-variants.{Device, Record, End, Statistics, Malformed}
@@ -321,18 +321,57 @@ module _ (s : List ℕ) (c : Cursor) where
   unfolding nextAt
   next-malformed e = next-now (c .records) s c Malformed (Done 10036) e (λ k. refl)
 
--- what comes next is what the report from the cursor on begins with, and lies past the cursor, within the bytes
+-- and back, where device errors are to come
+abbrev pub entryOf : Found → Entry
+entryOf (Error i h l st next) = Device i h l st next
+entryOf (Done k) = Malformed
+
+pub stepped-by : (s : List ℕ) (c : Cursor) → (c .devices ≡ 0 → ⊥) → {f g : Found} → f ≡ nextAt s c → f ≡ g → entryOf g ≡ stepAt s c
+stepped-by s c z e h = ap entryOf (sym h ∙ e) ∙ by-room (ltb (length s - c .at) 24) refl
+  where
+    by-room : (b : Bool) → ltb (length s - c .at) 24 ≡ b → entryOf (nextAt s c) ≡ stepAt s c
+    by-room true r =
+        let q = device-short s c z (ltb-true (length s - c .at) 24 r) in
+        rw (next-malformed s c (sym q)) q
+    by-room false r =
+        let q = device-found s c z (ltb-false (length s - c .at) 24 r) refl refl refl refl in
+        rw (next-device s c (sym q)) q
+
+-- what the code's tests say of it
+over-by : (p : Report) (k : Cursor → Found) → nextBy (ending (statusOf p)) k ≡ Done (statusOf p)
+over-by (report.Whole xs) k = refl
+over-by report.Malformed k = refl
+over-by report.Statistics k = refl
+
+module _ (s : List ℕ) (c : Cursor) (z : c .devices ≡ 0) where
+  pub next-over : c .records ≡ 0 → {k : ℕ} → k ≡ statusOf (statistics (drop (c .at) s)) → Done k ≡ nextAt s c
+  unfolding nextAt lastStep
+  next-over r e =
+      ap Done e
+      ∙ sym (next-now (c .records) s c (lastStep s (c .at)) (Done (statusOf (statistics (drop (c .at) s)))) (sym (no-device s c z (no-record s (c .at) r refl))) (over-by (statistics (drop (c .at) s))))
+
+  module _ (r : c .records ≡ 0 → ⊥) where
+    pub next-cut : length s - c .at < 36 → Done 10036 ≡ nextAt s c
+    next-cut h = sym (next-malformed s c (sym (no-device s c z (record-short s (c .at) r h))))
+
+    pub next-on : 36 ≤ length s - c .at → {n : ℕ} → n ≡ beNat 4 (drop (c .at + 32) s)
+        → nextAt s c ≡ nextAt s (record { at = c .at + 36; records = c .records - 1; devices = n })
+    next-on h e = next-record s c (sym (no-device s c z (record-found s (c .at) r h e)))
+
+-- what comes next is what the report from the cursor on begins with; it lies past the cursor, within the bytes, and is what the definition says
 abbrev Comes : List ℕ → Cursor → Found → Type 0
-Comes s c (Error i h l st next) = Forward s c next
-Comes s c (Done k) = Unit
+Comes s c (Error i h l st next) = Forward s c next × Given (errorIn i (drop (next .at - 24) s)) i h l st
+Comes s c (Done k) = k ≡ 1 → ⊥
 
 record Coming (s : List ℕ) (c : Cursor) (f : Found) : Type 0 where
   walks : reportFrom s c ≡ afterNext s f
   comes : Comes s c f
 
-further : {s : List ℕ} {c next : Cursor} (f : Found) → Forward s c next → Comes s next f → Comes s c f
-further (Error i h l st d) a b = record { further = omega arith; within = b .within }
-further (Done k) a b = tt
+later : {s : List ℕ} {c next : Cursor} (f : Found) → Forward s c next → Comes s next f → Comes s c f
+later (Error i h l st d) a b =
+    let f = b .0 in
+    (record { further = omega arith; within = f .within }, b .1)
+later (Done k) a b = b
 
 come-by : (n : ℕ) (s : List ℕ) (c : Cursor) → c .records < suc n → ((next : Cursor) → next .records < n → Coming s next (nextAt s next))
     → (t : Entry) → stepAt s c ≡ t → Coming s c (nextAt s c)
@@ -340,28 +379,61 @@ unfolding after
 come-by n s c h go (Device i hi lo st next) e =
     let g = device-given s c e in
     let p : next .at - 24 ≡ c .at = omega (arith, device-next s c e) in
-    rw (next-device s c e) (record { walks = turn s c e ∙ rw (p, ← g .place); comes = device-forward s c e })
+    rw (next-device s c e)
+    (record { walks = turn s c e ∙ rw (p, ← g .place); comes = (device-forward s c e, rw p (record { place = refl; device = g .device; status = g .status })) })
 come-by n s c h go (Record next) e =
     let r = go next (omega (arith, record-next s c e)) in
-    rw (next-record s c e) (record { walks = turn s c e ∙ r .walks; comes = further (nextAt s next) (record-forward s c e) (r .comes) })
-come-by n s c h go End e = rw (next-end s c e) (record { walks = turn s c e; comes = tt })
-come-by n s c h go Statistics e = rw (next-statistics s c e) (record { walks = turn s c e; comes = tt })
-come-by n s c h go Malformed e = rw (next-malformed s c e) (record { walks = turn s c e; comes = tt })
+    rw (next-record s c e) (record { walks = turn s c e ∙ r .walks; comes = later (nextAt s next) (record-forward s c e) (r .comes) })
+come-by n s c h go End e = rw (next-end s c e) (record { walks = turn s c e; comes = λ z. omega arith })
+come-by n s c h go Statistics e = rw (next-statistics s c e) (record { walks = turn s c e; comes = λ z. omega arith })
+come-by n s c h go Malformed e = rw (next-malformed s c e) (record { walks = turn s c e; comes = λ z. omega arith })
 
 coming : (n : ℕ) (s : List ℕ) (c : Cursor) → c .records < n → Coming s c (nextAt s c)
 coming zero s c h = absurd (omega arith)
 coming (suc n) s c h = come-by n s c h (λ next. coming n s next) (stepAt s c) refl
 
-pub next-walks : (s : List ℕ) (c : Cursor) → reportFrom s c ≡ afterNext s (nextAt s c)
-next-walks s c = coming (suc (c .records)) s c (omega arith) .walks
+module _ (s : List ℕ) (c : Cursor) where
+  pub next-walks : reportFrom s c ≡ afterNext s (nextAt s c)
+  next-walks = coming (suc (c .records)) s c (omega arith) .walks
 
-pub next-forward : (s : List ℕ) (c : Cursor) {i h l st : ℕ} {next : Cursor} → nextAt s c ≡ Error i h l st next → Forward s c next
-next-forward s c e = rw e at (coming (suc (c .records)) s c (omega arith) .comes)
+  pub next-forward : {i h l st : ℕ} {next : Cursor} → nextAt s c ≡ Error i h l st next → Forward s c next
+  next-forward e = (rw e at (coming (suc (c .records)) s c (omega arith) .comes)) .0
+
+  pub next-given : {i h l st : ℕ} {next : Cursor} → nextAt s c ≡ Error i h l st next → Given (errorIn i (drop (next .at - 24) s)) i h l st
+  next-given e = (rw e at (coming (suc (c .records)) s c (omega arith) .comes)) .1
+
+  next-done : {k : ℕ} → nextAt s c ≡ Done k → k ≡ 1 → ⊥
+  next-done e = rw e at (coming (suc (c .records)) s c (omega arith) .comes)
 
 -- what C is handed, from the cursor that its numbers are
 pub handed-is : (s : List ℕ) (at r d : ℕ) {c : Cursor} {f g : Found} → c ≡ resumedAt s at r d → f ≡ nextAt s c → f ≡ g → handed s at r d ≡ numbersOf at r d g
 unfolding handed
 handed-is s at r d e h k = ap (numbersOf at r d) (ap (nextAt s) (sym e) ∙ sym h ∙ k)
+
+-- C's walk: it begins with the whole report, and each call hands over the device error that the report from C's cursor on begins with
+pub handed-begins : (s : List ℕ) (r d : ℕ) → reportFrom s (resumedAt s 0 r d) ≡ reportOf s
+unfolding resumedAt
+handed-begins s r d = begins s
+
+resumes : (s : List ℕ) (c : Cursor) → 24 ≤ c .at → resumedAt s (c .at) (c .records) (c .devices) ≡ c
+unfolding resumedAt
+resumes s c h = rw (ne-eqb (c .at) 0 (λ z. omega arith))
+
+pub record HandedOver (s : List ℕ) (c : Cursor) (n : Numbers) : Type 0 where
+  pub walks : reportFrom s c ≡ afterHanded s n (eqb (n .answer) 1)
+  pub status : n .answer ≡ 1 → errorIn (n .place) (drop (n .device) s) .status ≡ n .status
+
+over-found : (s : List ℕ) (at r d : ℕ) (c : Cursor) (f : Found) → nextAt s c ≡ f → HandedOver s c (numbersOf at r d f)
+over-found s at r d c (Error i h l st next) e =
+    let g = next-forward s c e in
+    record { walks = next-walks s c ∙ rw (e, resumes s next (omega arith)); status = λ z. next-given s c e .status }
+over-found s at r d c (Done k) e =
+    let z : k ≡ 1 → ⊥ = next-done s c e in
+    record { walks = next-walks s c ∙ rw (e, ne-eqb k 1 z); status = λ y. absurd (z y) }
+
+pub handed-over : (s : List ℕ) (at r d : ℕ) → HandedOver s (resumedAt s at r d) (handed s at r d)
+unfolding handed
+handed-over s at r d = over-found s at r d (resumedAt s at r d) (nextAt s (resumedAt s at r d)) refl
 
 -- ---- the status, record by record: device errors are passed by their count
 named-status : (x : DeviceError) (p : Report) → statusOf (naming x p) ≡ statusOf p

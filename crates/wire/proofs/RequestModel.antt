@@ -78,7 +78,7 @@ body-first stateid =
 
 file-read : Leads 36 fileReturn (λ s t. onward (rest (beNat 4 (drop 16 (drop 8 (drop 8 s)))) t) (λ body. give (ofFile (take 16 (drop 8 (drop 8 s))) body)))
 unfolding fileReturn
-file-read = then (number-first 8) (λ offset. then (number-first 8) (λ extent. then (opaque-first 16) (λ stateid. body-first stateid)))
+file-read = then (number-first 8) (λ offset. then (number-first 8) (λ len. then (opaque-first 16) (λ stateid. body-first stateid)))
 
 -- a reader and what follows it, by the reader's test
 after-test : {A B : Type 0} (b : Bool) (a : A) (t : List ℕ) (k : A → Reader B) → onward (cond b Bad (Got a t)) k ≡ cond b Bad (k a t)

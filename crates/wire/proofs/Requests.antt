@@ -1,4 +1,5 @@
--- What the code's tests say of a request.
+-- What the code's tests say of a request. In order: equal bytes; step 2; step 1 for return type 1; step 1; a form fits the bytes; steps 1 to 3;
+-- refusals are not 0; where the body lies.
 use Prim.Native.Nat.{ℕ, zero, suc, _+_, _-_, _*_, _%_, _≤_, _<_}
 use mathlib.Core.Path.{_≡_, refl, sym, ap, _∙_}
 use mathlib.Core.List.{List, [], _∷_}
@@ -20,6 +21,23 @@ use Rattle.wire.specs.declared.request.Request.{Request}
 use Rattle.wire.specs.declared.request.Request.the-variants.{Refused, Bulk, File}
 use Rattle.wire.proofs.Readers.{by-test}
 use Rattle.wire.proofs.RequestModel.{as-tested, body-lies}
+
+-- ---- equal bytes
+false-true : false ≡ true → ⊥
+false-true e =
+    let z : _≡_ {A = ℕ} 0 1 = cc in
+    omega arith
+
+pub same-are : (a b : List ℕ) → sameBytes a b ≡ true → a ≡ b
+unfolding sameBytes
+same-are [] [] h = refl
+same-are [] (y ∷ b) h = absurd (false-true h)
+same-are (x ∷ a) [] h = absurd (false-true h)
+same-are (x ∷ a) (y ∷ b) h = by-head (eqb x y) refl h (same-are a b)
+  where
+    by-head : (e : Bool) → eqb x y ≡ e → e && sameBytes a b ≡ true → (sameBytes a b ≡ true → a ≡ b) → x ∷ a ≡ y ∷ b
+    by-head true e h go = rw (eqb-true x y e, go h)
+    by-head false e h go = absurd (false-true h)
 
 -- lists of different lengths differ
 pub other-length : (a b : List ℕ) → (length a ≡ length b → ⊥) → false ≡ sameBytes a b
@@ -84,7 +102,7 @@ module _ (s : List ℕ) where
   unfolding fileForm
   file-short h = simp (lt-ltb (length s) 52 h)
 
-  module _ (h : 52 ≤ length s) (n : ℕ) (e : n ≡ beNat 4 (drop 48 s)) where
+  module _ (h : 52 ≤ length s) {n : ℕ} (e : n ≡ beNat 4 (drop 48 s)) where
     pub file-large : 4096 < n → form.Malformed ≡ fileForm s
     unfolding fileForm
     file-large k = simp (← e, le-ltb (length s) 52 h, lt-ltb 4096 n k)
@@ -102,7 +120,7 @@ module _ (s : List ℕ) where
         let f : m + (4 - m) ≡ 4 = omega arith in
         ap (λ (k : ℕ). take m (zeros k)) (sym f) ∙ some-zeros m (4 - m) ∙ ap zeros q
 
-    module _ (k : n ≤ 4096) (l : 52 + n ≤ length s) (m : ℕ) (q : m ≡ padding n) (t : Bool) (r : t ≡ sameBytes (take (length s - (52 + n)) (drop (52 + n) s)) (take m (zeros 4))) where
+    module _ (k : n ≤ 4096) (l : 52 + n ≤ length s) {m : ℕ} (q : m ≡ padding n) {t : Bool} (r : t ≡ sameBytes (take (length s - (52 + n)) (drop (52 + n) s)) (take m (zeros 4))) where
       padded : t ≡ sameBytes (drop (52 + n) s) (zeros (padding n))
       padded = rw (← few-zeros m q, ← from-on (52 + n) s) r
 
@@ -120,12 +138,12 @@ module _ (s : List ℕ) where
   unfolding formOf
   form-short h = simp (lt-ltb (length s) 16 h)
 
-  module _ (h : 16 ≤ length s) (flag : ℕ) (e : flag ≡ beNat 4 s) where
+  module _ (h : 16 ≤ length s) {flag : ℕ} (e : flag ≡ beNat 4 s) where
     pub flag-large : 1 < flag → form.Malformed ≡ formOf s
     unfolding formOf
     flag-large k = simp (← e, le-ltb (length s) 16 h, lt-ltb 1 flag k)
 
-    module _ (k : flag ≤ 1) (t : ℕ) (q : t ≡ beNat 4 (drop 12 s)) where
+    module _ (k : flag ≤ 1) {t : ℕ} (q : t ≡ beNat 4 (drop 12 s)) where
       pub form-file : t ≡ 1 → {r : Form} → r ≡ fileForm s → r ≡ formOf s
       unfolding formOf
       form-file y r = simp (← e, ← q, le-ltb (length s) 16 h, le-ltb 1 flag k, eq-eqb t 1 y, r)

@@ -27,16 +27,16 @@ deviceError i = do
 unfoldable pub ioerr : ℕ → Reader (List DeviceError)
 ioerr i = do
   offset ← number 8
-  extent ← number 8
+  len ← number 8
   stateid ← opaque 16
   counted (λ _. deviceError i)
 
 -- ff_layoutreturn4, up to the count of its statistics records
-pub record Returned : Type 0 where
+pub record Contents : Type 0 where
   pub records : List (List DeviceError)
   pub statistics : ℕ
 
-unfoldable pub layoutreturn : Reader Returned
+unfoldable pub layoutreturn : Reader Contents
 layoutreturn = do
   records ← counted ioerr
   statistics ← number 4
@@ -53,7 +53,7 @@ unfoldable pub joined : List (List DeviceError) → List DeviceError
 joined [] = []
 joined (r ∷ rs) = r ++ joined rs
 
-abbrev pub judged : Read Returned → Report
+abbrev pub judged : Read Contents → Report
 judged Bad = Malformed
 judged (Got r rest) = cond (eqb (r .statistics) 0) (cond (eqb (length rest) 0) (Whole (joined (r .records))) Malformed) Statistics
 

@@ -7,7 +7,7 @@
 --     handed              what `sc_report_next` answers and leaves in the numbers that it is lent
 use Prim.Native.Nat.{ℕ, zero, suc, _+_, _-_}
 use mathlib.Core.List.{List, [], _∷_}
-use mathlib.Core.Bool.{cond}
+use mathlib.Core.Bool.{Bool, true, false, cond}
 use lib.ListN.{length, take, drop}
 use lib.Dec.{ltb, eqb}
 use Rattle.xdr.specs.Be.{beNat}
@@ -107,10 +107,14 @@ after s c End = report.Whole []
 after s c Statistics = report.Statistics
 after s c Malformed = report.Malformed
 
+-- the report without device errors that has a status
+abbrev pub endOf : ℕ → Report
+endOf k = cond (eqb k 0) (report.Whole []) (cond (eqb k 10004) report.Statistics report.Malformed)
+
 -- the same by what comes next: the device error stands in the 24 bytes before the next cursor
 abbrev pub afterNext : List ℕ → Found → Report
 afterNext s (Error i h l st next) = naming (errorIn i (drop (next .at - 24) s)) (reportFrom s next)
-afterNext s (Done k) = cond (eqb k 0) (report.Whole []) (cond (eqb k 10004) report.Statistics report.Malformed)
+afterNext s (Done k) = endOf k
 
 -- ---- what C is handed: the answer, the cursor, and the place of the record, the place of the device's id in the body, and the status
 pub record Numbers : Type 0 where
@@ -133,3 +137,8 @@ numbersOf at r d (Done k) = record { answer = k; at = at; records = r; devices =
 
 unfoldable pub handed : List ℕ → ℕ → ℕ → ℕ → Numbers
 handed s at r d = numbersOf at r d (nextAt s (resumedAt s at r d))
+
+-- the report from C's cursor on, by what C is handed
+abbrev pub afterHanded : List ℕ → Numbers → Bool → Report
+afterHanded s n true = naming (errorIn (n .place) (drop (n .device) s)) (reportFrom s (resumedAt s (n .at) (n .records) (n .devices)))
+afterHanded s n false = endOf (n .answer)

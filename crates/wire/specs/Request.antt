@@ -27,7 +27,7 @@ pub record Arguments : Type 0 where
 unfoldable pub fileReturn : Reader Returned
 fileReturn = do
   offset ← number 8
-  extent ← number 8
+  len ← number 8
   stateid ← opaque 16
   body ← bounded 4096
   give (ofFile stateid body)

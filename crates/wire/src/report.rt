@@ -2,7 +2,7 @@
 // In order: the cursor and what stands at one; `start`, `step` and `next`, by which a caller walks the device errors; `check`, the status of
 // step 5; the same for C.
 ghost use mathlib.Core.Path.{_≡_};
-ghost use Prim.Native.Nat.{_-_};
+ghost use Prim.Native.Nat.{_-_, _≤_};
 ghost use lib.ListN.{length, drop};
 ghost use Rattle.wire.specs.Report.{reportOf, statusOf};
 ghost use Rattle.wire.specs.ReportSteps.{statistics, startOf, lastStep, recordStep, stepAt, nextAt, resumedAt, handed};
@@ -128,20 +128,15 @@ fn record_step(s: &[u8], at: usize, records: u32) -> Entry
     })
 }
 
-// What stands at the cursor. Each step takes at least 24 bytes, whatever the counts say.
-pub fn step(s: &[u8], c: Cursor) -> Entry
-    ensures { λ r. ⌜ r ≡ stepAt (now (s .entry)) c ⌝ }
+// The device error at a place where some are to come, or 10036 where its bytes are not all there.
+fn device_at(s: &[u8], at: usize, records: u32, devices: u32) -> Found
+    requires { ⌜ 1 ≤ devices ⌝ }
+    ensures { λ r. ⌜ r ≡ nextAt (now (s .entry)) (record { at = at; records = records; devices = devices }) ⌝ }
 {
-    let at = c.at;
-    let records = c.records;
-    let devices = c.devices;
-    if devices == 0 {
-        return record_step(s, at, records);
-    }
     if left(s, at) < 24 {
-        return Entry::Malformed;
+        return Found::Done(10036);
     }
-    Entry::Device {
+    Found::Error {
         record: place(xdr::be32(s, 0), records),
         high: xdr::be64(s, at),
         low: xdr::be64(s, at + 8),
@@ -154,42 +149,53 @@ pub fn step(s: &[u8], c: Cursor) -> Entry
     }
 }
 
+// What stands at the cursor. Each step takes at least 24 bytes, whatever the counts say.
+pub fn step(s: &[u8], c: Cursor) -> Entry
+    ensures { λ r. ⌜ r ≡ stepAt (now (s .entry)) c ⌝ }
+{
+    let at = c.at;
+    let records = c.records;
+    let devices = c.devices;
+    if devices == 0 {
+        return record_step(s, at, records);
+    }
+    match device_at(s, at, records, devices) {
+        Found::Error {
+            record,
+            high,
+            low,
+            status,
+            next,
+        } => Entry::Device {
+            record,
+            high,
+            low,
+            status,
+            next,
+        },
+        Found::Done(_) => Entry::Malformed,
+    }
+}
+
 // The first device error from the cursor on, past records that have none, or the status at which the report ends.
 pub fn next(s: &[u8], c: Cursor) -> Found
     ensures { λ r. ⌜ r ≡ nextAt (now (s .entry)) c ⌝ }
 {
-    let mut c = c;
-    loop {
-        match step(s, c) {
-            Entry::Device {
-                record,
-                high,
-                low,
-                status,
-                next,
-            } => {
-                return Found::Error {
-                    record,
-                    high,
-                    low,
-                    status,
-                    next,
-                };
-            }
-            Entry::Record(next) => {
-                c = next;
-            }
-            Entry::End => {
-                return Found::Done(0);
-            }
-            Entry::Statistics => {
-                return Found::Done(10004);
-            }
-            Entry::Malformed => {
-                return Found::Done(10036);
-            }
+    let mut at = c.at;
+    let mut records = c.records;
+    let mut devices = c.devices;
+    while devices == 0 {
+        if records == 0 {
+            return Found::Done(last_status(s, at));
         }
+        if left(s, at) < 36 {
+            return Found::Done(10036);
+        }
+        devices = xdr::be32(s, at + 32);
+        at += 36;
+        records -= 1;
     }
+    device_at(s, at, records, devices)
 }
 
 // Step 5: 0, 10036 where the report is malformed, 10004 where statistics follow. One turn a record: its device errors are passed by their count.

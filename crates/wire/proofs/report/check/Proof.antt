@@ -1,5 +1,5 @@
--- Rests on the status of a report, record by record. The measure is the count of records to come.
-use Prim.Native.Nat.{_≤_}
+-- Rests on the status of a report, record by record. The measure is what is left of the bytes, whatever the count says.
+use Prim.Native.Nat.{_≤_, _-_}
 use mathlib.Core.Path.{_≡_, _∙_}
 use lib.ListN.{length, drop}
 use Rattle.xdr.specs.Be.{beNat}
@@ -16,12 +16,12 @@ Inv-loop s records₀ at₀ records at =
     (at ≤ length s) × (statusOf (steps.records (beNat 4 s) records (drop at s)) ≡ statusOf (reportOf s))
 
 abbrev μ-loop : tie.MeasureT-loop
-μ-loop s records₀ at₀ records at =
-    records
+μ-loop s records₀ at₀ records at = length s - at
 
 returns : tie.Need-returns Inv-loop μ-loop
 returns c =
-    status-short (c .before .before .args .s .now) (omega arith)
+    let s = c .before .before .args .s .now in
+    status-short s (omega arith)
 
 be32-requires : tie.Need-be32-requires Inv-loop μ-loop
 be32-requires c κs = search needs

@@ -10,15 +10,18 @@ last-status-requires c κs = search needs
 
 returns : tie.Need-returns
 returns c =
-    ends-well (c .before .before .before .args .s .now) (c .before .before .before .args .at) (c .before .last-status .ensures) (omega arith)
+    let s = c .before .before .before .args .s .now in
+    ends-well s (c .before .before .before .args .at) (c .before .last-status .ensures) (omega arith)
 
 returns-2 : tie.Need-returns-2
 returns-2 c =
-    ends-counted (c .before .before .before .args .s .now) (c .before .before .before .args .at) (c .before .last-status .ensures) (omega arith)
+    let s = c .before .before .before .args .s .now in
+    ends-counted s (c .before .before .before .args .at) (c .before .last-status .ensures) (omega arith)
 
 returns-3 : tie.Need-returns-3
 returns-3 c =
-    ends-badly (c .before .before .before .args .s .now) (c .before .before .before .args .at) (c .before .last-status .ensures) (λ h. omega arith) (λ h. omega arith)
+    let s = c .before .before .before .args .s .now in
+    ends-badly s (c .before .before .before .args .at) (c .before .last-status .ensures) (λ h. omega arith) (λ h. omega arith)
 
 pub last-step-spec : {M : Type 1} → statement M
 last-step-spec = tie.close (tie.spec last-status-requires returns returns-2 returns-3)

@@ -1,84 +1,74 @@
--- Rests on the laws of the first device error from a cursor on. The measure is what is left of the bytes.
+-- Rests on the laws of the first device error from a cursor on. The measure is what is left of the bytes, whatever the count says.
 use Prim.Native.Nat.{_-_}
-use mathlib.Core.Path.{_≡_, refl, sym, _∙_}
 use lib.ListN.{length}
+use mathlib.Core.Path.{_≡_, refl, sym, _∙_}
 use Rattle.wire.specs.ReportSteps.{nextAt}
-use Rattle.wire.proofs.Reports.{record-forward, next-device, next-record, next-end, next-statistics, next-malformed}
+use Rattle.wire.specs.declared.report.Cursor.{Cursor}
+use Rattle.wire.proofs.Reports.{next-over, next-cut, next-on}
 use native.Mathlib.Omega.{arith}
 use borrow.Author.Needs.{needs}
 use Rattle.wire.proofs.report.next.Statement.{statement}
 use Rattle.wire.proofs.report.next.Tie as tie
 
 abbrev Inv-loop : tie.InvT-loop
-Inv-loop s c₀ c =
-    nextAt s c ≡ nextAt s c₀
+Inv-loop s at₀ records₀ devices₀ at records devices =
+    nextAt s (record { at = at; records = records; devices = devices }) ≡ nextAt s (record { at = at₀; records = records₀; devices = devices₀ })
 
 abbrev μ-loop : tie.MeasureT-loop
-μ-loop s c₀ c =
-    length s - c .at
+μ-loop s at₀ records₀ devices₀ at records devices = length s - at
 
 loop-holds : tie.Need-loop-holds Inv-loop μ-loop
 loop-holds c =
     refl
 
-step-requires : tie.Need-step-requires Inv-loop μ-loop
-step-requires c κs = search needs
-
-enum-known-record : tie.Need-enum-known-record Inv-loop μ-loop
-enum-known-record c =
-    search needs
+last-status-requires : tie.Need-last-status-requires Inv-loop μ-loop
+last-status-requires c κs = search needs
 
 returns : tie.Need-returns Inv-loop μ-loop
 returns c =
-    let l = c .before .before .before .before .loop in
-    let s = c .before .before .before .before .before .before .args .s .now in
-    sym (next-device s (l .c) (sym (c .before .before .before .step .ensures) ∙ c .before .«record» .given .1)) ∙ l .inv
+    let s = c .before .before .before .before .before .args .s .now in
+    let l = c .before .before .before .loop in
+    let k : Cursor = record { at = l .at; records = l .records; devices = l .devices } in
+    next-over s k (omega arith) (omega arith) (c .last-status .ensures) ∙ l .inv
 
-enum-known-next : tie.Need-enum-known-next Inv-loop μ-loop
-enum-known-next c =
-    search needs
-
-loop-less : tie.Need-loop-less Inv-loop μ-loop
-loop-less c =
-    let l = c .before .before .before .before .loop in
-    let s = c .before .before .before .before .before .before .args .s .now in
-    omega (arith, record-forward s (l .c) (sym (c .before .before .before .step .ensures) ∙ c .before .next .given .1))
-
-loop-again : tie.Need-loop-again Inv-loop μ-loop
-loop-again c =
-    let l = c .before .before .before .before .loop in
-    let s = c .before .before .before .before .before .before .args .s .now in
-    sym (next-record s (l .c) (sym (c .before .before .before .step .ensures) ∙ c .before .next .given .1)) ∙ l .inv
-
-enum-told : tie.Need-enum-told Inv-loop μ-loop
-enum-told c =
-    search needs
+left-requires : tie.Need-left-requires Inv-loop μ-loop
+left-requires c κs = search needs
 
 returns-2 : tie.Need-returns-2 Inv-loop μ-loop
 returns-2 c =
-    let l = c .before .before .before .loop in
-    let s = c .before .before .before .before .before .args .s .now in
-    sym (next-end s (l .c) (sym (c .before .before .step .ensures) ∙ c .enum-told .given .1)) ∙ l .inv
+    let s = c .before .before .before .before .before .before .args .s .now in
+    let l = c .before .before .before .before .loop in
+    let k : Cursor = record { at = l .at; records = l .records; devices = l .devices } in
+    next-cut s k (omega arith) (λ h. omega arith) (omega arith) ∙ l .inv
 
-enum-told-2 : tie.Need-enum-told-2 Inv-loop μ-loop
-enum-told-2 c =
-    search needs
+add-be32 : tie.Need-add-be32 Inv-loop μ-loop
+add-be32 c = omega arith
+
+be32-requires : tie.Need-be32-requires Inv-loop μ-loop
+be32-requires c κs = search needs
+
+add-at : tie.Need-add-at Inv-loop μ-loop
+add-at c = omega arith
+
+sub-records : tie.Need-sub-records Inv-loop μ-loop
+sub-records c = omega arith
+
+loop-less : tie.Need-loop-less Inv-loop μ-loop
+loop-less c = omega arith
+
+loop-again : tie.Need-loop-again Inv-loop μ-loop
+loop-again c =
+    let s = c .before .before .before .before .before .before .before .args .s .now in
+    let l = c .before .before .before .before .before .loop in
+    let k : Cursor = record { at = l .at; records = l .records; devices = l .devices } in
+    sym (next-on s k (omega arith) (λ h. omega arith) (omega arith) (c .be32 .ensures)) ∙ l .inv
+
+device-at-requires : tie.Need-device-at-requires Inv-loop μ-loop
+device-at-requires c κs = search needs
 
 returns-3 : tie.Need-returns-3 Inv-loop μ-loop
 returns-3 c =
-    let l = c .before .before .before .loop in
-    let s = c .before .before .before .before .before .args .s .now in
-    sym (next-statistics s (l .c) (sym (c .before .before .step .ensures) ∙ c .enum-told2 .given .1)) ∙ l .inv
-
-enum-told-3 : tie.Need-enum-told-3 Inv-loop μ-loop
-enum-told-3 c =
-    search needs
-
-returns-4 : tie.Need-returns-4 Inv-loop μ-loop
-returns-4 c =
-    let l = c .before .before .before .loop in
-    let s = c .before .before .before .before .before .args .s .now in
-    sym (next-malformed s (l .c) (sym (c .before .before .step .ensures) ∙ c .enum-told3 .given .1)) ∙ l .inv
+    c .device-at .ensures ∙ c .before .before .loop .inv
 
 pub next-spec : {M : Type 1} → statement M
 next-spec =
@@ -87,15 +77,15 @@ next-spec =
     Inv-loop
     μ-loop
     loop-holds
-    step-requires
-    enum-known-record
+    last-status-requires
     returns
-    enum-known-next
+    left-requires
+    returns-2
+    add-be32
+    be32-requires
+    add-at
+    sub-records
     loop-less
     loop-again
-    enum-told
-    returns-2
-    enum-told-2
-    returns-3
-    enum-told-3
-    returns-4)
+    device-at-requires
+    returns-3)

@@ -9,14 +9,18 @@ use Rattle.wire.proofs.report.start.Tie as tie
 
 returns : tie.Need-returns
 unfolding startOf
-returns c = simp (lt-ltb (length (c .before .before .args .s .now)) 4 (omega arith))
+returns c =
+    let s = c .before .before .args .s .now in
+    simp (lt-ltb (length s) 4 (omega arith))
 
 be32-requires : tie.Need-be32-requires
 be32-requires c κs = search needs
 
 returns-2 : tie.Need-returns-2
 unfolding startOf
-returns-2 c = simp (le-ltb (length (c .before .before .before .args .s .now)) 4 (omega arith), c .be32 .ensures)
+returns-2 c =
+    let s = c .before .before .before .args .s .now in
+    simp (le-ltb (length s) 4 (omega arith), c .be32 .ensures)
 
 pub start-spec : {M : Type 1} → statement M
 start-spec = tie.close (tie.spec returns be32-requires returns-2)

@@ -32,15 +32,18 @@ judged-requires-2 c κs =
 
 returns : tie.Need-returns
 returns c =
-    read-malformed (c .before .before .before .before .args .s .now) (sym (c .before .before .laid-out .ensures) ∙ c .enum-told .given .1)
+    let s = c .before .before .before .before .args .s .now in
+    read-malformed s (sym (c .before .before .laid-out .ensures) ∙ c .enum-told .given .1)
 
 returns-2 : tie.Need-returns-2
 returns-2 c =
-    read-bulk (c .before .before .before .before .before .args .s .now) (sym (c .before .before .before .laid-out .ensures) ∙ c .before .enum-told2 .given .1) (c .judged .ensures)
+    let s = c .before .before .before .before .before .args .s .now in
+    read-bulk s (sym (c .before .before .before .laid-out .ensures) ∙ c .before .enum-told2 .given .1) (c .judged .ensures)
 
 returns-3 : tie.Need-returns-3
 returns-3 c =
-    read-file (c .before .before .before .before .before .before .before .args .s .now) (sym (c .before .before .before .before .before .laid-out .ensures) ∙ c .before .before .before .len .given .1) (c .before .anonymous .ensures) (c .judged2 .ensures)
+    let s = c .before .before .before .before .before .before .before .args .s .now in
+    read-file s (sym (c .before .before .before .before .before .laid-out .ensures) ∙ c .before .before .before .len .given .1) (c .before .anonymous .ensures) (c .judged2 .ensures)
 
 pub read-spec : {M : Type 1} → statement M
 read-spec =

@@ -1,3 +1,4 @@
+-- The invariant: the bytes from the place on are the same exactly where all are. The measure is what is left of them.
 use Prim.Native.Nat.{_≤_, _-_}
 use mathlib.Core.Path.{_≡_, refl, sym, _∙_}
 use lib.ListN.{length, drop}
@@ -7,8 +8,6 @@ use native.Mathlib.Omega.{arith}
 use borrow.Author.Needs.{needs}
 use Rattle.wire.proofs.request.same.Statement.{statement}
 use Rattle.wire.proofs.request.same.Tie as tie
-use Rattle.wire.proofs.request.same.Reads as reads
-use Rattle.wire.proofs.request.same.Lts as lts
 
 abbrev Inv-loop : tie.InvT-loop
 Inv-loop a b i₀ i = (length a ≡ length b) × (i ≤ length a) × (sameBytes (drop i a) (drop i b) ≡ sameBytes a b)
@@ -16,43 +15,37 @@ Inv-loop a b i₀ i = (length a ≡ length b) × (i ≤ length a) × (sameBytes 
 abbrev μ-loop : tie.MeasureT-loop
 μ-loop a b i₀ i = length a - i
 
--- src/lib.rt:28:9
 returns : tie.Need-returns Inv-loop μ-loop
-returns c =
-    other-length (c .before .args .a .now) (c .before .args .b .now) (c .if1 .taken)
+returns c = other-length (c .before .args .a .now) (c .before .args .b .now) (c .if1 .taken)
 
--- src/lib.rt:31:5
 loop-holds : tie.Need-loop-holds Inv-loop μ-loop
 loop-holds c =
     (omega arith, omega arith, refl)
 
--- src/lib.rt:32:12
 shared-slice-read-if2 : tie.Need-shared-slice-read-if2 Inv-loop μ-loop
 shared-slice-read-if2 c = omega arith
 
--- src/lib.rt:32:20
 shared-slice-read-if2-2 : tie.Need-shared-slice-read-if2-2 Inv-loop μ-loop
 shared-slice-read-if2-2 c = omega arith
 
--- src/lib.rt:33:13
 returns-2 : tie.Need-returns-2 Inv-loop μ-loop
 returns-2 c =
-    differs (c .before .before .before .before .before .before .args .a .now) (c .before .before .before .before .before .before .args .b .now) (c .before .before .before .before .loop .i) (omega arith) (omega arith) (c .if2 .taken) (c .before .before .before .before .loop .inv .2)
+    let l = c .before .before .before .before .loop in
+    let p = c .before .before .before .before .before .before .args in
+    differs (p .a .now) (p .b .now) (l .i) (omega arith) (omega arith) (c .if2 .taken) (l .inv .2)
 
--- src/lib.rt:35:9
 add-i : tie.Need-add-i Inv-loop μ-loop
 add-i c = omega arith
 
--- src/lib.rt:31:5
 loop-less : tie.Need-loop-less Inv-loop μ-loop
 loop-less c = omega arith
 
--- src/lib.rt:31:5
 loop-again : tie.Need-loop-again Inv-loop μ-loop
 loop-again c =
-    (omega arith, omega arith, agrees (c .before .before .before .before .before .before .args .a .now) (c .before .before .before .before .before .before .args .b .now) (c .before .before .before .before .loop .i) (omega arith) (omega arith) (c .if2 .left) (c .before .before .before .before .loop .inv .2))
+    let l = c .before .before .before .before .loop in
+    let p = c .before .before .before .before .before .before .args in
+    (omega arith, omega arith, agrees (p .a .now) (p .b .now) (l .i) (omega arith) (omega arith) (c .if2 .left) (l .inv .2))
 
--- src/lib.rt:24:1
 returns-3 : tie.Need-returns-3 Inv-loop μ-loop
 returns-3 c =
     all-agree (c .before .before .before .args .a .now) (c .before .before .before .args .b .now) (c .before .loop .i) (omega arith) (omega arith) (c .before .loop .inv .2)

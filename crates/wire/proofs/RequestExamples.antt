@@ -1,0 +1,47 @@
+-- The definition's answers on a few requests, computed: the 120-byte request of paper 01, and the order of steps 1 to 3.
+use mathlib.Core.Path.{_≡_, refl}
+use mathlib.Core.List.{List, [], _∷_, _++_, map}
+use mathlib.Core.Bool.{true, false}
+use Prim.Native.Nat.{ℕ}
+use lib.ListN.{length}
+use Rattle.xdr.specs.Be.{beNat}
+use Rattle.wire.specs.Reader.{sameBytes, number, opaque, boolean, bounded}
+use Rattle.wire.specs.Request.{fileReturn, returnOf, arguments, refusalOf, isAnonymous, unless, requestOf, bodyOf}
+use Rattle.wire.specs.declared.request.Request.{Request}
+use Rattle.wire.specs.declared.request.Request.the-variants.{Refused, Bulk, File}
+use Rattle.wire.proofs.ReportExamples.{blank, one}
+
+abbrev word : ℕ → List ℕ
+word n = 0 ∷ 0 ∷ 0 ∷ n ∷ []
+
+-- reclaim flag, layout type, iomode and return type
+abbrev head : ℕ → ℕ → ℕ → ℕ → List ℕ
+head flag layout iomode type = word flag ++ (word layout ++ (word iomode ++ word type))
+
+-- an ordinary return whose stateid ends in b, with a body of one record and one device error
+abbrev whole : ℕ → ℕ → ℕ → List ℕ
+whole layout iomode b = head 0 layout iomode 1 ++ (blank 16 ++ (blank 15 ++ (b ∷ (word 68 ++ one))))
+
+pub size-is : length (whole 4 3 0) ≡ 120
+size-is = refl
+
+-- in order: the request of 120 bytes; another stateid; the layout type before the iomode; the iomode; spare bytes before both; return type 3;
+-- a reclaim flag that is no boolean; return type 4
+pub answers :
+    map requestOf
+    (whole 4 3 0
+    ∷ whole 4 1 1
+    ∷ whole 1 0 0
+    ∷ whole 4 4 0
+    ∷ (whole 1 0 0 ++ (0 ∷ []))
+    ∷ head 1 4 2 3
+    ∷ head 2 4 2 3
+    ∷ head 0 4 2 4
+    ∷ [])
+    ≡ File true 68 ∷ File false 68 ∷ Refused 10062 ∷ Refused 10049 ∷ Refused 10036 ∷ Bulk ∷ Refused 10036 ∷ Refused 10036 ∷ []
+unfolding requestOf arguments returnOf fileReturn bounded boolean number opaque refusalOf isAnonymous unless sameBytes beNat
+answers = refl
+
+pub body-is : bodyOf (whole 4 3 0) ≡ one
+unfolding bodyOf requestOf arguments returnOf fileReturn bounded boolean number opaque refusalOf isAnonymous unless sameBytes beNat
+body-is = refl

@@ -1,0 +1,90 @@
+/* The checks of LAYOUTRETURN in plain C, written from RFC 8881, RFC 8435 and paper 01 alone: what the library's answers are compared with. */
+#include <stddef.h>
+#include <stdint.h>
+#include <string.h>
+
+static inline uint32_t plain_be32(const uint8_t *p)
+{
+    uint32_t x;
+    memcpy(&x, p, 4);
+    return __builtin_bswap32(x);
+}
+
+/* Step 5. */
+static __attribute__((noinline, unused)) uint32_t plain_report_check(const uint8_t *s, size_t n)
+{
+    if (n < 4)
+        return 10036;
+    size_t at = 4;
+    for (uint32_t records = plain_be32(s); records != 0; records--) {
+        if (n - at < 36)
+            return 10036;
+        size_t size = 24 * (size_t)plain_be32(s + at + 32);
+        if (n - at - 36 < size)
+            return 10036;
+        at += 36 + size;
+    }
+    if (n - at < 4)
+        return 10036;
+    if (plain_be32(s + at) != 0)
+        return 10004;
+    return n - at == 4 ? 0 : 10036;
+}
+
+struct plain_error {
+    uint32_t place;
+    size_t device;
+    uint32_t status;
+};
+
+/* The device errors up to the end or the first fault; `max` of them at most. Answers how many there are. */
+static __attribute__((noinline, unused)) size_t plain_report_walk(const uint8_t *s, size_t n, struct plain_error *e, size_t max)
+{
+    size_t count = 0, at = 4;
+    uint32_t records = n < 4 ? 0 : plain_be32(s);
+    for (uint32_t i = 0; i < records && n - at >= 36; i++) {
+        uint32_t devices = plain_be32(s + at + 32);
+        at += 36;
+        for (; devices != 0; devices--, at += 24) {
+            if (n - at < 24)
+                return count;
+            if (count < max)
+                e[count] = (struct plain_error){i, at, plain_be32(s + at + 16)};
+            count++;
+        }
+    }
+    return count;
+}
+
+/* Steps 1 to 3: the refusal, or 0; kind, place and length of the body as in the library's header. */
+static __attribute__((noinline, unused)) uint32_t plain_request_check(const uint8_t *s, size_t n, uint32_t *kind, uint64_t *at, uint64_t *len)
+{
+    static const uint8_t zeros[16];
+    uint32_t body = 0;
+    *kind = 0;
+    *at = *len = 0;
+    if (n < 16 || plain_be32(s) > 1)
+        return 10036;
+    uint32_t type = plain_be32(s + 12);
+    if (type == 1) {
+        if (n < 52 || (body = plain_be32(s + 48)) > 4096)
+            return 10036;
+        size_t padded = (body + 3) / 4 * 4;
+        if (n != 52 + padded || memcmp(s + 52 + body, zeros, padded - body) != 0)
+            return 10036;
+    } else if (type < 1 || type > 3 || n != 16) {
+        return 10036;
+    }
+    if (plain_be32(s + 4) != 4)
+        return 10062;
+    if (plain_be32(s + 8) < 1 || plain_be32(s + 8) > 3)
+        return 10049;
+    if (type != 1) {
+        *kind = 1;
+        return 0;
+    }
+    *kind = memcmp(s + 32, zeros, 16) == 0 ? 3 : 2;
+    *at = 52;
+    *len = body;
+    return 0;
+}
