@@ -20,7 +20,6 @@ static void P(filled)(int intents, int restarted, int ended)
 
 static void P(empty)(void) { P(record_fresh)(&P(state)); }
 static void P(idle)(void) { P(filled)(0, 0, 0); }
-static void P(seven)(void) { P(filled)(7, 0, 0); }
 static void P(full)(void) { P(filled)(8, 0, 0); }
 static void P(grace)(void) { P(filled)(8, 1, 0); }
 static void P(lost)(void) { P(filled)(8, 1, 1); }
@@ -34,20 +33,22 @@ static void P(half)(void)
             P(record_reclaim)(&P(state), number(k), (uint64_t)c);
 }
 
+/* calls that leave the record as it is come MANY times, on any file and client; calls that change it once on each file, in any order */
+#define ANY for (int k = 0; k < MANY; k++) P(sum) +=
 #define EACH for (int k = 0; k < FILES; k++) P(sum) +=
-static void P(open_held)(void) { EACH P(record_open)(&P(held), number(k), 8); }
-static void P(open_ninth)(void) { EACH P(record_open)(&P(held), number(k), 9); }
-static void P(open_eighth)(void) { EACH P(record_open)(&P(held), number(k), 8); }
-static void P(reclaim)(void) { EACH P(record_reclaim)(&P(held), number(k), (uint64_t)(k % 8 + 1)); }
-static void P(close)(void) { EACH P(record_close)(&P(held), number(k), (uint64_t)(k * 5 % 8 + 1)); }
-static void P(repaired)(void) { EACH P(record_repaired)(&P(held), number(k)); }
-static void P(report_1)(void) { EACH P(record_layoutreturn)(&P(held), 8, number(k), one, one_len, reply, sizeof reply) + reply[7]; }
-static void P(report_20)(void) { EACH P(record_layoutreturn)(&P(held), 8, number(k), twenty, twenty_len, reply, sizeof reply) + reply[7]; }
-static void P(handed_on)(void) { EACH P(record_layoutreturn)(&P(held), 8, number(k), bulk, sizeof bulk, reply, sizeof reply); }
-static void P(enter)(void) { EACH P(record_register)(&P(held), number(k * 37 % FILES), mirrors, 32); }
-static void P(forget)(void) { EACH P(record_forget)(&P(held), number(k * 37 % FILES)); }
+static void P(open_held)(void) { ANY P(record_open)(&P(held), file[k], client[k]); }
+static void P(open_ninth)(void) { ANY P(record_open)(&P(held), file[k], 9); }
+static void P(close_open)(void) { ANY P(record_close)(&P(held), file[k], client[k]) + P(record_open)(&P(held), file[k], client[k]); }
+static void P(reclaim)(void) { ANY P(record_reclaim)(&P(held), file[k], client[k]); }
+static void P(repaired)(void) { EACH P(record_repaired)(&P(held), each[k]); }
+static void P(report_1)(void) { ANY P(record_layoutreturn)(&P(held), client[k], file[k], one, one_len, reply, sizeof reply) + reply[7]; }
+static void P(report_20)(void) { ANY P(record_layoutreturn)(&P(held), client[k], file[k], twenty, twenty_len, reply, sizeof reply) + reply[7]; }
+static void P(handed_on)(void) { ANY P(record_layoutreturn)(&P(held), client[k], file[k], bulk, sizeof bulk, reply, sizeof reply); }
+static void P(enter)(void) { EACH P(record_register)(&P(held), each[k], mirrors, 32); }
+static void P(forget)(void) { EACH P(record_forget)(&P(held), each[k]); }
 static void P(restart)(void) { EACH P(record_restart)(&P(held)); }
 static void P(end)(void) { P(sum) += P(record_end_grace)(&P(held)); }
 static void P(resilver)(void) { EACH P(record_resilver)(&P(held), files, FILES, sources, FILES, &count) + count + files[63] + sources[5]; }
 static void P(offered)(void) { EACH P(record_offered)(&P(held), files, FILES, sources, FILES, &count) + count + files[63] + sources[5]; }
+#undef ANY
 #undef EACH

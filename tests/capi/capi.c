@@ -1,0 +1,238 @@
+/*
+ * The calls on a record through target/staticlib/libcapi.a: where a record lies and how big it is, marked examples K10 to K13, and random calls
+ * (seed: the argument, or 1) beside bench/record_plain.c, which is plain C from paper 01: each answer, each reply and both lists.
+ * Prints one line, and ends with 1 where anything differs.
+ */
+#include "record_plain.h"
+#include "stellcircle.h"
+#include <inttypes.h>
+#include <stdio.h>
+#include <stdlib.h>
+#include <string.h>
+#ifndef SC_HANDED_ON
+#include "parts/record.h"
+#endif
+
+RECORD_PLAIN(plain_)
+
+enum { CALLS = 400000, CLIENTS = 11, DEVICES = 6, ROOM = 80 };
+
+/* The record with guards on either side, which no call may touch. */
+static struct {
+    uint8_t before[64];
+    struct sc_record r;
+    uint8_t after[64];
+} held;
+static struct plain_record plain;
+static unsigned long differences;
+
+static void expect(int good, const char *what, unsigned long n)
+{
+    if (!good && differences++ < 10)
+        fprintf(stderr, "%s (%lu) differs\n", what, n);
+}
+
+/* An answer beside plain C's. Each of these has to come up among the random calls. */
+static const uint32_t answers[] = {0, 17, 22, 28, 70, 10004, 10008, 10013, 10025, 10033, 10034, 10036, 10049, 10062, SC_HANDED_ON};
+enum { ANSWERS = sizeof answers / sizeof answers[0] };
+static unsigned long seen[ANSWERS];
+
+static void same(uint32_t x, uint32_t y, const char *what, unsigned long n)
+{
+    expect(x == y, what, n);
+    for (int i = 0; i < ANSWERS; i++)
+        seen[i] += x == answers[i];
+}
+
+static void guards(unsigned long n)
+{
+    for (size_t i = 0; i < 64; i++)
+        if (held.before[i] != 0x77 || held.after[i] != 0x77)
+            expect(0, "a byte beside the record", n);
+}
+
+/* ---- where a record lies: fresh writes every field, to the last, and no byte past the struct */
+static void layout(void)
+{
+    static uint8_t one[sizeof held.r];
+    memset(&held, 0x77, sizeof held);
+    memset(&held.r, 0x00, sizeof held.r);
+    sc_record_fresh(&held.r);
+    memcpy(one, &held.r, sizeof one);
+    guards(0);
+    memset(&held.r, 0xff, sizeof held.r);
+    sc_record_fresh(&held.r);
+    guards(1);
+    const uint8_t *two = (const uint8_t *)&held.r;
+    /* a file: its number, four mirrors of two halves and two flags, eight intents of a client and two flags, three flags; then grace */
+    for (size_t f = 0; f < 64; f++) {
+        size_t at = 240 * f;
+        int same = memcmp(one + at, two + at, 8) == 0 && memcmp(one + at + 232, two + at + 232, 3) == 0;
+        for (size_t m = 0; m < 4; m++)
+            same = same && memcmp(one + at + 8 + 24 * m, two + at + 8 + 24 * m, 18) == 0;
+        for (size_t i = 0; i < 8; i++)
+            same = same && memcmp(one + at + 104 + 16 * i, two + at + 104 + 16 * i, 10) == 0;
+        expect(same, "a fresh file", f);
+    }
+    expect(one[15360] == 0 && two[15360] == 0, "fresh grace", 0);
+    expect(sc_record_restart(&held.r) == 0 && two[15360] == 1, "grace after a restart", 0);
+    expect(_Alignof(struct sc_record) == _Alignof(uint64_t) && sizeof(struct sc_record) == 15368, "the struct", 0);
+}
+
+/* ---- requests */
+static uint8_t request[4200], device[DEVICES][16];
+
+static void put32(uint8_t *p, uint32_t x)
+{
+    for (int i = 0; i < 4; i++)
+        p[i] = (uint8_t)(x >> (24 - 8 * i));
+}
+
+/* One error record of so many device errors of the devices from `first` on, each with the status. */
+static size_t report(int first, int many, uint32_t status)
+{
+    memset(request, 0, sizeof request);
+    put32(request + 4, 4);
+    put32(request + 8, 2);
+    put32(request + 12, 1);
+    put32(request + 48, (uint32_t)(44 + 24 * many));
+    put32(request + 52, 1);
+    put32(request + 88, (uint32_t)many);
+    for (int i = 0; i < many; i++) {
+        memcpy(request + 92 + 24 * i, device[(first + i) % DEVICES], 16);
+        put32(request + 108 + 24 * i, status);
+    }
+    return (size_t)(52 + 44 + 24 * many);
+}
+
+/* ---- K10 to K13 */
+static int lists(int idle, uint64_t n, uint64_t file, uint8_t source)
+{
+    uint64_t files[2] = {5, 5}, count = 9;
+    uint8_t sources[2] = {6, 6};
+    uint32_t answer = (idle ? sc_record_offered : sc_record_resilver)(&held.r, files, 2, sources, 2, &count);
+    return answer == 0 && count == n && (n == 0 ? files[0] == 5 && sources[0] == 6 : files[0] == file && sources[0] == source) && files[1] == 5 && sources[1] == 6;
+}
+
+static void example(int reclaims, int reports)
+{
+    uint8_t reply[30];
+    memset(reply, 0x99, sizeof reply);
+    sc_record_fresh(&held.r);
+    expect(sc_record_register(&held.r, 7, device[0], 32) == 0 && sc_record_open(&held.r, 7, 1) == 0 && sc_record_restart(&held.r) == 0, "K10's start", 0);
+    if (reclaims)
+        expect(sc_record_reclaim(&held.r, 7, 1) == 0, "K11's reclaim", 0);
+    if (reports >= 0) {
+        static const uint8_t good[24] = {0, 0, 0, 0, 0, 0, 0, 1};
+        size_t n = report(reports, 1, 5);
+        expect(n == 120 && sc_record_layoutreturn(&held.r, 1, 7, request, n, reply, 30) == 0, "a report", 0);
+        expect(memcmp(reply, good, 24) == 0 && reply[24] == 0x99 && reply[29] == 0x99, "a reply", 0);
+    }
+    expect(sc_record_end_grace(&held.r) == 0, "the end of grace", 0);
+}
+
+static void examples(void)
+{
+    example(0, -1);
+    expect(lists(0, 1, 7, 0), "K10", 0);
+    example(1, -1);
+    expect(lists(0, 0, 0, 0), "K11", 0);
+    example(1, 0);
+    expect(lists(0, 1, 7, 1) && lists(1, 0, 0, 0) && sc_record_close(&held.r, 7, 1) == 0 && lists(1, 1, 7, 1), "K12", 0);
+    example(1, 2);
+    expect(lists(0, 1, 7, 0), "K13", 0);
+}
+
+/* ---- random calls */
+static uint64_t seed = 1;
+
+static uint64_t random64(void)
+{
+    seed ^= seed << 13;
+    seed ^= seed >> 7;
+    seed ^= seed << 17;
+    return seed;
+}
+
+static uint64_t below(uint64_t n) { return random64() % n; }
+
+static void compare_lists(unsigned long n)
+{
+    for (int idle = 0; idle < 2; idle++) {
+        uint64_t files[2][ROOM], count[2] = {77, 77};
+        uint8_t sources[2][ROOM];
+        memset(files, 0x31, sizeof files);
+        memset(sources, 0x32, sizeof sources);
+        size_t a = below(4) ? ROOM : below(ROOM), b = below(4) ? ROOM : below(ROOM);
+        uint32_t x = (idle ? sc_record_offered : sc_record_resilver)(&held.r, files[0], a, sources[0], b, &count[0]);
+        uint32_t y = (idle ? plain_record_offered : plain_record_resilver)(&plain, files[1], a, sources[1], b, &count[1]);
+        expect(x == y && count[0] == count[1] && memcmp(files[0], files[1], sizeof files[0]) == 0 && memcmp(sources[0], sources[1], sizeof sources[0]) == 0, "a list", n);
+    }
+}
+
+static void compare_returns(unsigned long n, uint64_t file, uint64_t client)
+{
+    uint8_t reply[2][30];
+    memset(reply, 0x44, sizeof reply);
+    size_t len = report((int)below(DEVICES), (int)below(4), below(3) ? 5 : 0), room = below(8) ? 30 : below(30);
+    if (below(6) == 0)
+        request[below(len)] ^= (uint8_t)(1u << below(8));
+    if (below(10) == 0)
+        len = below(len + 1);
+    uint32_t x = sc_record_layoutreturn(&held.r, client, file, request, len, reply[0], room);
+    uint32_t y = plain_record_layoutreturn(&plain, client, file, request, len, reply[1], room);
+    same(x, y, "a LAYOUTRETURN", n);
+    expect(memcmp(reply[0], reply[1], sizeof reply[0]) == 0, "a reply", n);
+}
+
+static void random_calls(void)
+{
+    sc_record_fresh(&held.r);
+    plain_record_fresh(&plain);
+    for (unsigned long n = 0; n < CALLS; n++) {
+        uint64_t file = 10 * below(70), client = below(CLIENTS);
+        uint8_t mirrors[96];
+        size_t len = below(8) ? 16 * (1 + below(4)) : below(96);
+        int first = (int)below(DEVICES);
+        for (size_t i = 0; i < 6; i++)
+            memcpy(mirrors + 16 * i, device[below(20) ? (first + (int)i) % DEVICES : first], 16);
+        uint64_t kind = below(200);
+        if (kind < 2) {
+            same(sc_record_restart(&held.r), plain_record_restart(&plain), "restart", n);
+        } else if (kind < 4) {
+            same(sc_record_end_grace(&held.r), plain_record_end_grace(&plain), "end of grace", n);
+        } else if (kind < 40) {
+            same(sc_record_register(&held.r, file, mirrors, len), plain_record_register(&plain, file, mirrors, len), "register", n);
+        } else if (kind < 80) {
+            same(sc_record_open(&held.r, file, client), plain_record_open(&plain, file, client), "open", n);
+        } else if (kind < 110) {
+            same(sc_record_reclaim(&held.r, file, client), plain_record_reclaim(&plain, file, client), "reclaim", n);
+        } else if (kind < 140) {
+            same(sc_record_close(&held.r, file, client), plain_record_close(&plain, file, client), "close", n);
+        } else if (kind < 155) {
+            same(sc_record_repaired(&held.r, file), plain_record_repaired(&plain, file), "repaired", n);
+        } else if (kind < 160) {
+            same(sc_record_forget(&held.r, file), plain_record_forget(&plain, file), "forget", n);
+        } else if (kind < 190) {
+            compare_returns(n, file, client);
+        } else {
+            compare_lists(n);
+        }
+        guards(n);
+    }
+    for (int i = 0; i < ANSWERS; i++)
+        expect(seen[i] != 0, "an answer that never came up", answers[i]);
+}
+
+int main(int argc, char **argv)
+{
+    if (argc > 1)
+        seed = strtoull(argv[1], NULL, 10) | 1;
+    for (int i = 0; i < DEVICES; i++)
+        memset(device[i], 0xa0 + i, 16);
+    layout();
+    examples();
+    random_calls();
+    printf("capi: %d random calls beside plain C, the struct and K10 to K13: %lu differences\n", CALLS, differences);
+    return differences != 0;
+}

@@ -1,0 +1,18 @@
+#!/bin/sh
+# Builds the test of the record's calls and runs it: tests/capi/run.sh [SEED]. The archives come from `rt staticlib`; all three link together.
+set -e
+cd "$(dirname "$0")/../.."
+mkdir -p target/tests
+gcc -std=c11 -O2 -Wall -Wextra -Werror -DNAME=plain_ -Ibench -c -o target/tests/record_plain.o bench/record_plain.c
+gcc -std=c11 -O2 -Wall -Wextra -Werror -Iinclude -Ibench -o target/tests/capi tests/capi/capi.c target/tests/record_plain.o target/staticlib/libcapi.a target/staticlib/libwire.a target/staticlib/libepochs.a
+target/tests/capi "$@"
+# the header is good C++11 too
+echo '#include "stellcircle.h"
+#ifndef SC_HANDED_ON
+extern "C" {
+#include "parts/record.h"
+}
+#endif
+int main() { sc_record r; sc_record_fresh(&r); return (int)sc_record_end_grace(&r) - 10033; }' > target/tests/header.cpp
+g++ -std=c++11 -Wall -Wextra -Werror -Iinclude -o target/tests/header target/tests/header.cpp target/staticlib/libcapi.a 2> target/tests/header.log || { cat target/tests/header.log; exit 1; }
+target/tests/header
