@@ -7,6 +7,7 @@ tests/layout/run.sh
 python3 tests/list_layout/run.py target/bin/list_layout tests/list_layout/cases.txt
 tests/layoutreturn/run.sh
 tests/epochs/run.sh
+tests/capi/run.sh
 tests/install.sh
 tests/desk/replay.sh
 rustc -O --edition 2021 -o target/tests/second tests/second/main.rs
