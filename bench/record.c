@@ -5,9 +5,6 @@
 #include "record_plain.h"
 #include "stellcircle.h"
 #include <string.h>
-#ifndef SC_HANDED_ON
-#include "parts/record.h"
-#endif
 
 RECORD_PLAIN(gcc_)
 RECORD_PLAIN(clang_)

@@ -9,9 +9,6 @@
 #include <stdio.h>
 #include <stdlib.h>
 #include <string.h>
-#ifndef SC_HANDED_ON
-#include "parts/record.h"
-#endif
 
 RECORD_PLAIN(plain_)
 

@@ -8,11 +8,6 @@ gcc -std=c11 -O2 -Wall -Wextra -Werror -Iinclude -Ibench -o target/tests/capi te
 target/tests/capi "$@"
 # the header is good C++11 too
 echo '#include "stellcircle.h"
-#ifndef SC_HANDED_ON
-extern "C" {
-#include "parts/record.h"
-}
-#endif
 int main() { sc_record r; sc_record_fresh(&r); return (int)sc_record_end_grace(&r) - 10033; }' > target/tests/header.cpp
 g++ -std=c++11 -Wall -Wextra -Werror -Iinclude -o target/tests/header target/tests/header.cpp target/staticlib/libcapi.a 2> target/tests/header.log || { cat target/tests/header.log; exit 1; }
 target/tests/header
