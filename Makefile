@@ -2,7 +2,7 @@
 # make test    every test, and last the gate: rt ci
 # make bench   the benchmarks, beside plain C in the same process; no part of the gate
 # make fuzz    a long coverage-guided run of the wire checks (SECONDS=3600)
-# make install the header, the archives, the program, the man pages and a pkg-config file below PREFIX
+# make install the header, the archives, list_layout, replay, the man pages and a pkg-config file below PREFIX
 # make fmt     formats the Rattle files
 CC = gcc
 PREFIX = /usr/local
@@ -16,9 +16,10 @@ LIBRARIES = wire epochs capi
 setup:
 	@tests/setup.sh
 
-# the proved libraries as archives, and the program
+# the proved libraries as archives, the program, and the C host over them
 libraries: setup
 	@tests/build.sh $(LIBRARIES)
+	@tests/desk/replay.sh
 
 run: libraries
 	@tests/show.sh
@@ -41,7 +42,7 @@ install-only:
 	@install -m 644 include/stellcircle.h $(DESTDIR)$(PREFIX)/include/
 	@for l in $(LIBRARIES); do install -m 644 target/staticlib/lib$$l.a $(DESTDIR)$(PREFIX)/lib/libstellcircle_$$l.a; done
 	@sed 's|@PREFIX@|$(PREFIX)|' stellcircle.pc.in > $(DESTDIR)$(PREFIX)/lib/pkgconfig/stellcircle.pc
-	@install -m 755 target/bin/list_layout $(DESTDIR)$(PREFIX)/bin/
+	@install -m 755 target/bin/list_layout target/tests/replay $(DESTDIR)$(PREFIX)/bin/
 	@install -m 644 man/list_layout.1 man/replay.1 $(DESTDIR)$(PREFIX)/share/man/man1/
 
 clean:

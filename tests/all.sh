@@ -9,7 +9,6 @@ tests/layoutreturn/run.sh
 tests/epochs/run.sh
 tests/capi/run.sh
 tests/install.sh
-tests/desk/replay.sh
 rustc -O --edition 2021 -o target/tests/second tests/second/main.rs
 rustc -O --edition 2021 --test -o target/tests/examples tests/second/main.rs
 target/tests/examples -q > target/tests/examples.log || { cat target/tests/examples.log; exit 1; }

@@ -5,5 +5,4 @@ cd "$(dirname "$0")/.."
 echo '$ list_layout < sample body'
 target/bin/list_layout < crates/list_layout/stdin
 echo '$ replay < tests/desk/incident.txt'
-tests/desk/replay.sh
 target/tests/replay < tests/desk/incident.txt
