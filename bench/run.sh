@@ -10,4 +10,6 @@ gcc -std=c11 -O2 -Wall -Wextra -Werror -Iinclude -o target/bench/layout bench/la
 target/bench/layout
 bench/report.sh
 bench/epochs.sh
+rt check record_bench > target/bench/record_bench.log 2>&1
+bench/by_value.py
 bench/record.sh
