@@ -13,12 +13,11 @@ use Rattle.files.specs.Lists.{any, has, with, fill}
 use Rattle.files.specs.Places.{bump, first, placeOr}
 use Rattle.wire.specs.Device.{Device}
 use Rattle.files.specs.Devices.{sameDevice, isMirror, placeOf}
-use Rattle.files.specs.Mirrors.{noMirror, noMirrors, isDevice, isGood, unblamed, blamedMirror, mirrorOf, placedMirrors, sourceIn}
-use Rattle.files.specs.Blame.{blameAt}
+use Rattle.files.specs.Mirrors.{noMirror, noMirrors, isDevice, isGood, unblamed, blamedIf, accused, mirrorOf, placedMirrors, sourceIn}
 use Rattle.files.specs.declared.mirrors.Mirror.{Mirror}
 use Rattle.files.specs.declared.places.Found.{Found}
 use Rattle.files.specs.declared.places.Found.the-variants.{At, Nothing}
-use Rattle.files.proofs.Slots.{All, Slots, slots-left, slots-set, slots-fill, slots-any, pairs-from, all-replicate}
+use Rattle.files.proofs.Slots.{All, fill-length, Slots, slots-left, slots-set, slots-fill, slots-any, pairs-from, all-replicate}
 use Rattle.files.proofs.Sets.{true-false, has-with}
 
 -- ---- how they go together
@@ -31,6 +30,7 @@ abbrev pub NoMirror : Mirror → Type 0
 NoMirror m = m .present ≡ false
 
 pub record Copies (ms : List Mirror) (ds : List Device) (bs : List ℕ) : Type 0 where
+  pub four : length ms ≡ 4
   pub mirrors : Slots MirrorIs NoMirror ms ds
   pub blame : (i : ℕ) → i < length ms → getD ms i noMirror .blamed ≡ has i bs
 
@@ -62,16 +62,45 @@ placed d (Slots.rest h) k = true-false (sym k)
 placed d (Slots.item {y = e} r s) k = placed-item d (sameDevice e d) refl r (placed d s) k
 
 -- ---- blame of one place
+abbrev blameAt : List Mirror → ℕ → List Mirror
+blameAt ms i = set ms i (blamedIf true (getD ms i noMirror))
+
+-- one flag more is one place more
+one-more : (fs : List Bool) (ms : List Mirror) (i : ℕ) → i < length fs → i < length ms → accused (set fs i true) ms ≡ blameAt (accused fs ms) i
+unfolding accused
+one-more [] ms i h k = absurd (omega arith)
+one-more (b ∷ fs) [] i h k = absurd (omega arith)
+one-more (b ∷ fs) (m ∷ ms) zero h k = refl
+one-more (b ∷ fs) (m ∷ ms) (suc i) h k = ap {B = List Mirror} (λ t. blamedIf b m ∷ t) (one-more fs ms i (omega arith) (omega arith))
+
+pub accused-length : (fs : List Bool) (ms : List Mirror) → length (accused fs ms) ≡ length ms
+unfolding accused
+accused-length fs [] = refl
+accused-length [] (m ∷ ms) = refl
+accused-length (b ∷ fs) (m ∷ ms) = ap suc (accused-length fs ms)
+
+-- no flag is up
+pub none-accused : (k : ℕ) (ms : List Mirror) → accused (replicate k false) ms ≡ ms
+unfolding accused
+none-accused zero [] = refl
+none-accused zero (m ∷ ms) = refl
+none-accused (suc k) [] = refl
+none-accused (suc k) (m ∷ ms) = ap {B = List Mirror} (λ t. m ∷ t) (none-accused k ms)
+
 flag-at : (ms : List Mirror) (bs : List ℕ) (i j : ℕ) → i < length ms → j < length ms → ((k : ℕ) → k < length ms → getD ms k noMirror .blamed ≡ has k bs) → Dec (j ≡ i)
     → getD (blameAt ms i) j noMirror .blamed ≡ has j (with i bs)
-flag-at ms bs i j h z k (yes e) = rw (e, getD-set-same ms i (blamedMirror (getD ms i noMirror)) noMirror h, has-with i i bs, eq-eqb i i refl)
-flag-at ms bs i j h z k (no e) = rw (getD-set-other ms i j (blamedMirror (getD ms i noMirror)) noMirror e, has-with i j bs, ne-eqb j i e) (k j z)
+flag-at ms bs i j h z k (yes e) = rw (e, getD-set-same ms i (blamedIf true (getD ms i noMirror)) noMirror h, has-with i i bs, eq-eqb i i refl)
+flag-at ms bs i j h z k (no e) = rw (getD-set-other ms i j (blamedIf true (getD ms i noMirror)) noMirror e, has-with i j bs, ne-eqb j i e) (k j z)
 
-pub blamed-place : {ms : List Mirror} {ds : List Device} {bs : List ℕ} (i : ℕ) → i < length ms → Copies ms ds bs → Copies (blameAt ms i) ds (with i bs)
+blamed-place : {ms : List Mirror} {ds : List Device} {bs : List ℕ} (i : ℕ) → i < length ms → Copies ms ds bs → Copies (blameAt ms i) ds (with i bs)
 blamed-place {ms} {ds} {bs} i h k = record {
-  mirrors = slots-set i (blamedMirror (getD ms i noMirror)) noMirror (λ e r. record { present = r .present; high = r .high; low = r .low }) (λ r. r) (k .mirrors);
-  blame = λ j p. flag-at ms bs i j h (rw (length-set ms i (blamedMirror (getD ms i noMirror))) at p) (k .blame) (ℕ-discrete j i);
+  four = length-set ms i (blamedIf true (getD ms i noMirror)) ∙ k .four;
+  mirrors = slots-set i (blamedIf true (getD ms i noMirror)) noMirror (λ e r. record { present = r .present; high = r .high; low = r .low }) (λ r. r) (k .mirrors);
+  blame = λ j p. flag-at ms bs i j h (rw (length-set ms i (blamedIf true (getD ms i noMirror))) at p) (k .blame) (ℕ-discrete j i);
 }
+
+pub flag-raised : (ms : List Mirror) {ds : List Device} {bs : List ℕ} (fs : List Bool) (i : ℕ) → i < length fs → i < length ms → Copies (accused fs ms) ds bs → Copies (accused (set fs i true) ms) ds (with i bs)
+flag-raised ms fs i h l k = rw (one-more fs ms i h l) (blamed-place i (omega (arith, accused-length fs ms, l)) k)
 
 -- ---- repair
 unblamed-at : (ms : List Mirror) (i : ℕ) → getD (map unblamed ms) i noMirror .blamed ≡ false
@@ -80,6 +109,7 @@ unblamed-at ms i = ap (λ (m : Mirror). m .blamed) (List·getD-map unblamed ms i
 pub copies-unblamed : {ms : List Mirror} {ds : List Device} {bs : List ℕ} → Copies ms ds bs → Copies (map unblamed ms) ds []
 unfolding has any
 copies-unblamed {ms} h = record {
+  four = length-map ms unblamed ∙ h .four;
   mirrors = slots-left unblamed (λ m d k. record { present = k .present; high = k .high; low = k .low }) (λ m k. k) (h .mirrors);
   blame = λ i p. unblamed-at ms i;
 }
@@ -103,4 +133,4 @@ slots-new ds h =
 
 pub copies-new : (ds : List Device) → length ds ≤ 4 → Copies (placedMirrors ds) ds []
 unfolding has any
-copies-new ds h = record { mirrors = slots-new ds h; blame = λ i p. new-blame ds noMirrors i (blank-blame 4) }
+copies-new ds h = record { four = fill-length (map mirrorOf ds) noMirrors; mirrors = slots-new ds h; blame = λ i p. new-blame ds noMirrors i (blank-blame 4) }

@@ -1,14 +1,16 @@
 -- What the code is told of a device error is what the definition says of it.
 use mathlib.Core.Path.{_≡_, sym, ap, _∙_}
+use mathlib.Core.List.{List}
 use Prim.Native.Nat.{ℕ}
 use Rattle.wire.specs.Device.{Device}
 use Rattle.wire.specs.Report.{DeviceError}
 use Rattle.wire.proofs.Reports.{Given}
 use Rattle.files.specs.Devices.{deviceOf}
 use Rattle.files.specs.Blame.{toldOf, told}
+use Rattle.files.specs.declared.mirrors.Mirror.{Mirror}
 use Rattle.files.specs.declared.blame.Heard.{Heard}
 
-pub told-given : {x : DeviceError} {i h l st : ℕ} (a : Heard) → Given x i h l st → toldOf a h l st ≡ told a x
-told-given {x} {i} {h} {l} {st} a g =
-    ap (λ (d : Device). toldOf a (d .high) (d .low) st) (sym (g .device))
-    ∙ ap (toldOf a (deviceOf x .high) (deviceOf x .low)) (sym (g .status))
+pub told-given : {x : DeviceError} {i h l st : ℕ} (ms : List Mirror) (a : Heard) → Given x i h l st → toldOf ms a h l st ≡ told ms a x
+told-given {x} {i} {h} {l} {st} ms a g =
+    ap (λ (d : Device). toldOf ms a (d .high) (d .low) st) (sym (g .device))
+    ∙ ap (toldOf ms a (deviceOf x .high) (deviceOf x .low)) (sym (g .status))

@@ -1,15 +1,20 @@
 -- Invariants of the loops, each over any element and length, with the laws of a step and of the end, in this order: an array's length; a search;
--- a map; what stands after a place pulled down over it; what is chosen, counted and written to the front.
-use mathlib.Core.Path.{_≡_, refl, ap, sym, _∙_}
+-- a map; one place put or fetched; what stands after a place pulled down over it; what is chosen, counted and written to the front.
+use mathlib.Core.Path.{_≡_, refl, ap, sym, subst, _∙_}
 use mathlib.Core.List.{List, [], _∷_, _++_, map, append-assoc, append-nil, map-append}
 use mathlib.Core.Bool.{Bool, true, false, cond}
 use Prim.Native.Nat.{ℕ, zero, suc, _+_, _<_, _≤_}
 use native.Mathlib.Numerals.{add-one}
 use native.Mathlib.Omega.{arith}
-use lib.ListN.{getD, set, length, take, drop, length-set, length-append, length-map, drop-of-length-le}
-use lib.Seq.{drop-cons, take-suc, take-suc-set, drop-set-lt, set-split, take-all, split-at}
+use native.Mathlib.Decide.{ℕ-discrete}
+use lib.ListN.{getD, set, length, take, drop, length-set, length-append, length-map, drop-of-length-le, List·getD-eq-default}
+use lib.Dec.{eqb, leb}
+use lib.Seq.{set-getD, drop-cons, take-suc, take-suc-set, drop-set-lt, set-split, take-all, split-at}
+use borrow.Author.Tests.{le-leb, leb-true, leb-false, eq-eqb, ne-eqb}
 use Rattle.files.specs.Lists.{chosen, fill}
 use Rattle.files.specs.Places.{pull, leftOut, bump, first}
+use Rattle.files.specs.Mirrors.{blamedIf, accused}
+use Rattle.files.specs.declared.mirrors.Mirror.{Mirror}
 use Rattle.files.specs.declared.places.Found.{Found}
 use Rattle.files.specs.declared.places.Found.the-variants.{At, Nothing}
 use Rattle.files.proofs.Slots.{fill-length}
@@ -62,55 +67,114 @@ unfolding first
 found-below p [] k e = let z : _≡_ {A = ℕ} 0 1 = cc in absurd (omega arith)
 found-below p (x ∷ xs) k e = below-item (p x) (first p xs) k (length xs) e (λ j q. found-below p xs j q)
 
--- ---- a loop that maps a list by f: the list was l and is m, and the places before i are mapped
-unfoldable pub mapFirst : {A : Type 0} → (A → A) → ℕ → List A → List A
+-- ---- a loop that maps a list by f, which may depend on the place: the list was l and is m, and the places before i are mapped
+unfoldable pub mapFirst : {A : Type 0} → (ℕ → A → A) → ℕ → List A → List A
 mapFirst f zero l = l
 mapFirst f (suc n) [] = []
-mapFirst f (suc n) (x ∷ xs) = f x ∷ mapFirst f n xs
+mapFirst f (suc n) (x ∷ xs) = f 0 x ∷ mapFirst (λ k. f (suc k)) n xs
 
-module _ {A : Type 0} (f : A → A) where
-  mapFirst-next : (i : ℕ) (l : List A) (d : A) → getD (mapFirst f i l) i d ≡ getD l i d
+module _ {A : Type 0} where
+  mapFirst-next : (f : ℕ → A → A) (i : ℕ) (l : List A) (d : A) → getD (mapFirst f i l) i d ≡ getD l i d
   unfolding mapFirst
-  mapFirst-next zero l d = refl
-  mapFirst-next (suc i) [] d = refl
-  mapFirst-next (suc i) (x ∷ xs) d = mapFirst-next i xs d
+  mapFirst-next f zero l d = refl
+  mapFirst-next f (suc i) [] d = refl
+  mapFirst-next f (suc i) (x ∷ xs) d = mapFirst-next (λ k. f (suc k)) i xs d
 
-  mapFirst-length : (i : ℕ) (l : List A) → length (mapFirst f i l) ≡ length l
+  mapFirst-length : (f : ℕ → A → A) (i : ℕ) (l : List A) → length (mapFirst f i l) ≡ length l
   unfolding mapFirst
-  mapFirst-length zero l = refl
-  mapFirst-length (suc i) [] = refl
-  mapFirst-length (suc i) (x ∷ xs) = ap suc (mapFirst-length i xs)
+  mapFirst-length f zero l = refl
+  mapFirst-length f (suc i) [] = refl
+  mapFirst-length f (suc i) (x ∷ xs) = ap suc (mapFirst-length (λ k. f (suc k)) i xs)
 
-  map-more : (i : ℕ) (l : List A) (d : A) → i < length l → set (mapFirst f i l) i (f (getD l i d)) ≡ mapFirst f (suc i) l
+  map-more : (f : ℕ → A → A) (i : ℕ) (l : List A) (d : A) → i < length l → set (mapFirst f i l) i (f i (getD l i d)) ≡ mapFirst f (suc i) l
   unfolding mapFirst
-  map-more zero [] d h = absurd (omega arith)
-  map-more zero (x ∷ xs) d h = refl
-  map-more (suc i) [] d h = refl
-  map-more (suc i) (x ∷ xs) d h = ap {B = List A} (λ t. f x ∷ t) (map-more i xs d (omega arith))
+  map-more f zero [] d h = absurd (omega arith)
+  map-more f zero (x ∷ xs) d h = refl
+  map-more f (suc i) [] d h = refl
+  map-more f (suc i) (x ∷ xs) d h = ap {B = List A} (λ t. f 0 x ∷ t) (map-more (λ k. f (suc k)) i xs d (omega arith))
 
-  mapFirst-all : (i : ℕ) (l : List A) → length l ≤ i → mapFirst f i l ≡ map f l
+  mapFirst-all : (f : A → A) (i : ℕ) (l : List A) → length l ≤ i → mapFirst (λ k. f) i l ≡ map f l
   unfolding mapFirst
-  mapFirst-all zero [] h = refl
-  mapFirst-all zero (x ∷ xs) h = absurd (omega arith)
-  mapFirst-all (suc i) [] h = refl
-  mapFirst-all (suc i) (x ∷ xs) h = ap {B = List A} (λ t. f x ∷ t) (mapFirst-all i xs (omega arith))
+  mapFirst-all f zero [] h = refl
+  mapFirst-all f zero (x ∷ xs) h = absurd (omega arith)
+  mapFirst-all f (suc i) [] h = refl
+  mapFirst-all f (suc i) (x ∷ xs) h = ap {B = List A} (λ t. f x ∷ t) (mapFirst-all f i xs (omega arith))
 
-pub record Mapping {A : Type 0} (f : A → A) (l m : List A) (i : ℕ) : Type 0 where
+pub record Mapping {A : Type 0} (f : ℕ → A → A) (l m : List A) (i : ℕ) : Type 0 where
   pub so-far : m ≡ mapFirst f i l
 
-pub mapping-none : {A : Type 0} (f : A → A) (l : List A) → Mapping f l l 0
+pub mapping-none : {A : Type 0} (f : ℕ → A → A) (l : List A) → Mapping f l l 0
 unfolding mapFirst
 mapping-none f l = record { so-far = refl }
 
-module _ {A : Type 0} {f : A → A} {l m : List A} {i : ℕ} (s : Mapping f l m i) where
+module _ {A : Type 0} {f : ℕ → A → A} {l m : List A} {i : ℕ} (s : Mapping f l m i) where
   pub mapping-length : length m ≡ length l
   mapping-length = rw (s .so-far) (mapFirst-length f i l)
 
-  pub mapping-more : (d : A) → i < length l → (y : A) → y ≡ f (getD m i d) → Mapping f l (set m i y) (i + 1)
+  pub mapping-more : (d : A) → i < length l → (y : A) → y ≡ f i (getD m i d) → Mapping f l (set m i y) (i + 1)
   mapping-more d h y e = record { so-far = rw (e, s .so-far, mapFirst-next f i l d, add-one) (map-more f i l d h) }
 
-  pub mapped : length l ≤ i → m ≡ map f l
-  mapped h = s .so-far ∙ mapFirst-all f i l h
+pub mapped : {A : Type 0} {f : A → A} {l m : List A} {i : ℕ} → Mapping (λ k. f) l m i → length l ≤ i → m ≡ map f l
+mapped {f} {l} {i} s h = s .so-far ∙ mapFirst-all f i l h
+
+-- flags by place blame mirrors by place
+flags-first : (fs : List Bool) (i : ℕ) (ms : List Mirror) → length fs ≡ length ms → length ms ≤ i → mapFirst (λ k. blamedIf (getD fs k false)) i ms ≡ accused fs ms
+unfolding mapFirst accused
+flags-first fs zero [] e h = refl
+flags-first fs zero (m ∷ ms) e h = absurd (omega arith)
+flags-first fs (suc i) [] e h = refl
+flags-first [] (suc i) (m ∷ ms) e h = absurd (omega (arith, e))
+flags-first (b ∷ fs) (suc i) (m ∷ ms) e h = ap {B = List Mirror} (λ t. blamedIf b m ∷ t) (flags-first fs i ms (omega (arith, e)) (omega arith))
+
+pub mapped-flags : (fs : List Bool) (l : List Mirror) {m : List Mirror} {i : ℕ} → Mapping (λ k. blamedIf (getD fs k false)) l m i → length fs ≡ length l → length l ≤ i → m ≡ accused fs l
+mapped-flags fs l {i} s e h = s .so-far ∙ flags-first fs i l e h
+
+-- ---- a loop that goes over all places, to put y at one of them, `at`, or to fetch g of what is there, has come to the place i
+pub data Putting {A : Type 0} (at : ℕ) (y : A) (l m : List A) (i : ℕ) : Type 0 where
+  to-put : i ≤ at → m ≡ l → Putting at y l m i
+  put : at < i → m ≡ set l at y → Putting at y l m i
+
+pub data Fetching {A B : Type 0} (g : A → B) (d : A) (l : List A) (at : ℕ) (b : B) (i : ℕ) : Type 0 where
+  to-fetch : i ≤ at → b ≡ g d → Fetching g d l at b i
+  fetched : at < i → b ≡ g (getD l at d) → Fetching g d l at b i
+
+put-none : {A : Type 0} (l : List A) (at : ℕ) (y : A) → length l ≤ at → set l at y ≡ l
+put-none [] at y h = refl
+put-none (x ∷ xs) zero y h = absurd (omega arith)
+put-none {A} (x ∷ xs) (suc at) y h = ap {B = List A} (λ t. x ∷ t) (put-none xs at y (omega arith))
+
+-- a step: z is y at the place, and elsewhere what stands there
+module _ {A : Type 0} (at i : ℕ) (y : A) (l m : List A) (d z : A) (e : z ≡ cond (eqb i at) y (getD m i d)) where
+  elsewhere : (i ≡ at → ⊥) → set m i z ≡ m
+  elsewhere q = rw (e, ne-eqb i at q) (set-getD m i d)
+
+  put-now : i ≤ at → m ≡ l → Dec (i ≡ at) → Putting at y l (set m i z) (i + 1)
+  put-now h p (yes q) = put (omega (arith, q)) (rw (e, eq-eqb i at q, p, q))
+  put-now h p (no q) = to-put (omega (arith, h, q)) (elsewhere q ∙ p)
+
+  pub putting-more : Putting at y l m i → Putting at y l (set m i z) (i + 1)
+  putting-more (to-put h p) = put-now h p (ℕ-discrete i at)
+  putting-more (put h p) = put (omega (arith, h)) (elsewhere (λ q. omega (arith, h, q)) ∙ p)
+
+pub putting-done : {A : Type 0} (at : ℕ) (y : A) (l : List A) {m : List A} {i : ℕ} → length l ≤ i → Putting at y l m i → m ≡ set l at y
+putting-done at y l k (to-put h p) = p ∙ sym (put-none l at y (omega (arith, h, k)))
+putting-done at y l k (put h p) = p
+
+module _ {A B : Type 0} (g : A → B) (d : A) (l : List A) (at i : ℕ) (b z : B) (e : z ≡ cond (eqb i at) (g (getD l i d)) b) where
+  not-here : (i ≡ at → ⊥) → z ≡ b
+  not-here q = rw (e, ne-eqb i at q)
+
+  fetch-now : i ≤ at → b ≡ g d → Dec (i ≡ at) → Fetching g d l at z (i + 1)
+  fetch-now h p (yes q) = fetched (omega (arith, q)) (rw (e, eq-eqb i at q, q))
+  fetch-now h p (no q) = to-fetch (omega (arith, h, q)) (not-here q ∙ p)
+
+  pub fetching-more : Fetching g d l at b i → Fetching g d l at z (i + 1)
+  fetching-more (to-fetch h p) = fetch-now h p (ℕ-discrete i at)
+  fetching-more (fetched h p) = fetched (omega (arith, h)) (not-here (λ q. omega (arith, h, q)) ∙ p)
+
+pub fetching-done : {A B : Type 0} (g : A → B) (d : A) (l : List A) (at : ℕ) {b : B} {i : ℕ} → length l ≤ i → Fetching g d l at b i → b ≡ g (getD l at d)
+fetching-done g d l at k (to-fetch h p) = p ∙ sym (ap g (List·getD-eq-default l d (omega (arith, h, k))))
+fetching-done g d l at k (fetched h p) = p
 
 -- ---- a loop that pulls down, with e at the last place, n, has come to the place i; w is the list that it is to end with
 pub record Pulling {A : Type 0} (e : A) (n : ℕ) (w l : List A) (i : ℕ) : Type 0 where
@@ -137,6 +201,35 @@ module _ {A : Type 0} {e : A} {n : ℕ} {w l : List A} {i : ℕ} (s : Pulling e 
       let p : length l ≤ suc n = omega (arith, s .long) in
       let m : drop (suc n) l ≡ [] = drop-of-length-le l p in
       sym (s .rest ∙ rw (h, drop-cons l n d a, m, ← q) (sym (set-split l n z a ∙ rw m)))
+
+-- the same over all places: before `at` nothing is pulled
+abbrev pub reach : ℕ → ℕ → ℕ
+reach at i = cond (leb at i) i at
+
+reach-none : (at : ℕ) → reach at 0 ≡ at
+reach-none at = by (leb at 0) refl
+  where
+    by : (b : Bool) → leb at 0 ≡ b → cond b 0 at ≡ at
+    by true r = omega (arith, leb-true at 0 r)
+    by false r = refl
+
+pub pulling-none : {A : Type 0} (e : A) (n at : ℕ) (l : List A) → length l ≡ suc n → Pulling e n (leftOut e at l) l (reach at 0)
+pulling-none e n at l h = rw (reach-none at) (record { rest = refl; long = h })
+
+pub pulled-all : {A : Type 0} {e : A} {n : ℕ} {w l : List A} (at i : ℕ) (d : A) → Pulling e n w l (reach at i) → at ≤ n → i ≡ n → (z : A) → z ≡ e → set l n z ≡ w
+pulled-all at i d s h k z q = pulled s d (rw (le-leb at i (omega (arith, h, k))) k) z q
+
+module _ {A : Type 0} {e : A} {n : ℕ} {w l : List A} (at i : ℕ) (d : A) (lt : i < n) where
+  pub pulling-next : Pulling e n w l (reach at i) → (z : A) → z ≡ cond (leb at i) (getD l (i + 1) d) (getD l i d) → Pulling e n w (set l i z) (reach at (i + 1))
+  pulling-next s z q = by (leb at i) refl s q
+    where
+      by : (b : Bool) → leb at i ≡ b → Pulling e n w l (cond b i at) → z ≡ cond b (getD l (i + 1) d) (getD l i d) → Pulling e n w (set l i z) (reach at (i + 1))
+      by true r t p = rw (le-leb at (i + 1) (omega (arith, leb-true at i r))) (pulling-on t d lt z p)
+      by false r t p = rw (p, set-getD l i d) (subst (Pulling e n w l) (sym (still (leb at (i + 1)) refl)) t)
+        where
+          still : (c : Bool) → leb at (i + 1) ≡ c → cond c (i + 1) at ≡ at
+          still true v = omega (arith, leb-true at (i + 1) v, leb-false at i r)
+          still false v = refl
 
 -- ---- what p chooses of a list
 module _ {A : Type 0} (p : A → Bool) where

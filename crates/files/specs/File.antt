@@ -11,8 +11,8 @@ use Rattle.wire.specs.declared.request.Request.{Request}
 use Rattle.wire.specs.declared.request.Request.the-variants as request
 use Rattle.files.specs.Lists.{chosen, fill}
 use Rattle.files.specs.Places.{first, leftOut}
-use Rattle.files.specs.Mirrors.{noMirrors, unblamed, sourceIn}
-use Rattle.files.specs.Blame.{heardOf}
+use Rattle.files.specs.Mirrors.{noMirrors, unblamed, accused, sourceIn}
+use Rattle.files.specs.Blame.{heardNothing, heardOf}
 use Rattle.files.specs.Intents.{noIntent, noIntents, intentOf, isIntent, isFree, isKept, firstTaken, reclaimedIf, unreclaimedIntent}
 use Rattle.files.specs.declared.mirrors.Mirror.{Mirror}
 use Rattle.files.specs.declared.intents.Intent.{Intent}
@@ -105,19 +105,27 @@ forgettable n g f = cond g 10013 (cond (isFile n f) (cond (f .marked) 10008 (con
 
 -- ---- LAYOUTRETURN
 -- step 7: a report that names an unknown device only marks
-unfoldable pub blamedFile : Heard → File → File
-blamedFile h f = cond (h .unknown) (withMark true f) (cond (h .failed) (withMark true (withMirrors (h .mirrors) f)) f)
+unfoldable pub heededFile : Heard → File → File
+heededFile h f = cond (h .unknown) (withMark true f) (cond (h .failed) (withMark true (withMirrors (accused (h .blamed) (f .mirrors)) f)) f)
 
-abbrev pub reports : Heard → File → Found → FileAnswered
-reports h f Nothing = fileAnswered 10034 f
-reports h f (At i) = fileAnswered 0 (blamedFile h f)
+-- the status of what was heard, and the file that heeds it; a refusal was heard as nothing, and changes nothing
+abbrev pub heeds : File → Heard → FileAnswered
+heeds f h = fileAnswered (h .status) (heededFile h f)
 
-abbrev pub heardFile : ℕ → ℕ → Heard → File → FileAnswered
-heardFile n c h f = cond (eqb (h .status) 0) (ofFile n f (reports h f (first (isIntent c) (f .intents)))) (fileAnswered (h .status) f)
+-- step 6
+abbrev pub ofClient : Heard → Found → Heard
+ofClient h Nothing = heardNothing 10034
+ofClient h (At i) = h
+
+abbrev pub ofIntent : ℕ → ℕ → File → Heard → Heard
+ofIntent n c f h = cond (isFile n f) (ofClient h (first (isIntent c) (f .intents))) (heardNothing 70)
+
+abbrev pub ifWhole : Heard → Heard → Heard
+ifWhole h k = cond (eqb (h .status) 0) k h
 
 -- steps 5 to 7
-unfoldable pub reportedFile : ℕ → ℕ → Report → File → FileAnswered
-reportedFile n c p f = heardFile n c (heardOf (f .mirrors) p) f
+unfoldable pub reportHeard : ℕ → ℕ → Report → File → Heard
+reportHeard n c p f = ifWhole (heardOf (f .mirrors) p) (ofIntent n c f (heardOf (f .mirrors) p))
 
 -- stands for "handed on" where a status is answered
 abbrev pub handedOnCode : ℕ
@@ -128,14 +136,17 @@ abbrev pub phaseOf : Bool → Bool → ℕ
 phaseOf g true = cond g 0 10033
 phaseOf g false = cond g 10013 handedOnCode
 
-abbrev pub asksFile : ℕ → Bool → ℕ → List ℕ → File → Request → FileAnswered
-asksFile n g c s f (request.Refused k) = fileAnswered k f
-asksFile n g c s f request.Bulk = fileAnswered handedOnCode f
-asksFile n g c s f (request.File a k) = cond (eqb (phaseOf g a) 0) (reportedFile n c (reportOf (bodyOf s)) f) (fileAnswered (phaseOf g a) f)
+abbrev pub asksHeard : ℕ → Bool → ℕ → List ℕ → File → Request → Heard
+asksHeard n g c s f (request.Refused k) = heardNothing k
+asksHeard n g c s f request.Bulk = heardNothing handedOnCode
+asksHeard n g c s f (request.File a k) = cond (eqb (phaseOf g a) 0) (reportHeard n c (reportOf (bodyOf s)) f) (heardNothing (phaseOf g a))
 
 -- steps 1 to 7
+unfoldable pub returnedHeard : ℕ → Bool → ℕ → List ℕ → File → Heard
+returnedHeard n g c s f = asksHeard n g c s f (requestOf s)
+
 unfoldable pub returnedFile : ℕ → Bool → ℕ → List ℕ → File → FileAnswered
-returnedFile n g c s f = asksFile n g c s f (requestOf s)
+returnedFile n g c s f = heeds f (returnedHeard n g c s f)
 
 -- ---- restart and the end of grace
 unfoldable pub restartedFile : File → File

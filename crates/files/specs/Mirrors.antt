@@ -37,8 +37,14 @@ withBlame b m = record { high = m .high; low = m .low; present = m .present; bla
 abbrev pub unblamed : Mirror → Mirror
 unblamed m = withBlame false m
 
-abbrev pub blamedMirror : Mirror → Mirror
-blamedMirror m = withBlame true m
+abbrev pub blamedIf : Bool → Mirror → Mirror
+blamedIf b m = withBlame (cond b true (m .blamed)) m
+
+-- a mirror is blamed if its flag is up, or if it was
+unfoldable pub accused : List Bool → List Mirror → List Mirror
+accused bs [] = []
+accused [] (m ∷ ms) = m ∷ ms
+accused (b ∷ bs) (m ∷ ms) = blamedIf b m ∷ accused bs ms
 
 -- ---- the source
 unfoldable pub sourceIn : List Mirror → ℕ

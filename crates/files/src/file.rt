@@ -10,7 +10,7 @@ use wire::request::Request;
 ghost use mathlib.Core.Path.{_≡_};
 ghost use Prim.Native.Nat.{_<_};
 ghost use Rattle.wire.specs.Report.{reportOf};
-ghost use Rattle.files.specs.File.{noFile, blankFile, fileOf, isFile, isVacant, openedFile, reclaimedFile, closedFile, repairedFile, forgettable, restartedFile, endedFile, isListed, isReady, sourceOf, unreclaimedBar, blamedFile, reportedFile, phaseOf, returnedFile};
+ghost use Rattle.files.specs.File.{noFile, blankFile, fileOf, isFile, isVacant, openedFile, reclaimedFile, closedFile, repairedFile, forgettable, restartedFile, endedFile, isListed, isReady, sourceOf, unreclaimedBar, heededFile, reportHeard, phaseOf, returnedHeard, returnedFile};
 
 // The wide fields stand first. A place of the record is a file's if `used`.
 #[repr(C)]
@@ -117,7 +117,8 @@ impl File {
             };
         };
         let x = Intent::new(client);
-        self.intents[i] = x;
+        let xs = crate::intents::placed(old, i, x);
+        self.intents = xs;
         FileAnswered {
             status: 0,
             file: self,
@@ -175,8 +176,8 @@ impl File {
                 file: self,
             };
         };
-        let x = self.intents[i];
-        let barred = unreclaimed(grace, x.reclaimed);
+        let came = crate::intents::came(old, i);
+        let barred = unreclaimed(grace, came);
         if barred {
             return FileAnswered {
                 status: 10025,
@@ -248,16 +249,55 @@ impl File {
         0
     }
 
-    // The file once its report has been heard: step 7 of a LAYOUTRETURN.
-    fn blame(mut self, h: Heard) -> File
-        ensures { λ r. ⌜ r ≡ blamedFile h self ⌝ }
+    // Steps 5 to 7 of a LAYOUTRETURN: what its report says of the file, or 10036, 10004; 70; 10034.
+    fn report(self, number: u64, client: u64, body: &[u8]) -> Heard
+        ensures { λ r. ⌜ r ≡ reportHeard number client (reportOf (now (body .entry))) self ⌝ }
+    {
+        let ms = self.mirrors;
+        let h = listen(ms, body);
+        if h.status != 0 {
+            return h;
+        }
+        let hit = self.is(number);
+        if !hit {
+            return Heard::nothing(70);
+        }
+        let xs = self.intents;
+        let Found::At(_) = crate::intents::holding(xs, client) else {
+            return Heard::nothing(10034);
+        };
+        h
+    }
+
+    // Steps 1 to 7 of a LAYOUTRETURN, but for the change: what is heard; HANDED_ON where it is handed on.
+    pub fn heard(self, number: u64, grace: bool, client: u64, request: &[u8]) -> Heard
+        ensures { λ r. ⌜ r ≡ returnedHeard number grace client (now (request .entry)) self ⌝ }
+    {
+        match wire::request::read(request) {
+            Request::Refused(k) => Heard::nothing(k),
+            Request::Bulk => Heard::nothing(HANDED_ON),
+            Request::File { anonymous, len: _ } => {
+                let status = phase(grace, anonymous);
+                if status != 0 {
+                    return Heard::nothing(status);
+                }
+                self.report(number, client, wire::body::body(request))
+            }
+        }
+    }
+
+    // The file once it has been heard: step 7 of a LAYOUTRETURN.
+    pub fn heed(mut self, h: Heard) -> File
+        ensures { λ r. ⌜ r ≡ heededFile h self ⌝ }
     {
         if h.unknown {
             self.marked = true;
             return self;
         }
         if h.failed {
-            let ms = h.mirrors;
+            let old = self.mirrors;
+            let flags = h.blamed;
+            let ms = crate::mirrors::accused(old, flags);
             self.mirrors = ms;
             self.marked = true;
             return self;
@@ -265,60 +305,15 @@ impl File {
         self
     }
 
-    // Steps 5 to 7 of a LAYOUTRETURN: 10036, 10004; 70; 10034.
-    pub fn report(self, number: u64, client: u64, body: &[u8]) -> FileAnswered
-        ensures { λ r. ⌜ r ≡ reportedFile number client (reportOf (now (body .entry))) self ⌝ }
-    {
-        let ms = self.mirrors;
-        let h = listen(ms, body);
-        let status = h.status;
-        if status != 0 {
-            return FileAnswered {
-                status: status,
-                file: self,
-            };
-        }
-        let hit = self.is(number);
-        if !hit {
-            return FileAnswered {
-                status: 70,
-                file: self,
-            };
-        }
-        let xs = self.intents;
-        let Found::At(_) = crate::intents::holding(xs, client) else {
-            return FileAnswered {
-                status: 10034,
-                file: self,
-            };
-        };
-        let f = self.blame(h);
-        FileAnswered { status: 0, file: f }
-    }
-
     // Steps 1 to 7 of a LAYOUTRETURN; HANDED_ON where it is handed on.
     pub fn layoutreturn(self, number: u64, grace: bool, client: u64, request: &[u8]) -> FileAnswered
         ensures { λ r. ⌜ r ≡ returnedFile number grace client (now (request .entry)) self ⌝ }
     {
-        match wire::request::read(request) {
-            Request::Refused(k) => FileAnswered {
-                status: k,
-                file: self,
-            },
-            Request::Bulk => FileAnswered {
-                status: HANDED_ON,
-                file: self,
-            },
-            Request::File { anonymous, len: _ } => {
-                let status = phase(grace, anonymous);
-                if status != 0 {
-                    return FileAnswered {
-                        status: status,
-                        file: self,
-                    };
-                }
-                self.report(number, client, wire::body::body(request))
-            }
+        let h = self.heard(number, grace, client, request);
+        let f = self.heed(h);
+        FileAnswered {
+            status: h.status,
+            file: f,
         }
     }
 

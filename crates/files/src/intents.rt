@@ -3,7 +3,8 @@ use crate::places::Found;
 ghost use mathlib.Core.Path.{_≡_};
 ghost use mathlib.Core.List.{map};
 ghost use Prim.Native.Nat.{_<_};
-ghost use lib.ListN.{replicate};
+ghost use mathlib.Core.Bool.{cond};
+ghost use lib.ListN.{getD, set, replicate};
 ghost use Rattle.files.specs.Lists.{chosen, fill};
 ghost use Rattle.files.specs.Places.{first, leftOut};
 ghost use Rattle.files.specs.Intents.{noIntent, intentOf, isIntent, isFree, isKept, reclaimedIf, unreclaimedIntent, firstTaken};
@@ -36,6 +37,25 @@ impl Intent {
             client: client,
             taken: true,
             reclaimed: false,
+        }
+    }
+
+    // The first of two places, or the second; by its fields, so that the compiler copies no padding.
+    fn chosen(first: bool, x: Intent, y: Intent) -> Intent
+        ensures { λ r. ⌜ r ≡ cond first x y ⌝ }
+    {
+        if first {
+            Intent {
+                client: x.client,
+                taken: x.taken,
+                reclaimed: x.reclaimed,
+            }
+        } else {
+            Intent {
+                client: y.client,
+                taken: y.taken,
+                reclaimed: y.reclaimed,
+            }
         }
     }
 
@@ -131,15 +151,53 @@ pub(crate) fn without(intents: [Intent; 8], at: usize) -> [Intent; 8]
     ensures { λ r. ⌜ r ≡ leftOut noIntent at intents ⌝ }
 {
     let mut xs = intents;
-    let mut i = at;
+    let mut i: usize = 0;
     while i < 7 {
+        let x = xs[i];
         let y = xs[i + 1];
-        xs[i] = y;
+        let z = Intent::chosen(at <= i, y, x);
+        xs[i] = z;
         i = i + 1;
     }
     let last = Intent::none();
     xs[7] = last;
     xs
+}
+
+// The intents with `x` at `at`; each place is written by its own number, which the compiler can keep in registers.
+pub(crate) fn placed(intents: [Intent; 8], at: usize, x: Intent) -> [Intent; 8]
+    ensures { λ r. ⌜ r ≡ set intents at x ⌝ }
+{
+    let mut xs = intents;
+    let mut i: usize = 0;
+    while i < 8 {
+        let y = xs[i];
+        let z = Intent::chosen(i == at, x, y);
+        xs[i] = z;
+        i = i + 1;
+    }
+    xs
+}
+
+// Whether the client of the intent at `at` has reclaimed.
+pub(crate) fn came(intents: [Intent; 8], at: usize) -> bool
+    ensures { λ r. ⌜ r ≡ getD intents at noIntent .reclaimed ⌝ }
+{
+    let mut b = false;
+    let mut i: usize = 0;
+    while i < 8 {
+        let x = intents[i];
+        b = either(i == at, x.reclaimed, b);
+        i = i + 1;
+    }
+    b
+}
+
+// The first of two answers, or the second.
+fn either(first: bool, x: bool, y: bool) -> bool
+    ensures { λ r. ⌜ r ≡ cond first x y ⌝ }
+{
+    if first { x } else { y }
 }
 
 // The intents that stay at the end of grace, in their order, from the first place on.

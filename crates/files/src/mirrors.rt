@@ -5,7 +5,7 @@ ghost use mathlib.Core.Path.{_≡_};
 ghost use mathlib.Core.List.{map};
 ghost use Prim.Native.Nat.{_<_};
 ghost use Rattle.files.specs.Places.{first};
-ghost use Rattle.files.specs.Mirrors.{noMirror, newMirror, isAt, isGood, unblamed, blamedMirror, sourceIn};
+ghost use Rattle.files.specs.Mirrors.{noMirror, newMirror, isAt, isGood, unblamed, blamedIf, accused, sourceIn};
 
 // A place for a mirror: the two halves of its device's id, whether the place is used, and whether its device is blamed.
 #[repr(C)]
@@ -61,11 +61,14 @@ impl Mirror {
         if self.present { !self.blamed } else { false }
     }
 
-    // The place once its device is blamed.
-    pub fn blame(mut self) -> Mirror
-        ensures { λ r. ⌜ r ≡ blamedMirror self ⌝ }
+    // The place once its device is blamed, if it is.
+    pub(crate) fn blame(mut self, faulty: bool) -> Mirror
+        ensures { λ r. ⌜ r ≡ blamedIf faulty self ⌝ }
     {
-        self.blamed = true;
+        if faulty {
+            self.blamed = true;
+            return self;
+        }
         self
     }
 
@@ -129,6 +132,22 @@ pub fn cleared(mirrors: [Mirror; 4]) -> [Mirror; 4]
     while i < 4 {
         let m = ms[i];
         let n = m.clear();
+        ms[i] = n;
+        i = i + 1;
+    }
+    ms
+}
+
+// The mirrors with those blamed whose flag is up.
+pub(crate) fn accused(mirrors: [Mirror; 4], flags: [bool; 4]) -> [Mirror; 4]
+    ensures { λ r. ⌜ r ≡ accused flags mirrors ⌝ }
+{
+    let mut ms = mirrors;
+    let mut i: usize = 0;
+    while i < 4 {
+        let m = ms[i];
+        let b = flags[i];
+        let n = m.blame(b);
         ms[i] = n;
         i = i + 1;
     }

@@ -10,7 +10,7 @@ use Rattle.files.proofs.intents.reclaimed.Statement.{statement}
 use Rattle.files.proofs.intents.reclaimed.Tie as tie
 
 abbrev Inv-loop : tie.InvT-loop
-Inv-loop client xs₀ i₀ xs i = Mapping (reclaimedIf client) xs₀ xs i
+Inv-loop client xs₀ i₀ xs i = Mapping (λ k. reclaimedIf client) xs₀ xs i
 
 abbrev μ-loop : tie.MeasureT-loop
 μ-loop client xs₀ i₀ xs i = 8 - i

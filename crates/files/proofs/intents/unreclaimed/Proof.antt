@@ -10,7 +10,7 @@ use Rattle.files.proofs.intents.unreclaimed.Statement.{statement}
 use Rattle.files.proofs.intents.unreclaimed.Tie as tie
 
 abbrev Inv-loop : tie.InvT-loop
-Inv-loop xs₀ i₀ xs i = Mapping (unreclaimedIntent) xs₀ xs i
+Inv-loop xs₀ i₀ xs i = Mapping (λ k. unreclaimedIntent) xs₀ xs i
 
 abbrev μ-loop : tie.MeasureT-loop
 μ-loop xs₀ i₀ xs i = 8 - i

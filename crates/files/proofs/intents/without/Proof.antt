@@ -1,22 +1,32 @@
--- The loop pulls the later places down: `Pulling` holds at its head.
-use mathlib.Core.Path.{refl}
+-- The loop goes over all places and pulls the later ones down: `Pulling` holds at its head.
+use mathlib.Core.Path.{_≡_, refl}
 use Prim.Native.Nat.{_≤_, _-_}
-use native.Mathlib.Omega.{arith}
-use borrow.Author.Needs.{needs}
-use Rattle.files.proofs.Loops.{Pulling, pulling-on, pulled}
+use lib.ListN.{length}
+use Rattle.files.proofs.Loops.{mapped-length, Pulling, reach, pulling-none, pulling-next, pulled-all}
 use Rattle.files.specs.Places.{leftOut}
 use Rattle.files.specs.Intents.{noIntent}
+use native.Mathlib.Omega.{arith}
+use borrow.Author.Needs.{needs}
 use Rattle.files.proofs.intents.without.Statement.{statement}
 use Rattle.files.proofs.intents.without.Tie as tie
 
 abbrev Inv-loop : tie.InvT-loop
-Inv-loop at xs₀ i₀ xs i = (i ≤ 7) × Pulling noIntent 7 (leftOut noIntent at xs₀) xs i
+Inv-loop at xs₀ i₀ xs i = (i ≤ 7) × Pulling noIntent 7 (leftOut noIntent at xs₀) xs (reach at i)
 
 abbrev μ-loop : tie.MeasureT-loop
 μ-loop at xs₀ i₀ xs i = 7 - i
 
+long : (c : tie.Start Inv-loop μ-loop) → length (c .args .intents) ≡ 8
+long c = search (mapped-length, needs)
+
 loop-holds : tie.Need-loop-holds Inv-loop μ-loop
-loop-holds c = search needs
+loop-holds c = (omega arith, pulling-none noIntent 7 (c .args .at) (c .args .intents) (long c))
+
+mul-x : tie.Need-mul-x Inv-loop μ-loop
+mul-x c = omega arith
+
+array-copy-out-x : tie.Need-array-copy-out-x Inv-loop μ-loop
+array-copy-out-x c = omega arith
 
 add-y : tie.Need-add-y Inv-loop μ-loop
 add-y c = omega arith
@@ -26,6 +36,9 @@ mul-y c = omega arith
 
 array-copy-out-y : tie.Need-array-copy-out-y Inv-loop μ-loop
 array-copy-out-y c = omega arith
+
+chosen-requires : tie.Need-chosen-requires Inv-loop μ-loop
+chosen-requires c κs = search needs
 
 mul-xs : tie.Need-mul-xs Inv-loop μ-loop
 mul-xs c = omega arith
@@ -40,7 +53,7 @@ loop-less : tie.Need-loop-less Inv-loop μ-loop
 loop-less c = omega arith
 
 loop-again : tie.Need-loop-again Inv-loop μ-loop
-loop-again c = (omega arith, pulling-on (c .before .before .loop .inv .1) noIntent (c .before .loop-test .taken) _ refl)
+loop-again c = (omega arith, pulling-next (c .before .before .before .before .before .args .at) (c .before .before .before .before .loop .i) noIntent (c .before .before .before .loop-test .taken) (c .before .before .before .before .loop .inv .1) _ (c .chosen .ensures))
 
 none-requires : tie.Need-none-requires Inv-loop μ-loop
 none-requires c κs = search needs
@@ -49,7 +62,7 @@ array-set-from-xs-2 : tie.Need-array-set-from-xs-2 Inv-loop μ-loop
 array-set-from-xs-2 c = omega arith
 
 returns : tie.Need-returns Inv-loop μ-loop
-returns c = pulled (c .before .before .loop .inv .1) noIntent (omega arith) _ (c .none .ensures)
+returns c = pulled-all (c .before .before .before .args .at) (c .before .before .loop .i) noIntent (c .before .before .loop .inv .1) (omega (arith, c .before .before .before .pre)) (omega arith) _ (c .none .ensures)
 
 pub without-spec : {M : Type 1} → statement M
 without-spec =
@@ -58,9 +71,12 @@ without-spec =
     Inv-loop
     μ-loop
     loop-holds
+    mul-x
+    array-copy-out-x
     add-y
     mul-y
     array-copy-out-y
+    chosen-requires
     mul-xs
     array-set-from-xs
     add-i

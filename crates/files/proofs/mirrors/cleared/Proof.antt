@@ -10,7 +10,7 @@ use Rattle.files.proofs.mirrors.cleared.Statement.{statement}
 use Rattle.files.proofs.mirrors.cleared.Tie as tie
 
 abbrev Inv-loop : tie.InvT-loop
-Inv-loop ms₀ i₀ ms i = Mapping (unblamed) ms₀ ms i
+Inv-loop ms₀ i₀ ms i = Mapping (λ k. unblamed) ms₀ ms i
 
 abbrev μ-loop : tie.MeasureT-loop
 μ-loop ms₀ i₀ ms i = 4 - i

@@ -1,23 +1,23 @@
 -- Each return rewrites with the tests that led there.
 use mathlib.Core.Path.{_≡_, sym, _∙_}
 use Prim.Native.Nat.{_<_, _-_}
-use native.Mathlib.Omega.{arith}
 use lib.ListN.{length}
-use borrow.Author.Needs.{needs}
 use borrow.Author.Tests.{not-true, not-false}
 use Rattle.files.proofs.Loops.{mapped-length, found-below}
 use Rattle.files.specs.Places.{first}
 use Rattle.files.specs.declared.places.Found.the-variants.{At}
 use Rattle.files.specs.Intents.{isIntent}
 use Rattle.files.specs.File.{closedFile}
+use native.Mathlib.Omega.{arith}
+use borrow.Author.Needs.{needs}
 use Rattle.files.proofs.file.File.close.Statement.{statement}
 use Rattle.files.proofs.file.File.close.Tie as tie
 
-long : (c : tie.Start) → length (c .args .t1 .intents) ≡ 8
+long : (c : tie.Start) → length (c .args .self .intents) ≡ 8
 long c = search (mapped-length, needs)
 
 -- the intent's place
-at : (c : tie.After-known-told) → first (isIntent (c .before .before .before .before .before .before .before .args .client)) (c .before .before .before .before .before .before .before .args .t1 .intents) ≡ At (c .before .i .given .0 .0)
+at : (c : tie.After-known-told) → first (isIntent (c .before .before .before .before .before .before .before .args .client)) (c .before .before .before .before .before .before .before .args .self .intents) ≡ At (c .before .i .given .0 .0)
 at c = sym (c .before .before .before .holding .ensures) ∙ c .before .i .given .1
 
 below : (c : tie.After-known-told) → c .before .i .given .0 .0 < 8
@@ -43,25 +43,22 @@ returns-2 : tie.Need-returns-2
 unfolding closedFile
 returns-2 c = rw (sym (c .before .before .before .before .before .is .ensures) ∙ not-false _ (c .before .before .before .before .if1 .left), sym (c .before .before .holding .ensures) ∙ c .enum-told .given .1)
 
-mul-x : tie.Need-mul-x
-mul-x c = omega (arith, below c)
-
-element-copy-out-x : tie.Need-element-copy-out-x
-element-copy-out-x c = below c
+came-requires : tie.Need-came-requires
+came-requires c κs = search needs
 
 unreclaimed-requires : tie.Need-unreclaimed-requires
 unreclaimed-requires c κs = search needs
 
 returns-3 : tie.Need-returns-3
 unfolding closedFile
-returns-3 c = rw (sym (c .before .before .before .before .before .before .before .before .before .is .ensures) ∙ not-false _ (c .before .before .before .before .before .before .before .before .if1 .left), at (c .before .before .before), sym (c .before .unreclaimed .ensures) ∙ c .if2 .taken)
+returns-3 c = rw (sym (c .before .before .before .before .before .before .before .before .before .is .ensures) ∙ not-false _ (c .before .before .before .before .before .before .before .before .if1 .left), at (c .before .before .before), ← c .before .before .came .ensures, sym (c .before .unreclaimed .ensures) ∙ c .if2 .taken)
 
 without-requires : tie.Need-without-requires
 without-requires c κs = below (c .before .before .before)
 
 returns-4 : tie.Need-returns-4
 unfolding closedFile
-returns-4 c = rw (sym (c .before .before .before .before .before .before .before .before .before .before .is .ensures) ∙ not-false _ (c .before .before .before .before .before .before .before .before .before .if1 .left), at (c .before .before .before .before), sym (c .before .before .unreclaimed .ensures) ∙ c .before .if2 .left, c .without .ensures)
+returns-4 c = rw (sym (c .before .before .before .before .before .before .before .before .before .before .is .ensures) ∙ not-false _ (c .before .before .before .before .before .before .before .before .before .if1 .left), at (c .before .before .before .before), ← c .before .before .before .came .ensures, sym (c .before .before .unreclaimed .ensures) ∙ c .before .if2 .left, c .without .ensures)
 
 pub close-spec : {M : Type 1} → statement M
 close-spec =
@@ -73,8 +70,7 @@ close-spec =
     enum-known-i
     enum-told
     returns-2
-    mul-x
-    element-copy-out-x
+    came-requires
     unreclaimed-requires
     returns-3
     without-requires

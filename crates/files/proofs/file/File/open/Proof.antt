@@ -1,27 +1,12 @@
 -- Each return rewrites with the tests that led there.
-use mathlib.Core.Path.{_≡_, sym, _∙_}
-use Prim.Native.Nat.{_<_, _-_}
-use native.Mathlib.Omega.{arith}
-use lib.ListN.{length}
-use borrow.Author.Needs.{needs}
+use mathlib.Core.Path.{sym, _∙_}
+use Prim.Native.Nat.{_-_}
 use borrow.Author.Tests.{not-true, not-false}
-use Rattle.files.proofs.Loops.{mapped-length, found-below}
-use Rattle.files.specs.Places.{first}
-use Rattle.files.specs.declared.places.Found.the-variants.{At}
-use Rattle.files.specs.Intents.{isFree}
 use Rattle.files.specs.File.{openedFile}
+use native.Mathlib.Omega.{arith}
+use borrow.Author.Needs.{needs}
 use Rattle.files.proofs.file.File.open.Statement.{statement}
 use Rattle.files.proofs.file.File.open.Tie as tie
-
-long : (c : tie.Start) → length (c .args .t1 .intents) ≡ 8
-long c = search (mapped-length, needs)
-
--- the free place
-free : (c : tie.After-known-told) → first isFree (c .before .before .before .before .before .before .before .before .before .before .before .args .t1 .intents) ≡ At (c .before .i .given .0 .0)
-free c = sym (c .before .before .before .room .ensures) ∙ c .before .i .given .1
-
-below : (c : tie.After-known-told) → c .before .i .given .0 .0 < 8
-below c = omega (arith, found-below isFree _ _ (free c), long (c .before .before .before .before .before .before .before .before .before .before .before))
 
 returns : tie.Need-returns
 unfolding openedFile
@@ -63,15 +48,12 @@ returns-4 c = rw (c .before .before .before .before .before .before .before .bef
 new-requires : tie.Need-new-requires
 new-requires c κs = search needs
 
-mul-x : tie.Need-mul-x
-mul-x c = omega (arith, below (c .before))
-
-element-set-from-x : tie.Need-element-set-from-x
-element-set-from-x c = below (c .before)
+placed-requires : tie.Need-placed-requires
+placed-requires c κs = search needs
 
 returns-5 : tie.Need-returns-5
 unfolding openedFile
-returns-5 c = rw (c .before .before .before .before .before .before .before .before .before .before .before .if1 .left, sym (c .before .before .before .before .before .before .before .before .before .before .is .ensures) ∙ not-false _ (c .before .before .before .before .before .before .before .before .before .if2 .left), sym (c .before .before .before .before .before .before .before .holding .ensures) ∙ c .before .before .before .before .before .enum-told2 .given .1, free (c .before), c .new .ensures)
+returns-5 c = rw (c .before .before .before .before .before .before .before .before .before .before .before .before .if1 .left, sym (c .before .before .before .before .before .before .before .before .before .before .before .is .ensures) ∙ not-false _ (c .before .before .before .before .before .before .before .before .before .before .if2 .left), sym (c .before .before .before .before .before .before .before .before .holding .ensures) ∙ c .before .before .before .before .before .before .enum-told2 .given .1, sym (c .before .before .before .before .before .room .ensures) ∙ c .before .before .before .i .given .1, c .placed .ensures, c .before .new .ensures)
 
 pub open-spec : {M : Type 1} → statement M
 open-spec =
@@ -89,6 +71,5 @@ open-spec =
     enum-told-3
     returns-4
     new-requires
-    mul-x
-    element-set-from-x
+    placed-requires
     returns-5)
