@@ -8,7 +8,7 @@ use lib.ListN.{length}
 use borrow.Author.Tests.{eqb-true}
 use Rattle.wire.specs.Reply.{replyIn}
 use Rattle.files.specs.Lists.{fill}
-use Rattle.files.specs.File.{blankFile, handedOnCode, returnedFile}
+use Rattle.files.specs.File.{blankFile, handedOnCode, returnedHeard, returnedFile}
 use Rattle.files.proofs.Slots.{Slots, all-replicate}
 use Rattle.recovery.specs.Calls.{Call, register, opening, reclaim, close, repaired, forget, endGrace, restart, layoutReturn, resilver, offered, Answer, said, replied, handedOn, listed}
 use Rattle.recovery.specs.Ledger.{Ledger, noRows, judge, apply, accepted, feed, lend, reply, isMarked, isOffered}
@@ -66,7 +66,7 @@ by-return a l x t d h = record { answer = ap (λ s. written s) (h .same) ∙ sam
     same-buffer false = refl
 
 return-by : (r : Record) (l : Ledger) (n c : ℕ) (s d : List ℕ) (b : Bool) → ltb (length d) 24 ≡ b → Matches r l → StepIs (step r (layoutReturn n c s d)) l (layoutReturn n c s d) (judge l (layoutReturn n c s d))
-unfolding step judge apply layoutreturnOf replyAfter returnedOf returnedFile
+unfolding step judge apply layoutreturnOf replyAfter returnedOf returnedHeard returnedFile
 return-by r l n c s d true e m = rw e (by-nothing (replied 28 d) r l (layoutReturn n c s d) refl m)
 return-by r l n c s d false e m =
     let z = return-agrees m n c s d in

@@ -16,7 +16,7 @@ use Rattle.files.specs.Mirrors.{noMirror, isGood, placedMirrors, sourceIn}
 use Rattle.files.specs.Blame.{heardNothing, told}
 use Rattle.files.specs.Intents.{noIntent, noIntents, intentOf, isIntent, isFree, isKept, firstTaken, reclaimedIf, unreclaimedIntent}
 use Rattle.files.specs.File as file
-use Rattle.files.specs.File.{fileOf, fileAnswered, takes, opens, reclaims, leaves, mendedFile, reports, restartedFile, endedFile, sourceOf}
+use Rattle.files.specs.File.{fileOf, fileAnswered, takes, opens, reclaims, leaves, mendedFile, heeds, ofClient, restartedFile, endedFile, sourceOf}
 use Rattle.files.specs.declared.intents.Intent.{Intent}
 use Rattle.files.specs.declared.mirrors.Mirror.{Mirror}
 use Rattle.files.specs.declared.file.File.{File}
@@ -27,7 +27,7 @@ use Rattle.files.proofs.Sets.{true-false, has-with, none-with, with-old, with-n
 use Rattle.files.proofs.Copies.{MirrorIs, NoMirror, Copies, copies-unblamed, copies-new}
 use Rattle.recovery.specs.Ledger.{Row, newRow, source, sourceFrom, refused, openRules, intentRules, closeRules, repairedRules, opened, hasReclaimed, closed, mended, restarted, ended, reported}
 use Rattle.recovery.proofs.Relation.{IntentIs, NoIntent, Intents, FileIs, with-intents, with-mark, with-copies, FileAgrees, branch}
-use Rattle.recovery.proofs.Reported.{file-after-report}
+use Rattle.recovery.proofs.Reported.{nothing-heeded, file-after-report, status-stays}
 
 -- ---- tests of intents
 module _ (g : Bool) (rs : List ℕ) (c : ℕ) where
@@ -162,13 +162,13 @@ file-ended f w h = record {
 
 -- ---- a report
 reports-at : {g : Bool} {f : File} {w : Row} (c : ℕ) (xs : List DeviceError) → FileIs g f w → AtIntent c g f w
-    → FileAgrees g (reports (over told (heardNothing (f .mirrors) 0) xs) f (first (isIntent c) (f .intents))) w (reported xs w) (refused (intentRules c w))
+    → FileAgrees g (heeds f (ofClient (over (told (f .mirrors)) (heardNothing 0) xs) (first (isIntent c) (f .intents)))) w (reported xs w) (refused (intentRules c w))
 unfolding has
-reports-at c xs h (missing a b) = rw (a, b) (record { same = refl; kept = h })
-reports-at c xs h (found i y t) = rw (t .at, t .there) (record { same = refl; kept = file-after-report xs h })
+reports-at {f} c xs h (missing a b) = rw (a, b, nothing-heeded 10034 f) (record { same = refl; kept = h })
+reports-at {f} c xs h (found i y t) = rw (t .at, t .there) (record { same = status-stays (f .mirrors) xs (heardNothing 0); kept = file-after-report xs h })
 
 pub file-reported : {g : Bool} {f : File} {w : Row} (c : ℕ) (xs : List DeviceError) → FileIs g f w
-    → FileAgrees g (reports (over told (heardNothing (f .mirrors) 0) xs) f (first (isIntent c) (f .intents))) w (reported xs w) (refused (intentRules c w))
+    → FileAgrees g (heeds f (ofClient (over (told (f .mirrors)) (heardNothing 0) xs) (first (isIntent c) (f .intents)))) w (reported xs w) (refused (intentRules c w))
 file-reported c xs h = reports-at c xs h (at-intent c h)
 
 -- ---- the source

@@ -3,119 +3,136 @@ use mathlib.Core.Path.{_≡_, refl, ap, sym, _∙_}
 use mathlib.Core.List.{List, [], _∷_}
 use mathlib.Core.Bool.{Bool, true, false, not, cond}
 use Prim.Native.Nat.{ℕ, _<_}
-use lib.ListN.{length}
+use native.Mathlib.Omega.{arith}
+use lib.ListN.{length, length-set}
 use lib.Dec.{eqb}
 use Rattle.wire.specs.Device.{Device}
 use Rattle.wire.specs.Report.{DeviceError, over}
 use Rattle.files.specs.Lists.{any, with}
 use Rattle.files.specs.Places.{first}
 use Rattle.files.specs.Devices.{deviceOf, isMirror, placeOf}
-use Rattle.files.specs.Mirrors.{isDevice}
-use Rattle.files.specs.Blame.{heardNothing, blameAt, toldAt, toldOf, told}
+use Rattle.files.specs.Mirrors.{isDevice, accused}
+use Rattle.files.specs.Blame.{heardNothing, faultAt, toldAt, toldOf, told}
 use Rattle.files.specs.File as file
-use Rattle.files.specs.File.{blamedFile}
+use Rattle.files.specs.File.{fileAnswered, heededFile, heeds}
+use Rattle.files.specs.declared.mirrors.Mirror.{Mirror}
 use Rattle.files.specs.declared.blame.Heard.{Heard}
 use Rattle.files.specs.declared.file.File.{File}
 use Rattle.files.specs.declared.places.Found.{Found}
 use Rattle.files.specs.declared.places.Found.the-variants.{At, Nothing}
 use Rattle.files.proofs.Sets.{true-false, none-first}
-use Rattle.files.proofs.Copies.{Copies, known, placed, blamed-place}
+use Rattle.files.proofs.Slots.{Slots}
+use Rattle.files.proofs.Copies.{Copies, MirrorIs, NoMirror, known, placed, none-accused, flag-raised}
 use Rattle.recovery.specs.Ledger.{Row, names, isFault, isStranger, blame, reported, withMark, withBlame}
 use Rattle.recovery.proofs.Relation.{FileIs, with-mark, with-copies}
 
--- no stranger has been named yet
-pub record Hears (h : Heard) (w : Row) (bs : List ℕ) (b : Bool) : Type 0 where
-  pub copies : Copies (h .mirrors) (w .mirrors) bs
+-- no stranger has been named yet; ms are the file's mirrors
+pub record Hears (ms : List Mirror) (h : Heard) (w : Row) (bs : List ℕ) (b : Bool) : Type 0 where
+  pub copies : Copies (accused (h .blamed) ms) (w .mirrors) bs
+  pub flags : length (h .blamed) ≡ length ms
   pub unknown : h .unknown ≡ false
   pub failed : h .failed ≡ b
 
 -- what a walk of xs hears
-pub data Heeds (h : Heard) (w : Row) (xs : List DeviceError) (bs : List ℕ) (b : Bool) : Type 0 where
-  stranger : any (isStranger w) xs ≡ true → h .unknown ≡ true → Heeds h w xs bs b
-  mirrors-only : any (isStranger w) xs ≡ false → Hears h w (blame w xs bs) (cond b true (any isFault xs)) → Heeds h w xs bs b
+pub data Heeds (ms : List Mirror) (h : Heard) (w : Row) (xs : List DeviceError) (bs : List ℕ) (b : Bool) : Type 0 where
+  named : any (isStranger w) xs ≡ true → h .unknown ≡ true → Heeds ms h w xs bs b
+  mirrors-only : any (isStranger w) xs ≡ false → Hears ms h w (blame w xs bs) (cond b true (any isFault xs)) → Heeds ms h w xs bs b
 
 -- ---- a stranger stays named
 unknown-at : (h : Heard) (s : ℕ) (o : Found) → h .unknown ≡ true → toldAt h s o .unknown ≡ true
 unknown-at h s Nothing e = refl
 unknown-at h s (At i) e = by (eqb s 0)
   where
-    by : (b : Bool) → cond b h (record { mirrors = blameAt (h .mirrors) i; status = h .status; unknown = h .unknown; failed = true }) .unknown ≡ true
+    by : (b : Bool) → cond b h (faultAt h i) .unknown ≡ true
     by true = e
     by false = e
 
-unknown-stays : (xs : List DeviceError) (h : Heard) → h .unknown ≡ true → over told h xs .unknown ≡ true
+unknown-stays : (ms : List Mirror) (xs : List DeviceError) (h : Heard) → h .unknown ≡ true → over (told ms) h xs .unknown ≡ true
 unfolding over toldOf
-unknown-stays [] h e = e
-unknown-stays (x ∷ xs) h e = unknown-stays xs (told h x) (unknown-at h (x .status) (first (isDevice (deviceOf x)) (h .mirrors)) e)
+unknown-stays ms [] h e = e
+unknown-stays ms (x ∷ xs) h e = unknown-stays ms xs (told ms h x) (unknown-at h (x .status) (first (isDevice (deviceOf x)) ms) e)
 
 -- ---- one device error
-told-stranger : {w : Row} {bs : List ℕ} {b : Bool} (h : Heard) (x : DeviceError) → Hears h w bs b → names w (deviceOf x) ≡ false → told h x .unknown ≡ true
-unfolding toldOf
-told-stranger h x k e = rw (none-first (isDevice (deviceOf x)) (h .mirrors) (known (deviceOf x) (k .copies .mirrors) ∙ e))
+module _ (ms : List Mirror) (w : Row) (s : Slots MirrorIs NoMirror ms (w .mirrors)) (h : Heard) where
+  told-stranger : (x : DeviceError) → names w (deviceOf x) ≡ false → told ms h x .unknown ≡ true
+  unfolding toldOf
+  told-stranger x e = rw (none-first (isDevice (deviceOf x)) ms (known (deviceOf x) s ∙ e))
 
-told-at : {w : Row} {bs : List ℕ} {b : Bool} (h : Heard) (s i : ℕ) → i < length (h .mirrors) → Hears h w bs b → (z : Bool) → eqb s 0 ≡ z
-    → Hears (toldAt h s (At i)) w (cond (not z) (with i bs) bs) (cond (not z) true b)
-told-at h s i p k true e = rw e k
-told-at h s i p k false e = rw e (record { copies = blamed-place i p (k .copies); unknown = k .unknown; failed = refl })
+  told-at : {bs : List ℕ} {b : Bool} (t i : ℕ) → i < length ms → Hears ms h w bs b → (z : Bool) → eqb t 0 ≡ z → Hears ms (toldAt h t (At i)) w (cond (not z) (with i bs) bs) (cond (not z) true b)
+  told-at t i p k true e = rw e k
+  told-at t i p k false e = rw e (record {
+    copies = flag-raised ms (h .blamed) i (omega (arith, p, k .flags)) p (k .copies);
+    flags = length-set (h .blamed) i true ∙ k .flags;
+    unknown = k .unknown;
+    failed = refl;
+  })
 
-told-known : {w : Row} {bs : List ℕ} {b : Bool} (h : Heard) (x : DeviceError) → Hears h w bs b → names w (deviceOf x) ≡ true
-    → Hears (told h x) w (cond (isFault x) (with (placeOf (deviceOf x) (w .mirrors)) bs) bs) (cond (isFault x) true b)
-unfolding toldOf
-told-known {w} h x k e =
-    let z = placed (deviceOf x) (k .copies .mirrors) e in
-    rw (z .at) (told-at h (x .status) (placeOf (deviceOf x) (w .mirrors)) (z .inside) k (eqb (x .status) 0) refl)
+  told-known : {bs : List ℕ} {b : Bool} (x : DeviceError) → Hears ms h w bs b → names w (deviceOf x) ≡ true
+      → Hears ms (told ms h x) w (cond (isFault x) (with (placeOf (deviceOf x) (w .mirrors)) bs) bs) (cond (isFault x) true b)
+  unfolding toldOf
+  told-known x k e =
+      let z = placed (deviceOf x) s e in
+      rw (z .at) (told-at (x .status) (placeOf (deviceOf x) (w .mirrors)) (z .inside) k (eqb (x .status) 0) refl)
 
 -- ---- all of them
-more : (h : Heard) (w : Row) (x : DeviceError) (xs : List DeviceError) (bs : List ℕ) (b : Bool) → isStranger w x ≡ false
-    → Heeds h w xs (cond (isFault x) (with (placeOf (deviceOf x) (w .mirrors)) bs) bs) (cond (isFault x) true b) → Heeds h w (x ∷ xs) bs b
+more : (ms : List Mirror) (h : Heard) (w : Row) (x : DeviceError) (xs : List DeviceError) (bs : List ℕ) (b : Bool) → isStranger w x ≡ false
+    → Heeds ms h w xs (cond (isFault x) (with (placeOf (deviceOf x) (w .mirrors)) bs) bs) (cond (isFault x) true b) → Heeds ms h w (x ∷ xs) bs b
 unfolding any blame
-more h w x xs bs b e (stranger p q) = stranger (rw (e, p)) q
-more h w x xs bs b e (mirrors-only p q) = mirrors-only (rw (e, p)) (record { copies = q .copies; unknown = q .unknown; failed = q .failed ∙ by (isFault x) b (any isFault xs) })
+more ms h w x xs bs b e (named p q) = named (rw (e, p)) q
+more ms h w x xs bs b e (mirrors-only p q) = mirrors-only (rw (e, p)) (record { copies = q .copies; flags = q .flags; unknown = q .unknown; failed = q .failed ∙ by (isFault x) b (any isFault xs) })
   where
     by : (a b c : Bool) → cond (cond a true b) true c ≡ cond b true (cond a true c)
     by true true c = refl
     by true false c = refl
     by false b c = refl
 
-heeds-item : (h : Heard) (w : Row) (x : DeviceError) (xs : List DeviceError) (bs : List ℕ) (b z : Bool) → names w (deviceOf x) ≡ z → Hears h w bs b
-    → ((cs : List ℕ) (c : Bool) → Hears (told h x) w cs c → Heeds (over told (told h x) xs) w xs cs c) → Heeds (over told (told h x) xs) w (x ∷ xs) bs b
-unfolding any
-heeds-item h w x xs bs b true e k f = more _ w x xs bs b (ap not e) (f _ _ (told-known h x k e))
-heeds-item h w x xs bs b false e k f = stranger (rw e) (unknown-stays xs (told h x) (told-stranger h x k e))
+module _ (ms : List Mirror) (w : Row) (s : Slots MirrorIs NoMirror ms (w .mirrors)) where
+  heard-item : (h : Heard) (x : DeviceError) (xs : List DeviceError) (bs : List ℕ) (b z : Bool) → names w (deviceOf x) ≡ z → Hears ms h w bs b
+      → ((cs : List ℕ) (c : Bool) → Hears ms (told ms h x) w cs c → Heeds ms (over (told ms) (told ms h x) xs) w xs cs c) → Heeds ms (over (told ms) (told ms h x) xs) w (x ∷ xs) bs b
+  unfolding any
+  heard-item h x xs bs b true e k f = more ms _ w x xs bs b (ap not e) (f _ _ (told-known ms w s h x k e))
+  heard-item h x xs bs b false e k f = named (rw e) (unknown-stays ms xs (told ms h x) (told-stranger ms w s h x e))
 
-pub heeds : (xs : List DeviceError) (h : Heard) (w : Row) (bs : List ℕ) (b : Bool) → Hears h w bs b → Heeds (over told h xs) w xs bs b
-unfolding over any blame
-heeds [] h w bs b k = mirrors-only refl (record { copies = k .copies; unknown = k .unknown; failed = k .failed ∙ last b })
-  where
-    last : (b : Bool) → b ≡ cond b true false
-    last true = refl
-    last false = refl
-heeds (x ∷ xs) h w bs b k = heeds-item h w x xs bs b (names w (deviceOf x)) refl k (λ cs c j. heeds xs (told h x) w cs c j)
+  pub heard-all : (xs : List DeviceError) (h : Heard) (bs : List ℕ) (b : Bool) → Hears ms h w bs b → Heeds ms (over (told ms) h xs) w xs bs b
+  unfolding over any blame
+  heard-all [] h bs b k = mirrors-only refl (record { copies = k .copies; flags = k .flags; unknown = k .unknown; failed = k .failed ∙ last b })
+    where
+      last : (b : Bool) → b ≡ cond b true false
+      last true = refl
+      last false = refl
+  heard-all (x ∷ xs) h bs b k = heard-item h x xs bs b (names w (deviceOf x)) refl k (λ cs c j. heard-all xs (told ms h x) cs c j)
+
+-- ---- a file that heard a refusal
+pub nothing-heeded : (k : ℕ) (f : File) → heeds f (heardNothing k) ≡ fileAnswered k f
+unfolding heededFile
+nothing-heeded k f = refl
 
 -- ---- a file that heard a whole report
-after-report : {g : Bool} {f : File} {w : Row} (h : Heard) (xs : List DeviceError) → FileIs g f w → Heeds h w xs (w .blamed) false → FileIs g (blamedFile h f) (reported xs w)
-unfolding blamedFile
-after-report h xs k (stranger p q) = rw (p, q) (with-mark k refl)
+after-report : {g : Bool} {f : File} {w : Row} (h : Heard) (xs : List DeviceError) → FileIs g f w → Heeds (f .mirrors) h w xs (w .blamed) false → FileIs g (heededFile h f) (reported xs w)
+unfolding heededFile
+after-report h xs k (named p q) = rw (p, q) (with-mark k refl)
 after-report {g} {f} {w} h xs k (mirrors-only p q) = rw (p, q .unknown) (by (any isFault xs) (q .failed))
   where
     by : (z : Bool) → h .failed ≡ z → FileIs g
-        (cond (h .failed) (file.withMark true (file.withMirrors (h .mirrors) f)) f)
+        (cond (h .failed) (file.withMark true (file.withMirrors (accused (h .blamed) (f .mirrors)) f)) f)
         (cond z (withMark true (withBlame (blame w xs (w .blamed)) w)) w)
     by true e = rw e (with-mark (with-copies k (q .copies)) refl)
     by false e = rw e k
 
-pub file-after-report : {g : Bool} {f : File} {w : Row} (xs : List DeviceError) → FileIs g f w → FileIs g (blamedFile (over told (heardNothing (f .mirrors) 0) xs) f) (reported xs w)
-file-after-report {g} {f} {w} xs k = after-report _ xs k (heeds xs (heardNothing (f .mirrors) 0) w (w .blamed) false (record { copies = k .copies; unknown = refl; failed = refl }))
+pub file-after-report : {g : Bool} {f : File} {w : Row} (xs : List DeviceError) → FileIs g f w → FileIs g (heededFile (over (told (f .mirrors)) (heardNothing 0) xs) f) (reported xs w)
+file-after-report {g} {f} {w} xs k =
+    after-report _ xs k
+    (heard-all (f .mirrors) w (k .copies .mirrors) xs (heardNothing 0) (w .blamed) false (record { copies = rw (none-accused 4 (f .mirrors)) (k .copies); flags = sym (k .copies .four); unknown = refl; failed = refl }))
 
-pub status-stays : (xs : List DeviceError) (h : Heard) → over told h xs .status ≡ h .status
+pub status-stays : (ms : List Mirror) (xs : List DeviceError) (h : Heard) → over (told ms) h xs .status ≡ h .status
 unfolding over toldOf
-status-stays [] h = refl
-status-stays (x ∷ xs) h = status-stays xs (told h x) ∙ one (first (isDevice (deviceOf x)) (h .mirrors))
+status-stays ms [] h = refl
+status-stays ms (x ∷ xs) h = status-stays ms xs (told ms h x) ∙ one (first (isDevice (deviceOf x)) ms)
   where
     one : (o : Found) → toldAt h (x .status) o .status ≡ h .status
     one Nothing = refl
     one (At i) = by (eqb (x .status) 0)
       where
-        by : (b : Bool) → cond b h (record { mirrors = blameAt (h .mirrors) i; status = h .status; unknown = h .unknown; failed = true }) .status ≡ h .status
+        by : (b : Bool) → cond b h (faultAt h i) .status ≡ h .status
         by true = refl
         by false = refl

@@ -19,7 +19,7 @@ use Rattle.files.specs.Places.{first}
 use Rattle.files.specs.Intents.{isIntent}
 use Rattle.files.specs.declared.blame.Heard.{Heard}
 use Rattle.files.specs.Blame.{heardNothing, told, heardOf}
-use Rattle.files.specs.File.{isFile, fileAnswered, ofFile as ifFile, reports, heardFile, reportedFile, asksFile, handedOnCode}
+use Rattle.files.specs.File.{isFile, fileAnswered, heededFile, heeds, ofIntent, ifWhole, reportHeard, asksHeard, handedOnCode}
 use Rattle.files.specs.declared.file.File.{File}
 use Rattle.files.specs.declared.file.FileAnswered.{FileAnswered}
 use Rattle.recovery.specs.Calls.{Answer, replied, handedOn}
@@ -27,7 +27,7 @@ use Rattle.recovery.specs.Ledger.{Row, Ledger, registered, rowOf, holds,
 use Rattle.recovery.specs.Record.{onPlace}
 use Rattle.recovery.specs.declared.record.Record.{Record}
 use Rattle.recovery.proofs.Relation.{Matches, RecordAgrees}
-use Rattle.recovery.proofs.Reported.{status-stays}
+use Rattle.recovery.proofs.Reported.{nothing-heeded, status-stays}
 use Rattle.recovery.proofs.OneFile.{file-reported}
 use Rattle.recovery.proofs.Calls.{refused-any, on-file}
 
@@ -90,16 +90,19 @@ reported-number xs w = by (any (isStranger w) xs) (any isFault xs)
     by false true = refl
     by false false = refl
 
-heard-file : (n c : ℕ) (h : Heard) (f : File) → h .status ≡ 0 → heardFile n c h f ≡ ifFile n f (reports h f (first (isIntent c) (f .intents)))
-heard-file n c h f e = ap (λ k. cond (eqb k 0) (ifFile n f (reports h f (first (isIntent c) (f .intents)))) (fileAnswered k f)) e
+reported-file : (n c : ℕ) (h : Heard) (f : File) → h .status ≡ 0 → heeds f (ifWhole h (ofIntent n c f h)) ≡ heeds f (ofIntent n c f h)
+reported-file n c h f e = ap (λ k. heeds f (cond (eqb k 0) (ofIntent n c f h) h)) e
 
-report-agrees : {r : Record} {l : Ledger} (n c : ℕ) (p : Report) → Matches r l → RecordAgrees (onPlace n (reportedFile n c p) r) l (onRow l n (reported (errorsOf p))) (refused (reportRules l n c p))
-unfolding reportedFile heardOf outcome
-report-agrees n c Malformed m = refused-any n (reportedFile n c Malformed) 10036 refl (λ f. refl) m
-report-agrees n c Statistics m = refused-any n (reportedFile n c Statistics) 10004 refl (λ f. refl) m
-report-agrees {r} {l} n c (Whole xs) m = on-file n (reportedFile n c (Whole xs)) (reported xs) (λ w. refused (intentRules c w)) (reported-number xs)
-    (λ f w i k. rw (heard-file n c (over told (heardNothing (f .mirrors) 0) xs) f (status-stays xs (heardNothing (f .mirrors) 0)), i) (file-reported c xs k))
-    (λ f i. rw (heard-file n c (over told (heardNothing (f .mirrors) 0) xs) f (status-stays xs (heardNothing (f .mirrors) 0)), i)) m
+abbrev reportsFile : ℕ → ℕ → Report → File → FileAnswered
+reportsFile n c p f = heeds f (reportHeard n c p f)
+
+report-agrees : {r : Record} {l : Ledger} (n c : ℕ) (p : Report) → Matches r l → RecordAgrees (onPlace n (reportsFile n c p) r) l (onRow l n (reported (errorsOf p))) (refused (reportRules l n c p))
+unfolding reportHeard heardOf outcome
+report-agrees n c Malformed m = refused-any n (reportsFile n c Malformed) 10036 refl (nothing-heeded 10036) m
+report-agrees n c Statistics m = refused-any n (reportsFile n c Statistics) 10004 refl (nothing-heeded 10004) m
+report-agrees {r} {l} n c (Whole xs) m = on-file n (reportsFile n c (Whole xs)) (reported xs) (λ w. refused (intentRules c w)) (reported-number xs)
+    (λ f w i k. rw (reported-file n c (over (told (f .mirrors)) (heardNothing 0) xs) f (status-stays (f .mirrors) xs (heardNothing 0)), i) (file-reported c xs k))
+    (λ f i. rw (reported-file n c (over (told (f .mirrors)) (heardNothing 0) xs) f (status-stays (f .mirrors) xs (heardNothing 0)), i) (nothing-heeded 70 f)) m
 
 -- ---- steps 1 to 7: the status that the ledger says, or the number that stands for "handed on"
 abbrev codeOf : Ledger → ℕ → ℕ → List ℕ → Request → ℕ
@@ -110,7 +113,7 @@ codeOf l n c s (request.File false k) = cond (l .grace) 10013 handedOnCode
 
 module _ {r : Record} {l : Ledger} (m : Matches r l) (n c : ℕ) (s : List ℕ) where
   abbrev asks : Bool → Request → File → FileAnswered
-  asks g q f = asksFile n g c s f q
+  asks g q f = heeds f (asksHeard n g c s f q)
 
   abbrev Asked : Request → ℕ → Type 0
   Asked q t = RecordAgrees (onPlace n (asks (r .grace) q) r) l (onRow l n (reported (errorsOf (reportOf (bodyOf s))))) t
@@ -119,16 +122,16 @@ module _ {r : Record} {l : Ledger} (m : Matches r l) (n c : ℕ) (s : List ℕ) 
   at-phase q b e h = rw (ap (λ g. onPlace n (asks g q) r) (m .grace ∙ e)) h
 
   ordinary-by : (k : ℕ) (b : Bool) → l .grace ≡ b → Asked (request.File false k) (cond b 10013 handedOnCode)
-  ordinary-by k true e = at-phase (request.File false k) true e (refused-any n (asks true (request.File false k)) 10013 refl (λ f. refl) m)
-  ordinary-by k false e = at-phase (request.File false k) false e (refused-any n (asks false (request.File false k)) handedOnCode refl (λ f. refl) m)
+  ordinary-by k true e = at-phase (request.File false k) true e (refused-any n (asks true (request.File false k)) 10013 refl (nothing-heeded 10013) m)
+  ordinary-by k false e = at-phase (request.File false k) false e (refused-any n (asks false (request.File false k)) handedOnCode refl (nothing-heeded handedOnCode) m)
 
   anonymous-by : (k : ℕ) (b : Bool) → l .grace ≡ b → Asked (request.File true k) (cond (not b) 10033 (refused (reportRules l n c (reportOf (bodyOf s)))))
-  anonymous-by k false e = at-phase (request.File true k) false e (refused-any n (asks false (request.File true k)) 10033 refl (λ f. refl) m)
+  anonymous-by k false e = at-phase (request.File true k) false e (refused-any n (asks false (request.File true k)) 10033 refl (nothing-heeded 10033) m)
   anonymous-by k true e = at-phase (request.File true k) true e (report-agrees n c (reportOf (bodyOf s)) m)
 
   asks-agrees : (q : Request) → Read-as q → Asked q (codeOf l n c s q)
-  asks-agrees (request.Refused k) h = refused-any n (asks (r .grace) (request.Refused k)) k (ne-eqb k 0 (h .nonzero)) (λ f. refl) m
-  asks-agrees request.Bulk h = refused-any n (asks (r .grace) request.Bulk) handedOnCode refl (λ f. refl) m
+  asks-agrees (request.Refused k) h = refused-any n (asks (r .grace) (request.Refused k)) k (ne-eqb k 0 (h .nonzero)) (nothing-heeded k) m
+  asks-agrees request.Bulk h = refused-any n (asks (r .grace) request.Bulk) handedOnCode refl (nothing-heeded handedOnCode) m
   asks-agrees (request.File true k) h = anonymous-by k (l .grace) refl
   asks-agrees (request.File false k) h = ordinary-by k (l .grace) refl
 
@@ -158,7 +161,7 @@ answer-is l n c s d (request.File false k) h = by (l .grace)
 -- a LAYOUTRETURN whose reply buffer is long enough: t is its status or that number
 pub record ReturnAgrees (r : Record) (l : Ledger) (n c : ℕ) (s d : List ℕ) : Type 0 where
   pub code : ℕ
-  pub agrees : RecordAgrees (onPlace n (λ f. asksFile n (r .grace) c s f (requestOf s)) r) l (onRow l n (reported (errorsOf (reportOf (bodyOf s))))) code
+  pub agrees : RecordAgrees (onPlace n (λ f. heeds f (asksHeard n (r .grace) c s f (requestOf s))) r) l (onRow l n (reported (errorsOf (reportOf (bodyOf s))))) code
   pub answer : handing code d ≡ judgeRequest l n c s d (requestOf s)
 
 pub return-agrees : {r : Record} {l : Ledger} → Matches r l → (n c : ℕ) (s d : List ℕ) → ReturnAgrees r l n c s d

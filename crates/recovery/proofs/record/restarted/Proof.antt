@@ -10,7 +10,7 @@ use Rattle.recovery.proofs.record.restarted.Statement.{statement}
 use Rattle.recovery.proofs.record.restarted.Tie as tie
 
 abbrev Inv-loop : tie.InvT-loop
-Inv-loop fs₀ i₀ fs i = Mapping restartedFile fs₀ fs i
+Inv-loop fs₀ i₀ fs i = Mapping (λ k. restartedFile) fs₀ fs i
 
 abbrev μ-loop : tie.MeasureT-loop
 μ-loop fs₀ i₀ fs i = 64 - i
