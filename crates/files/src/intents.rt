@@ -19,7 +19,7 @@ pub struct Intent {
 
 impl Intent {
     // A free place.
-    pub fn none() -> Intent
+    pub(crate) fn none() -> Intent
         ensures { λ r. ⌜ r ≡ noIntent ⌝ }
     {
         Intent {
@@ -30,7 +30,7 @@ impl Intent {
     }
 
     // A client's new intent.
-    pub fn new(client: u64) -> Intent
+    pub(crate) fn new(client: u64) -> Intent
         ensures { λ r. ⌜ r ≡ intentOf client ⌝ }
     {
         Intent {
@@ -60,7 +60,7 @@ impl Intent {
     }
 
     // Whether it is the client's.
-    pub fn is(self, client: u64) -> bool
+    pub(crate) fn is(self, client: u64) -> bool
         ensures { λ r. ⌜ r ≡ isIntent client self ⌝ }
     {
         if self.taken {
@@ -71,21 +71,21 @@ impl Intent {
     }
 
     // Whether the place is free.
-    pub fn free(self) -> bool
+    pub(crate) fn free(self) -> bool
         ensures { λ r. ⌜ r ≡ isFree self ⌝ }
     {
         !self.taken
     }
 
     // Whether it stays at the end of grace.
-    pub fn stays(self) -> bool
+    pub(crate) fn stays(self) -> bool
         ensures { λ r. ⌜ r ≡ isKept self ⌝ }
     {
         if self.taken { self.reclaimed } else { false }
     }
 
     // The place once the client has reclaimed.
-    pub fn reclaim(mut self, client: u64) -> Intent
+    pub(crate) fn reclaim(mut self, client: u64) -> Intent
         ensures { λ r. ⌜ r ≡ reclaimedIf client self ⌝ }
     {
         let hit = self.is(client);
@@ -97,7 +97,7 @@ impl Intent {
     }
 
     // The place after a restart.
-    pub fn forget_reclaim(mut self) -> Intent
+    pub(crate) fn forget_reclaim(mut self) -> Intent
         ensures { λ r. ⌜ r ≡ unreclaimedIntent self ⌝ }
     {
         self.reclaimed = false;
@@ -106,7 +106,7 @@ impl Intent {
 }
 
 // The place of the client's intent.
-pub fn holding(intents: [Intent; 8], client: u64) -> Found
+pub(crate) fn holding(intents: [Intent; 8], client: u64) -> Found
     ensures { λ r. ⌜ r ≡ first (isIntent client) intents ⌝ }
 {
     let mut i: usize = 0;
@@ -122,7 +122,7 @@ pub fn holding(intents: [Intent; 8], client: u64) -> Found
 }
 
 // The first free place.
-pub fn room(intents: [Intent; 8]) -> Found
+pub(crate) fn room(intents: [Intent; 8]) -> Found
     ensures { λ r. ⌜ r ≡ first isFree intents ⌝ }
 {
     let mut i: usize = 0;
@@ -138,7 +138,7 @@ pub fn room(intents: [Intent; 8]) -> Found
 }
 
 // Whether an intent is open: the free places are last, so the first place says it.
-pub fn busy(intents: [Intent; 8]) -> bool
+pub(crate) fn busy(intents: [Intent; 8]) -> bool
     ensures { λ r. ⌜ r ≡ firstTaken intents ⌝ }
 {
     let x = intents[0];
@@ -201,7 +201,7 @@ fn either(first: bool, x: bool, y: bool) -> bool
 }
 
 // The intents that stay at the end of grace, in their order, from the first place on.
-pub fn staying(intents: [Intent; 8]) -> [Intent; 8]
+pub(crate) fn staying(intents: [Intent; 8]) -> [Intent; 8]
     ensures { λ r. ⌜ r ≡ fill (chosen isKept intents) (replicate 8 noIntent) ⌝ }
 {
     let none = Intent::none();
@@ -222,7 +222,7 @@ pub fn staying(intents: [Intent; 8]) -> [Intent; 8]
 }
 
 // The intents once the client has reclaimed.
-pub fn reclaimed(intents: [Intent; 8], client: u64) -> [Intent; 8]
+pub(crate) fn reclaimed(intents: [Intent; 8], client: u64) -> [Intent; 8]
     ensures { λ r. ⌜ r ≡ map (reclaimedIf client) intents ⌝ }
 {
     let mut xs = intents;
@@ -237,7 +237,7 @@ pub fn reclaimed(intents: [Intent; 8], client: u64) -> [Intent; 8]
 }
 
 // The intents after a restart.
-pub fn unreclaimed(intents: [Intent; 8]) -> [Intent; 8]
+pub(crate) fn unreclaimed(intents: [Intent; 8]) -> [Intent; 8]
     ensures { λ r. ⌜ r ≡ map unreclaimedIntent intents ⌝ }
 {
     let mut xs = intents;

@@ -18,7 +18,7 @@ pub struct Mirror {
 
 impl Mirror {
     // A place without a mirror.
-    pub fn none() -> Mirror
+    pub(crate) fn none() -> Mirror
         ensures { λ r. ⌜ r ≡ noMirror ⌝ }
     {
         Mirror {
@@ -30,7 +30,7 @@ impl Mirror {
     }
 
     // A new mirror.
-    pub fn new(high: u64, low: u64) -> Mirror
+    pub(crate) fn new(high: u64, low: u64) -> Mirror
         ensures { λ r. ⌜ r ≡ newMirror high low ⌝ }
     {
         Mirror {
@@ -42,7 +42,7 @@ impl Mirror {
     }
 
     // Whether the device is the mirror here.
-    pub fn is(self, high: u64, low: u64) -> bool
+    pub(crate) fn is(self, high: u64, low: u64) -> bool
         ensures { λ r. ⌜ r ≡ isAt high low self ⌝ }
     {
         if !self.present {
@@ -55,7 +55,7 @@ impl Mirror {
     }
 
     // Whether it can be copied from.
-    pub fn good(self) -> bool
+    pub(crate) fn good(self) -> bool
         ensures { λ r. ⌜ r ≡ isGood self ⌝ }
     {
         if self.present { !self.blamed } else { false }
@@ -73,7 +73,7 @@ impl Mirror {
     }
 
     // The place once the file is repaired.
-    pub fn clear(mut self) -> Mirror
+    pub(crate) fn clear(mut self) -> Mirror
         ensures { λ r. ⌜ r ≡ unblamed self ⌝ }
     {
         self.blamed = false;
@@ -82,7 +82,7 @@ impl Mirror {
 }
 
 // The place of a device.
-pub fn place(mirrors: [Mirror; 4], high: u64, low: u64) -> Found
+pub(crate) fn place(mirrors: [Mirror; 4], high: u64, low: u64) -> Found
     ensures { λ r. ⌜ r ≡ first (isAt high low) mirrors ⌝ }
 {
     let mut i: usize = 0;
@@ -114,7 +114,7 @@ fn lowest(mirrors: [Mirror; 4]) -> Found
 }
 
 // The place to copy from, or 255.
-pub fn source(mirrors: [Mirror; 4]) -> u8
+pub(crate) fn source(mirrors: [Mirror; 4]) -> u8
     ensures { λ r. ⌜ r ≡ sourceIn mirrors ⌝ }
 {
     match lowest(mirrors) {
@@ -124,7 +124,7 @@ pub fn source(mirrors: [Mirror; 4]) -> u8
 }
 
 // The mirrors once the file is repaired.
-pub fn cleared(mirrors: [Mirror; 4]) -> [Mirror; 4]
+pub(crate) fn cleared(mirrors: [Mirror; 4]) -> [Mirror; 4]
     ensures { λ r. ⌜ r ≡ map unblamed mirrors ⌝ }
 {
     let mut ms = mirrors;

@@ -9,9 +9,9 @@ use Rattle.wire.specs.Report.{deviceError, ioerr, layoutreturn, joined, reportO
 use Rattle.wire.specs.Request.{fileReturn, returnOf, arguments, refusalOf, isAnonymous, unless, requestOf, bodyOf}
 use Rattle.files.specs.Blame.{toldOf, heardOf}
 use Rattle.files.specs.Devices.{devicesIn, mirrorsIn, isMirror, placeOf, twice, badMirrors}
-use Rattle.files.specs.File.{openedFile, reclaimedFile, closedFile, repairedFile, blamedFile, reportedFile, returnedFile, restartedFile, endedFile, sourceOf}
+use Rattle.files.specs.File.{openedFile, reclaimedFile, closedFile, repairedFile, heededFile, reportHeard, returnedHeard, returnedFile, restartedFile, endedFile, sourceOf}
 use Rattle.files.specs.Lists.{any, chosen, has, with, none, amend, discard, firstOr, fill}
-use Rattle.files.specs.Mirrors.{sourceIn, enrolledOf}
+use Rattle.files.specs.Mirrors.{accused, sourceIn, enrolledOf}
 use Rattle.files.specs.Places.{first, pull}
 use Rattle.recovery.specs.History.{step, answers}
 use Rattle.recovery.specs.Ledger.{registered, rowOf, sourceFrom, lend, judge, blame, insert, apply, feed}
@@ -46,35 +46,35 @@ k4-to-k9 = refl
 
 -- ---- histories
 record-k10 : byRecord (started ++ endGrace ∷ list ∷ []) ≡ said 0 ∷ said 0 ∷ said 0 ∷ said 0 ∷ seven 0 ∷ []
-unfolding beNat beBytes sameBytes number opaque boolean bounded inTurn replyBytes replyIn deviceError ioerr layoutreturn joined reportOf over outcome fileReturn returnOf arguments refusalOf isAnonymous unless requestOf bodyOf toldOf heardOf devicesIn mirrorsIn isMirror placeOf twice badMirrors openedFile reclaimedFile closedFile repairedFile blamedFile reportedFile returnedFile restartedFile endedFile sourceOf any chosen has with none amend discard firstOr fill sourceIn enrolledOf first pull step answers registered rowOf sourceFrom lend judge blame insert apply feed placeIn openOf reclaimOf closeOf enter registerOf endOf restartOf listingOf returnedOf layoutreturnOf replyAfter
+unfolding beNat beBytes sameBytes number opaque boolean bounded inTurn replyBytes replyIn deviceError ioerr layoutreturn joined reportOf over outcome fileReturn returnOf arguments refusalOf isAnonymous unless requestOf bodyOf toldOf heardOf devicesIn mirrorsIn isMirror placeOf twice badMirrors openedFile reclaimedFile closedFile repairedFile accused heededFile reportHeard returnedHeard returnedFile restartedFile endedFile sourceOf any chosen has with none amend discard firstOr fill sourceIn enrolledOf first pull step answers registered rowOf sourceFrom lend judge blame insert apply feed placeIn openOf reclaimOf closeOf enter registerOf endOf restartOf listingOf returnedOf layoutreturnOf replyAfter
 record-k10 = refl
 
 ledger-k10 : byLedger (started ++ endGrace ∷ list ∷ []) ≡ said 0 ∷ said 0 ∷ said 0 ∷ said 0 ∷ seven 0 ∷ []
-unfolding beNat beBytes sameBytes number opaque boolean bounded inTurn replyBytes replyIn deviceError ioerr layoutreturn joined reportOf over outcome fileReturn returnOf arguments refusalOf isAnonymous unless requestOf bodyOf toldOf heardOf devicesIn mirrorsIn isMirror placeOf twice badMirrors openedFile reclaimedFile closedFile repairedFile blamedFile reportedFile returnedFile restartedFile endedFile sourceOf any chosen has with none amend discard firstOr fill sourceIn enrolledOf first pull step answers registered rowOf sourceFrom lend judge blame insert apply feed placeIn openOf reclaimOf closeOf enter registerOf endOf restartOf listingOf returnedOf layoutreturnOf replyAfter ledgerFrom
+unfolding beNat beBytes sameBytes number opaque boolean bounded inTurn replyBytes replyIn deviceError ioerr layoutreturn joined reportOf over outcome fileReturn returnOf arguments refusalOf isAnonymous unless requestOf bodyOf toldOf heardOf devicesIn mirrorsIn isMirror placeOf twice badMirrors openedFile reclaimedFile closedFile repairedFile accused heededFile reportHeard returnedHeard returnedFile restartedFile endedFile sourceOf any chosen has with none amend discard firstOr fill sourceIn enrolledOf first pull step answers registered rowOf sourceFrom lend judge blame insert apply feed placeIn openOf reclaimOf closeOf enter registerOf endOf restartOf listingOf returnedOf layoutreturnOf replyAfter ledgerFrom
 ledger-k10 = refl
 
 record-k11 : byRecord (reclaimed ++ endGrace ∷ list ∷ []) ≡ said 0 ∷ said 0 ∷ said 0 ∷ said 0 ∷ said 0 ∷ none-listed ∷ []
-unfolding beNat beBytes sameBytes number opaque boolean bounded inTurn replyBytes replyIn deviceError ioerr layoutreturn joined reportOf over outcome fileReturn returnOf arguments refusalOf isAnonymous unless requestOf bodyOf toldOf heardOf devicesIn mirrorsIn isMirror placeOf twice badMirrors openedFile reclaimedFile closedFile repairedFile blamedFile reportedFile returnedFile restartedFile endedFile sourceOf any chosen has with none amend discard firstOr fill sourceIn enrolledOf first pull step answers registered rowOf sourceFrom lend judge blame insert apply feed placeIn openOf reclaimOf closeOf enter registerOf endOf restartOf listingOf returnedOf layoutreturnOf replyAfter
+unfolding beNat beBytes sameBytes number opaque boolean bounded inTurn replyBytes replyIn deviceError ioerr layoutreturn joined reportOf over outcome fileReturn returnOf arguments refusalOf isAnonymous unless requestOf bodyOf toldOf heardOf devicesIn mirrorsIn isMirror placeOf twice badMirrors openedFile reclaimedFile closedFile repairedFile accused heededFile reportHeard returnedHeard returnedFile restartedFile endedFile sourceOf any chosen has with none amend discard firstOr fill sourceIn enrolledOf first pull step answers registered rowOf sourceFrom lend judge blame insert apply feed placeIn openOf reclaimOf closeOf enter registerOf endOf restartOf listingOf returnedOf layoutreturnOf replyAfter
 record-k11 = refl
 
 ledger-k11 : byLedger (reclaimed ++ endGrace ∷ list ∷ []) ≡ said 0 ∷ said 0 ∷ said 0 ∷ said 0 ∷ said 0 ∷ none-listed ∷ []
-unfolding beNat beBytes sameBytes number opaque boolean bounded inTurn replyBytes replyIn deviceError ioerr layoutreturn joined reportOf over outcome fileReturn returnOf arguments refusalOf isAnonymous unless requestOf bodyOf toldOf heardOf devicesIn mirrorsIn isMirror placeOf twice badMirrors openedFile reclaimedFile closedFile repairedFile blamedFile reportedFile returnedFile restartedFile endedFile sourceOf any chosen has with none amend discard firstOr fill sourceIn enrolledOf first pull step answers registered rowOf sourceFrom lend judge blame insert apply feed placeIn openOf reclaimOf closeOf enter registerOf endOf restartOf listingOf returnedOf layoutreturnOf replyAfter ledgerFrom
+unfolding beNat beBytes sameBytes number opaque boolean bounded inTurn replyBytes replyIn deviceError ioerr layoutreturn joined reportOf over outcome fileReturn returnOf arguments refusalOf isAnonymous unless requestOf bodyOf toldOf heardOf devicesIn mirrorsIn isMirror placeOf twice badMirrors openedFile reclaimedFile closedFile repairedFile accused heededFile reportHeard returnedHeard returnedFile restartedFile endedFile sourceOf any chosen has with none amend discard firstOr fill sourceIn enrolledOf first pull step answers registered rowOf sourceFrom lend judge blame insert apply feed placeIn openOf reclaimOf closeOf enter registerOf endOf restartOf listingOf returnedOf layoutreturnOf replyAfter ledgerFrom
 ledger-k11 = refl
 
 record-k12 : byRecord (reclaimed ++ reports A ∷ endGrace ∷ list ∷ offers ∷ close 7 1 ∷ offers ∷ []) ≡ said 0 ∷ said 0 ∷ said 0 ∷ said 0 ∷ accepted ∷ said 0 ∷ seven 1 ∷ none-listed ∷ said 0 ∷ seven 1 ∷ []
-unfolding beNat beBytes sameBytes number opaque boolean bounded inTurn replyBytes replyIn deviceError ioerr layoutreturn joined reportOf over outcome fileReturn returnOf arguments refusalOf isAnonymous unless requestOf bodyOf toldOf heardOf devicesIn mirrorsIn isMirror placeOf twice badMirrors openedFile reclaimedFile closedFile repairedFile blamedFile reportedFile returnedFile restartedFile endedFile sourceOf any chosen has with none amend discard firstOr fill sourceIn enrolledOf first pull step answers registered rowOf sourceFrom lend judge blame insert apply feed placeIn openOf reclaimOf closeOf enter registerOf endOf restartOf listingOf returnedOf layoutreturnOf replyAfter
+unfolding beNat beBytes sameBytes number opaque boolean bounded inTurn replyBytes replyIn deviceError ioerr layoutreturn joined reportOf over outcome fileReturn returnOf arguments refusalOf isAnonymous unless requestOf bodyOf toldOf heardOf devicesIn mirrorsIn isMirror placeOf twice badMirrors openedFile reclaimedFile closedFile repairedFile accused heededFile reportHeard returnedHeard returnedFile restartedFile endedFile sourceOf any chosen has with none amend discard firstOr fill sourceIn enrolledOf first pull step answers registered rowOf sourceFrom lend judge blame insert apply feed placeIn openOf reclaimOf closeOf enter registerOf endOf restartOf listingOf returnedOf layoutreturnOf replyAfter
 record-k12 = refl
 
 ledger-k12 : byLedger (reclaimed ++ reports A ∷ endGrace ∷ list ∷ offers ∷ close 7 1 ∷ offers ∷ []) ≡ said 0 ∷ said 0 ∷ said 0 ∷ said 0 ∷ accepted ∷ said 0 ∷ seven 1 ∷ none-listed ∷ said 0 ∷ seven 1 ∷ []
-unfolding beNat beBytes sameBytes number opaque boolean bounded inTurn replyBytes replyIn deviceError ioerr layoutreturn joined reportOf over outcome fileReturn returnOf arguments refusalOf isAnonymous unless requestOf bodyOf toldOf heardOf devicesIn mirrorsIn isMirror placeOf twice badMirrors openedFile reclaimedFile closedFile repairedFile blamedFile reportedFile returnedFile restartedFile endedFile sourceOf any chosen has with none amend discard firstOr fill sourceIn enrolledOf first pull step answers registered rowOf sourceFrom lend judge blame insert apply feed placeIn openOf reclaimOf closeOf enter registerOf endOf restartOf listingOf returnedOf layoutreturnOf replyAfter ledgerFrom
+unfolding beNat beBytes sameBytes number opaque boolean bounded inTurn replyBytes replyIn deviceError ioerr layoutreturn joined reportOf over outcome fileReturn returnOf arguments refusalOf isAnonymous unless requestOf bodyOf toldOf heardOf devicesIn mirrorsIn isMirror placeOf twice badMirrors openedFile reclaimedFile closedFile repairedFile accused heededFile reportHeard returnedHeard returnedFile restartedFile endedFile sourceOf any chosen has with none amend discard firstOr fill sourceIn enrolledOf first pull step answers registered rowOf sourceFrom lend judge blame insert apply feed placeIn openOf reclaimOf closeOf enter registerOf endOf restartOf listingOf returnedOf layoutreturnOf replyAfter ledgerFrom
 ledger-k12 = refl
 
 record-k13 : byRecord (reclaimed ++ reports C ∷ endGrace ∷ list ∷ []) ≡ said 0 ∷ said 0 ∷ said 0 ∷ said 0 ∷ accepted ∷ said 0 ∷ seven 0 ∷ []
-unfolding beNat beBytes sameBytes number opaque boolean bounded inTurn replyBytes replyIn deviceError ioerr layoutreturn joined reportOf over outcome fileReturn returnOf arguments refusalOf isAnonymous unless requestOf bodyOf toldOf heardOf devicesIn mirrorsIn isMirror placeOf twice badMirrors openedFile reclaimedFile closedFile repairedFile blamedFile reportedFile returnedFile restartedFile endedFile sourceOf any chosen has with none amend discard firstOr fill sourceIn enrolledOf first pull step answers registered rowOf sourceFrom lend judge blame insert apply feed placeIn openOf reclaimOf closeOf enter registerOf endOf restartOf listingOf returnedOf layoutreturnOf replyAfter
+unfolding beNat beBytes sameBytes number opaque boolean bounded inTurn replyBytes replyIn deviceError ioerr layoutreturn joined reportOf over outcome fileReturn returnOf arguments refusalOf isAnonymous unless requestOf bodyOf toldOf heardOf devicesIn mirrorsIn isMirror placeOf twice badMirrors openedFile reclaimedFile closedFile repairedFile accused heededFile reportHeard returnedHeard returnedFile restartedFile endedFile sourceOf any chosen has with none amend discard firstOr fill sourceIn enrolledOf first pull step answers registered rowOf sourceFrom lend judge blame insert apply feed placeIn openOf reclaimOf closeOf enter registerOf endOf restartOf listingOf returnedOf layoutreturnOf replyAfter
 record-k13 = refl
 
 ledger-k13 : byLedger (reclaimed ++ reports C ∷ endGrace ∷ list ∷ []) ≡ said 0 ∷ said 0 ∷ said 0 ∷ said 0 ∷ accepted ∷ said 0 ∷ seven 0 ∷ []
-unfolding beNat beBytes sameBytes number opaque boolean bounded inTurn replyBytes replyIn deviceError ioerr layoutreturn joined reportOf over outcome fileReturn returnOf arguments refusalOf isAnonymous unless requestOf bodyOf toldOf heardOf devicesIn mirrorsIn isMirror placeOf twice badMirrors openedFile reclaimedFile closedFile repairedFile blamedFile reportedFile returnedFile restartedFile endedFile sourceOf any chosen has with none amend discard firstOr fill sourceIn enrolledOf first pull step answers registered rowOf sourceFrom lend judge blame insert apply feed placeIn openOf reclaimOf closeOf enter registerOf endOf restartOf listingOf returnedOf layoutreturnOf replyAfter ledgerFrom
+unfolding beNat beBytes sameBytes number opaque boolean bounded inTurn replyBytes replyIn deviceError ioerr layoutreturn joined reportOf over outcome fileReturn returnOf arguments refusalOf isAnonymous unless requestOf bodyOf toldOf heardOf devicesIn mirrorsIn isMirror placeOf twice badMirrors openedFile reclaimedFile closedFile repairedFile accused heededFile reportHeard returnedHeard returnedFile restartedFile endedFile sourceOf any chosen has with none amend discard firstOr fill sourceIn enrolledOf first pull step answers registered rowOf sourceFrom lend judge blame insert apply feed placeIn openOf reclaimOf closeOf enter registerOf endOf restartOf listingOf returnedOf layoutreturnOf replyAfter ledgerFrom
 ledger-k13 = refl
 
 -- ---- epochs
