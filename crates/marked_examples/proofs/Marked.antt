@@ -13,8 +13,8 @@ use Rattle.files.specs.File.{openedFile, reclaimedFile, closedFile, repairedFil
 use Rattle.files.specs.Lists.{any, chosen, has, with, none, amend, discard, firstOr, fill}
 use Rattle.files.specs.Mirrors.{accused, sourceIn, enrolledOf}
 use Rattle.files.specs.Places.{first, pull}
-use Rattle.recovery.specs.History.{step, answers}
-use Rattle.recovery.specs.Ledger.{registered, rowOf, sourceFrom, lend, judge, blame, insert, apply, feed}
+use Rattle.ledger.specs.History.{step, answers}
+use Rattle.ledger.specs.Ledger.{registered, rowOf, sourceFrom, judge, blame, insert, apply, feed}
 use Rattle.recovery.specs.Record.{placeIn, openOf, reclaimOf, closeOf, enter, registerOf, endOf, restartOf, listingOf, returnedOf, layoutreturnOf, replyAfter}
 use Rattle.epochs.specs.Epochs.{judged, joinOf, startOf, finishOf}
 use Rattle.epochs.specs.History.{after}
@@ -23,7 +23,7 @@ use mathlib.Core.Path.{_≡_}
 use mathlib.Core.List.{List, [], _∷_, _++_, map}
 use Prim.Native.Nat.{ℕ, _-_, _^_}
 use Rattle.extents.specs.declared.Verdict.the-variants.{Accepted, Refused}
-use Rattle.recovery.specs.Calls.{Call, close, endGrace, Answer, said}
+use Rattle.recovery.specs.Calls.{Call, close, endGrace, Answer, said, lend}
 use Rattle.marked_examples.specs.Table.{readWrite, read, invalid, A, C, started, reclaimed, reports, list, offers, byRecord, byLedger, ledgerFrom, bothStart, epochsAfter, epochsAre, seven, empty as none-listed, accepted, computed, printed, MarkedExamples}
 use Rattle.marked_examples.specs.Table as table
 use Rattle.epochs.specs.History.{finish}

@@ -9,9 +9,9 @@ use Rattle.extents.specs.declared.Verdict.{Verdict}
 use Rattle.extents.specs.declared.Verdict.the-variants.{Accepted, Refused}
 use Rattle.wire.specs.Layout.{checkBody}
 use Rattle.recovery.specs.Calls.{Call, register, opening, reclaim, close, endGrace, restart, layoutReturn, resilver, offered, Answer, said, replied, listed}
-use Rattle.recovery.specs.Ledger.{Ledger, noRows, judge, feed}
+use Rattle.ledger.specs.Ledger.{Ledger, noRows, judge, feed}
 use Rattle.recovery.specs.Record.{fresh}
-use Rattle.recovery.specs.History.{answers}
+use Rattle.ledger.specs.History.{answers}
 use Rattle.epochs.specs.Epochs as epochs
 use Rattle.epochs.specs.History as epoch
 

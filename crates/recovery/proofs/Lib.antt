@@ -1,9 +1,2 @@
 mod Entering
 mod Listings
-pub mod Relation
-mod Reported
-mod OneFile
-mod Calls
-mod Returns
-pub mod Sentences
-pub mod History

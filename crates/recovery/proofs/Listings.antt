@@ -7,8 +7,7 @@ use lib.ListN.{length, length-map}
 use borrow.Author.Tests.{le-leb, lt-leb}
 use Rattle.files.specs.Lists.{chosen, fill}
 use Rattle.files.specs.File.{sourceOf}
-use Rattle.recovery.specs.Calls.{listed}
-use Rattle.recovery.specs.Ledger.{lend}
+use Rattle.recovery.specs.Calls.{listed, lend}
 use Rattle.recovery.specs.Record.{isWanted, numberOf, listingOf}
 use Rattle.recovery.specs.declared.record.Record.{Record}
 

@@ -1,6 +1,11 @@
--- DEFINITION. The calls of a history, with what the host passes and the buffers that it lends, and what each call is answered (paper 01, "Histories").
+-- DEFINITION. The calls of a history, with what the host passes and the buffers that it lends, what each call is answered, and how a listing fills its
+-- slices (paper 01, "Histories").
 use mathlib.Core.List.{List}
+use mathlib.Core.Bool.{cond}
 use Prim.Native.Nat.{ℕ}
+use lib.ListN.{length}
+use lib.Dec.{leb}
+use Rattle.files.specs.Lists.{fill}
 
 -- mirrors, request and reply are bytes, 16 a device; a listing is lent a slice of file numbers and a slice of sources
 pub data Call : Type 0 where
@@ -17,3 +22,10 @@ pub data Answer : Type 0 where
   replied : (status : ℕ) (reply : List ℕ) → Answer
   handedOn : (reply : List ℕ) → Answer
   listed : (status count : ℕ) (numbers sources : List ℕ) → Answer
+
+-- a listing fills the two slices that it is lent, a and b, or neither; later places stay
+unfoldable pub lend : List ℕ → List ℕ → List ℕ → List ℕ → Answer
+lend ns ss a b =
+    cond (leb (length ns) (length a))
+    (cond (leb (length ns) (length b)) (listed 0 (length ns) (fill ns a) (fill ss b)) (listed 28 0 a b))
+    (listed 28 0 a b)

@@ -1,6 +1,2 @@
 pub mod Calls
-pub mod Ledger
-pub mod Lists
 pub mod Record
-pub mod History
-pub mod Demand3

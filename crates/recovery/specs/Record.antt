@@ -13,8 +13,7 @@ use Rattle.files.specs.File.{noFile, blankFile, fileOf, isFile, isVacant, opene
 use Rattle.files.specs.declared.file.File.{File}
 use Rattle.files.specs.declared.file.FileAnswered.{FileAnswered}
 use Rattle.files.specs.declared.enrol.Enrolled.{Enrolled}
-use Rattle.recovery.specs.Calls.{Answer}
-use Rattle.recovery.specs.Ledger.{lend}
+use Rattle.recovery.specs.Calls.{Answer, lend}
 use Rattle.recovery.specs.declared.record.Record.{Record}
 use Rattle.recovery.specs.declared.record.Answered.{Answered}
 use Rattle.recovery.specs.declared.layoutreturn.Returned.{Returned}

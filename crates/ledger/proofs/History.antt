@@ -10,17 +10,17 @@ use Rattle.wire.specs.Reply.{replyIn}
 use Rattle.files.specs.Lists.{fill}
 use Rattle.files.specs.File.{blankFile, handedOnCode, returnedHeard, returnedFile}
 use Rattle.files.proofs.Slots.{Slots, all-replicate}
-use Rattle.recovery.specs.Calls.{Call, register, opening, reclaim, close, repaired, forget, endGrace, restart, layoutReturn, resilver, offered, Answer, said, replied, handedOn, listed}
-use Rattle.recovery.specs.Ledger.{Ledger, noRows, judge, apply, accepted, feed, lend, reply, isMarked, isOffered}
+use Rattle.recovery.specs.Calls.{Call, register, opening, reclaim, close, repaired, forget, endGrace, restart, layoutReturn, resilver, offered, Answer, said, replied, handedOn, listed, lend}
+use Rattle.ledger.specs.Ledger.{Ledger, noRows, judge, apply, accepted, feed, reply, isMarked, isOffered}
 use Rattle.recovery.specs.Record.{fresh, returning, writing, returnedOf, layoutreturnOf, replyAfter}
-use Rattle.recovery.specs.History.{Step, stepOf, returnStep, step, answers, verdicts, recordAfter, ledgerAfter}
-use Rattle.recovery.specs.Demand3.{ledgerOf, Holds, Demand3}
+use Rattle.ledger.specs.History.{Step, stepOf, returnStep, step, answers, verdicts, recordAfter, ledgerAfter}
+use Rattle.ledger.specs.Demand3.{ledgerOf, Holds, Demand3}
 use Rattle.recovery.specs.declared.record.Record.{Record}
 use Rattle.recovery.specs.declared.record.Answered.{Answered}
-use Rattle.recovery.proofs.Relation.{Matches, RecordAgrees}
-use Rattle.recovery.proofs.Calls.{open-agrees, reclaim-agrees, close-agrees, repaired-agrees, forget-agrees, register-agrees, end-agrees, restart-agrees, resilver-agrees, offered-agrees}
-use Rattle.recovery.proofs.Returns.{handing, ReturnAgrees, return-agrees}
-use Rattle.recovery.proofs.Sentences.{one-list}
+use Rattle.ledger.proofs.Relation.{Matches, RecordAgrees}
+use Rattle.ledger.proofs.Calls.{open-agrees, reclaim-agrees, close-agrees, repaired-agrees, forget-agrees, register-agrees, end-agrees, restart-agrees, resilver-agrees, offered-agrees}
+use Rattle.ledger.proofs.Returns.{handing, ReturnAgrees, return-agrees}
+use Rattle.ledger.proofs.Sentences.{one-list}
 
 -- ---- a step agrees: its answer is t, and the record that it leaves goes with the ledger that is fed the call and t
 record StepIs (s : Step) (l : Ledger) (x : Call) (t : Answer) : Type 0 where

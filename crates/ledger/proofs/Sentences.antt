@@ -13,8 +13,8 @@ use Rattle.wire.specs.Device.{Device}
 use Rattle.files.specs.Lists.{any, chosen, has, firstOr, Above, Rising}
 use Rattle.files.proofs.Slots.{All}
 use Rattle.files.proofs.Sets.{true-false}
-use Rattle.recovery.specs.Ledger.{Row, Ledger, isRow, newRow, registered, rowOf, numbers, sources, sourceFrom, source}
-use Rattle.recovery.specs.Lists.{IsSource, lowest, nowhere, Sources, sources-nil, sources-cons, rowPasses, IsList, OneList}
+use Rattle.ledger.specs.Ledger.{Row, Ledger, isRow, newRow, registered, rowOf, numbers, sources, sourceFrom, source}
+use Rattle.ledger.specs.Lists.{IsSource, lowest, nowhere, Sources, sources-nil, sources-cons, rowPasses, IsList, OneList}
 
 -- ---- what is chosen of rising rows
 above-has-not : (n : ℕ) (ns : List ℕ) → Above n ns → has n ns ≡ false

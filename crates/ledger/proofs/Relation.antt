@@ -14,9 +14,9 @@ use Rattle.files.specs.declared.file.File.{File}
 use Rattle.files.specs.declared.file.FileAnswered.{FileAnswered}
 use Rattle.files.proofs.Slots.{Slots}
 use Rattle.files.proofs.Copies.{Copies}
-use Rattle.recovery.specs.Ledger.{Row, Ledger, numbers, withIntents, withMark, withBlame}
+use Rattle.ledger.specs.Ledger.{Row, Ledger, numbers, withIntents, withMark, withBlame}
 use Rattle.recovery.specs.declared.record.Record.{Record}
 use Rattle.recovery.specs.declared.record.Answered.{Answered}
 
 -- ---- a file's intents and a row's clients; g: in grace. Only there does a place say whether its client has reclaimed
 pub record IntentIs (g : Bool) (rs : List ℕ) (x : Intent) (c : ℕ) : Type 0 where

@@ -23,8 +23,8 @@ use Rattle.files.specs.declared.places.Found.the-variants.{At, Nothing}
 use Rattle.files.proofs.Sets.{true-false, none-first}
 use Rattle.files.proofs.Slots.{Slots}
 use Rattle.files.proofs.Copies.{Copies, MirrorIs, NoMirror, known, placed, none-accused, flag-raised}
-use Rattle.recovery.specs.Ledger.{Row, names, isFault, isStranger, blame, reported, withMark, withBlame}
-use Rattle.recovery.proofs.Relation.{FileIs, with-mark, with-copies}
+use Rattle.ledger.specs.Ledger.{Row, names, isFault, isStranger, blame, reported, withMark, withBlame}
+use Rattle.ledger.proofs.Relation.{FileIs, with-mark, with-copies}
 
 -- no stranger has been named yet; ms are the file's mirrors
 pub record Hears (ms : List Mirror) (h : Heard) (w : Row) (bs : List ℕ) (b : Bool) : Type 0 where

@@ -21,11 +21,11 @@ use Rattle.files.specs.declared.file.FileAnswered.{FileAnswered}
 use Rattle.files.proofs.Slots.{All, Slots, Focus, Hit, slots-map, slots-chosen, slots-at, focus, pairs-map, leftOut-length, missing, found}
 use Rattle.files.proofs.Sets.{true-false, first-nothing, none-at, first-no, rest-no}
 use Rattle.files.proofs.Enrolling.{few-mirrors}
-use Rattle.recovery.specs.Ledger.{Row, Ledger, isRow, newRow, registered, rowOf, refused, _⇒_, openRules, intentRules, closeRules, repairedRules, forgetRules, isMarked, isOffered, needRepair, forCopying, listOf, numbers, source, opened, hasReclaimed, closed, mended, restarted, ended, insert, withRows, withGrace, onRow}
+use Rattle.ledger.specs.Ledger.{Row, Ledger, isRow, newRow, registered, rowOf, refused, _⇒_, openRules, intentRules, closeRules, repairedRules, forgetRules, isMarked, isOffered, needRepair, forCopying, listOf, numbers, source, opened, hasReclaimed, closed, mended, restarted, ended, insert, withRows, withGrace, onRow}
 use Rattle.recovery.specs.Record.{withFiles, answered, placeIn, fileAt, onPlace, openOf, reclaimOf, closeOf, repairedOf, enter, isFull, registerWith, registerOf, forgets, forgetOf, endOf, restartOf, isWanted, numberOf, listingOf}
 use Rattle.recovery.specs.declared.record.Record.{Record}
-use Rattle.recovery.proofs.Relation.{FileIs, NoFile, Matches, branch, FileAgrees, RecordAgrees}
-use Rattle.recovery.proofs.OneFile.{some-taken, file-opened, file-reclaimed, file-closed, file-repaired, file-restarted, file-ended, file-source, file-new}
+use Rattle.ledger.proofs.Relation.{FileIs, NoFile, Matches, branch, FileAgrees, RecordAgrees}
+use Rattle.ledger.proofs.OneFile.{some-taken, file-opened, file-reclaimed, file-closed, file-repaired, file-restarted, file-ended, file-source, file-new}
 
 -- ---- the file that a call names
 is-file : (g : Bool) (n : ℕ) (f : File) (w : Row) → FileIs g f w → isFile n f ≡ isRow n w

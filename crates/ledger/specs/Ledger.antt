@@ -14,7 +14,7 @@ use Rattle.wire.specs.declared.request.Request.{Request}
 use Rattle.wire.specs.declared.request.Request.the-variants as request
 use Rattle.files.specs.Lists.{any, chosen, has, with, none, amend, discard, firstOr, fill}
 use Rattle.files.specs.Devices.{deviceOf, mirrorsIn, isMirror, placeOf, badMirrors}
-use Rattle.recovery.specs.Calls.{Call, register, opening, reclaim, close, repaired, forget, endGrace, restart, layoutReturn, resilver, offered, Answer, said, replied, handedOn, listed}
+use Rattle.recovery.specs.Calls.{Call, register, opening, reclaim, close, repaired, forget, endGrace, restart, layoutReturn, resilver, offered, Answer, said, replied, handedOn, listed, lend}
 
 -- ---- rows
 -- a file's number, mirrors by place from 0, clients with an intent, clients that reclaimed, mark and blamed places
@@ -146,13 +146,6 @@ numbers ws = map (λ w. w .number) ws
 
 abbrev pub sources : List Row → List ℕ
 sources ws = map source ws
-
--- a listing fills the two slices that it is lent, a and b, or neither; later places stay
-unfoldable pub lend : List ℕ → List ℕ → List ℕ → List ℕ → Answer
-lend ns ss a b =
-    cond (leb (length ns) (length a))
-    (cond (leb (length ns) (length b)) (listed 0 (length ns) (fill ns a) (fill ss b)) (listed 28 0 a b))
-    (listed 28 0 a b)
 
 abbrev pub listOf : List Row → List ℕ → List ℕ → Answer
 listOf ws a b = lend (numbers ws) (sources ws) a b

@@ -3,11 +3,11 @@ use mathlib.Core.Path.{_≡_}
 use mathlib.Core.List.{List}
 use mathlib.Core.Bool.{true, false}
 use Prim.Native.Nat.{ℕ}
 use Rattle.recovery.specs.Calls.{Call, resilver, offered}
-use Rattle.recovery.specs.Ledger.{Ledger, noRows, judge, isMarked, isOffered, needRepair, forCopying}
-use Rattle.recovery.specs.Lists.{OneList}
+use Rattle.ledger.specs.Ledger.{Ledger, noRows, judge, isMarked, isOffered, needRepair, forCopying}
+use Rattle.ledger.specs.Lists.{OneList}
 use Rattle.recovery.specs.Record.{fresh, listingOf}
-use Rattle.recovery.specs.History.{answers, recordAfter, verdicts, ledgerAfter}
+use Rattle.ledger.specs.History.{answers, recordAfter, verdicts, ledgerAfter}
 
 -- the ledger after some calls, fed each call and the record's answer
 abbrev pub ledgerOf : List Call → Ledger

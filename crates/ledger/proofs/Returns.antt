@@ -22,14 +22,14 @@ use Rattle.files.specs.Blame.{heardNothing, told, heardOf}
 use Rattle.files.specs.File.{isFile, fileAnswered, heededFile, heeds, ofIntent, ifWhole, reportHeard, asksHeard, handedOnCode}
 use Rattle.files.specs.declared.file.File.{File}
 use Rattle.files.specs.declared.file.FileAnswered.{FileAnswered}
 use Rattle.recovery.specs.Calls.{Answer, replied, handedOn}
-use Rattle.recovery.specs.Ledger.{Row, Ledger, registered, rowOf, holds, refused, intentRules, reportRules, judgeRequest, reply, isFault, isStranger, blame, withMark, withBlame, reported, errorsOf, onRow}
+use Rattle.ledger.specs.Ledger.{Row, Ledger, registered, rowOf, holds, refused, intentRules, reportRules, judgeRequest, reply, isFault, isStranger, blame, withMark, withBlame, reported, errorsOf, onRow}
 use Rattle.recovery.specs.Record.{onPlace}
 use Rattle.recovery.specs.declared.record.Record.{Record}
-use Rattle.recovery.proofs.Relation.{Matches, RecordAgrees}
-use Rattle.recovery.proofs.Reported.{nothing-heeded, status-stays}
-use Rattle.recovery.proofs.OneFile.{file-reported}
-use Rattle.recovery.proofs.Calls.{refused-any, on-file}
+use Rattle.ledger.proofs.Relation.{Matches, RecordAgrees}
+use Rattle.ledger.proofs.Reported.{nothing-heeded, status-stays}
+use Rattle.ledger.proofs.OneFile.{file-reported}
+use Rattle.ledger.proofs.Calls.{refused-any, on-file}
 
 -- ---- a refusal of steps 1 and 2 is no 0, and not the number that stands for "handed on"
 low : (b : Bool) (s t : ℕ) → s < 20000 → t < 20000 → cond b s t < 20000

@@ -1,0 +1,7 @@
+pub mod Relation
+mod Reported
+mod OneFile
+mod Calls
+mod Returns
+pub mod Sentences
+pub mod History

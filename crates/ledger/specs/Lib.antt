@@ -1,0 +1,4 @@
+pub mod Ledger
+pub mod Lists
+pub mod History
+pub mod Demand3
