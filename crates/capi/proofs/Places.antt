@@ -10,17 +10,18 @@ use lib.Seq.{set-getD}
 use lib.Dec.{ltb}
 use Rattle.walks.specs.Seek.{which, seek}
 use Rattle.files.specs.Places.{first, placeOr}
-use Rattle.files.specs.File.{noFile, isFile, fileAnswered, returnedFile}
+use Rattle.files.specs.File.{noFile, isFile, fileAnswered, heeds, returnedFile}
 use Rattle.files.specs.declared.file.File.{File}
 use Rattle.files.specs.declared.file.FileAnswered.{FileAnswered}
 use Rattle.files.specs.declared.places.Found.{Found}
 use Rattle.files.proofs.Loops.{Searching, searching, hit, miss, over}
-use Rattle.recovery.specs.Record.{placeIn, putFile, onPlace, answered, returnedOf, layoutreturnOf, replyAfter}
+use Rattle.files.proofs.Hearing.{nothing-heeded}
+use Rattle.recovery.specs.Record.{placeIn, fileAt, putFile, onPlace, answered, returnedOf, layoutreturnOf, replyAfter}
 use Rattle.recovery.specs.declared.record.Record.{Record}
 use Rattle.recovery.specs.declared.record.Answered.{Answered}
 use Rattle.recovery.specs.declared.layoutreturn.Returned.{Returned}
 use Rattle.capi.specs.Place.{soughtIn}
-use Rattle.capi.specs.Returned.{answeredFile, fileReply}
+use Rattle.capi.specs.Returned.{answeredHeard, fileReply}
 
 -- ---- the place: a search that has come to i answers o, and n is what the places after i give
 module _ {A : Type 0} (p : A → Bool) (d : A) (l : List A) (e : ℕ) (o : Found) where
@@ -55,14 +56,17 @@ stays r i s = ap (λ fs. answered s (record { files = fs; grace = r .grace })) (
 abbrev numbered : Returned → Answered
 numbered a = answered (a .status) (a .after)
 
-pub returned-so : (n c : ℕ) (s d : List ℕ) (r : Record) → length (r .files) ≡ 64 → at-sought n (answeredFile n (r .grace) c s d) r ≡ numbered (layoutreturnOf n c s d r)
-unfolding answeredFile layoutreturnOf returnedOf
-returned-so n c s d r h = on-sought n (answeredFile n (r .grace) c s d) r h ∙ by-room (ltb (length d) 24) refl
+abbrev heedsAnswer : ℕ → Bool → ℕ → List ℕ → List ℕ → File → FileAnswered
+heedsAnswer n g c s d f = heeds f (answeredHeard n g c s d f)
+
+pub returned-so : (n c : ℕ) (s d : List ℕ) (r : Record) → length (r .files) ≡ 64 → at-sought n (heedsAnswer n (r .grace) c s d) r ≡ numbered (layoutreturnOf n c s d r)
+unfolding answeredHeard layoutreturnOf returnedOf returnedFile
+returned-so n c s d r h = on-sought n (heedsAnswer n (r .grace) c s d) r h ∙ by-room (ltb (length d) 24) refl
   where
-    by-room : (b : Bool) → b ≡ ltb (length d) 24 → onPlace n (answeredFile n (r .grace) c s d) r ≡ numbered (layoutreturnOf n c s d r)
-    by-room true e = rw (← e) (stays r (placeIn n r) 28)
+    by-room : (b : Bool) → b ≡ ltb (length d) 24 → onPlace n (heedsAnswer n (r .grace) c s d) r ≡ numbered (layoutreturnOf n c s d r)
+    by-room true e = rw (← e) (ap (putFile r (placeIn n r)) (nothing-heeded 28 (fileAt n r)) ∙ stays r (placeIn n r) 28)
     by-room false e = rw (← e)
 
 pub reply-so : (n c : ℕ) (s d : List ℕ) (r : Record) → length (r .files) ≡ 64 → fileReply n (r .grace) c s d (getD (r .files) (soughtIn n r) noFile) ≡ replyAfter n c s d r
-unfolding fileReply replyAfter returnedOf
+unfolding fileReply replyAfter returnedOf returnedFile
 reply-so n c s d r h = ap (λ i. fileReply n (r .grace) c s d (getD (r .files) i noFile)) (sought-place n r h)

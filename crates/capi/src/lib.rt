@@ -1,8 +1,8 @@
 // What a C server calls on a recovery record that it owns (paper 01, "The recovery record"): each call of the record, on the record where it
-// lies, with the promise of the method by value. A call on one file takes that file out of its place and puts it back; the others go by value.
+// lies, with the promise of the method by value. A call on one file reads that file and changes it in its place; the others go by value.
 // First a file's place, then the functions by value that `recovery` and `files` lack, then the calls in the paper's order.
+use files::blame::Heard;
 use files::file::File;
-use files::file::FileAnswered;
 use files::file::HANDED_ON;
 use recovery::record::Record;
 ghost use mathlib.Core.Path.{_≡_};
@@ -11,7 +11,7 @@ ghost use Rattle.recovery.specs.Calls.{listed};
 ghost use Rattle.recovery.specs.Record.{fresh, registerOf, openOf, reclaimOf, closeOf, repairedOf, forgetOf, endOf, restartOf, listingOf, layoutreturnOf, replyAfter};
 ghost use Prim.Native.Nat.{_<_};
 ghost use Rattle.capi.specs.Place.{isNumbered, soughtIn};
-ghost use Rattle.capi.specs.Returned.{answeredFile, fileReply};
+ghost use Rattle.capi.specs.Returned.{answeredHeard, fileReply};
 
 // ---- The place of a file.
 // Whether a place with this flag and number is the file's.
@@ -36,29 +36,20 @@ fn position(r: &Record, file: u64) -> usize
 }
 
 // ---- By value.
-// LAYOUTRETURN on one file, with its reply: a reply buffer under 24 bytes gets 28 before all else, and where it is handed on none is written.
-fn answered(
-    f: File,
-    client: u64,
-    grace: bool,
-    number: u64,
-    request: &[u8],
-    reply: &mut [u8],
-) -> FileAnswered
-    ensures { λ s. ⌜ (s ≡ answeredFile number grace client (now (request .entry)) (now (reply .entry)) f) × (now (reply .exit) ≡ fileReply number grace client (now (request .entry)) (now (reply .entry)) f) ⌝ }
+// LAYOUTRETURN on one file, but for the change, with its reply: a reply buffer under 24 bytes gets 28 before all else, and where it is handed on
+// none is written.
+fn heard(f: File, client: u64, grace: bool, number: u64, request: &[u8], reply: &mut [u8]) -> Heard
+    ensures { λ h. ⌜ (h ≡ answeredHeard number grace client (now (request .entry)) (now (reply .entry)) f) × (now (reply .exit) ≡ fileReply number grace client (now (request .entry)) (now (reply .entry)) f) ⌝ }
 {
     if reply.len() < 24 {
-        return FileAnswered {
-            status: 28,
-            file: f,
-        };
+        return Heard::nothing(28);
     }
-    let a = f.layoutreturn(number, grace, client, request);
-    if a.status == HANDED_ON {
-        return a;
+    let h = f.heard(number, grace, client, request);
+    if h.status == HANDED_ON {
+        return h;
     }
-    wire::reply::write(reply, a.status);
-    a
+    wire::reply::write(reply, h.status);
+    h
 }
 
 // The resilver list, with its count through a pointer.
@@ -184,8 +175,8 @@ pub extern "C" fn sc_record_layoutreturn(
         × (now (reply .exit) ≡ replyAfter file client (now (request .entry)) (now (reply .entry)) (now (r .entry))) ⌝ }
 {
     let i = position(r, file);
-    let s = answered(r.files[i], client, r.grace, file, request, reply);
-    r.files[i] = s.file;
+    let s = heard(r.files[i], client, r.grace, file, request, reply);
+    r.files[i] = File::heed(r.files[i], s);
     s.status
 }
 

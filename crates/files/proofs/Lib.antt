@@ -3,4 +3,4 @@ pub mod Sets
 pub mod Loops
 pub mod Copies
 pub mod Enrolling
-mod Hearing
+pub mod Hearing

@@ -25,9 +25,10 @@ use Rattle.files.specs.declared.places.Found.the-variants.{At, Nothing}
 use Rattle.files.proofs.Slots.{All, Pairs, Slots, Focus, Room, slots-left, slots-fill, slots-chosen, focus, roomFor, pairs-as, all-replicate, fill-length, chosen-length, leftOut-length, missing, found, full, room}
 use Rattle.files.proofs.Sets.{true-false, has-with, none-with, with-old, with-new}
 use Rattle.files.proofs.Copies.{MirrorIs, NoMirror, Copies, copies-unblamed, copies-new}
+use Rattle.files.proofs.Hearing.{nothing-heeded}
 use Rattle.ledger.specs.Ledger.{Row, newRow, source, sourceFrom, refused, openRules, intentRules, closeRules, repairedRules, opened, hasReclaimed, closed, mended, restarted, ended, reported}
 use Rattle.ledger.proofs.Relation.{IntentIs, NoIntent, Intents, FileIs, with-intents, with-mark, with-copies, FileAgrees, branch}
-use Rattle.ledger.proofs.Reported.{nothing-heeded, file-after-report, status-stays}
+use Rattle.ledger.proofs.Reported.{file-after-report, status-stays}
 
 -- ---- tests of intents
 module _ (g : Bool) (rs : List ℕ) (c : ℕ) where

@@ -14,7 +14,7 @@ use Rattle.files.specs.Devices.{deviceOf, isMirror, placeOf}
 use Rattle.files.specs.Mirrors.{isDevice, accused}
 use Rattle.files.specs.Blame.{heardNothing, faultAt, toldAt, toldOf, told}
 use Rattle.files.specs.File as file
-use Rattle.files.specs.File.{fileAnswered, heededFile, heeds}
+use Rattle.files.specs.File.{heededFile}
 use Rattle.files.specs.declared.mirrors.Mirror.{Mirror}
 use Rattle.files.specs.declared.blame.Heard.{Heard}
 use Rattle.files.specs.declared.file.File.{File}
@@ -101,11 +101,6 @@ module _ (ms : List Mirror) (w : Row) (s : Slots MirrorIs NoMirror ms (w .mirror
       last true = refl
       last false = refl
   heard-all (x ∷ xs) h bs b k = heard-item h x xs bs b (names w (deviceOf x)) refl k (λ cs c j. heard-all xs (told ms h x) cs c j)
-
--- ---- a file that heard a refusal
-pub nothing-heeded : (k : ℕ) (f : File) → heeds f (heardNothing k) ≡ fileAnswered k f
-unfolding heededFile
-nothing-heeded k f = refl
 
 -- ---- a file that heard a whole report
 after-report : {g : Bool} {f : File} {w : Row} (h : Heard) (xs : List DeviceError) → FileIs g f w → Heeds (f .mirrors) h w xs (w .blamed) false → FileIs g (heededFile h f) (reported xs w)

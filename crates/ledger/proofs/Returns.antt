@@ -22,12 +22,13 @@ use Rattle.files.specs.Blame.{heardNothing, told, heardOf}
 use Rattle.files.specs.File.{isFile, fileAnswered, heededFile, heeds, ofIntent, ifWhole, reportHeard, asksHeard, handedOnCode}
 use Rattle.files.specs.declared.file.File.{File}
 use Rattle.files.specs.declared.file.FileAnswered.{FileAnswered}
+use Rattle.files.proofs.Hearing.{nothing-heeded}
 use Rattle.recovery.specs.Calls.{Answer, replied, handedOn}
 use Rattle.ledger.specs.Ledger.{Row, Ledger, registered, rowOf, holds, refused, intentRules, reportRules, judgeRequest, reply, isFault, isStranger, blame, withMark, withBlame, reported, errorsOf, onRow}
 use Rattle.recovery.specs.Record.{onPlace}
 use Rattle.recovery.specs.declared.record.Record.{Record}
 use Rattle.ledger.proofs.Relation.{Matches, RecordAgrees}
-use Rattle.ledger.proofs.Reported.{nothing-heeded, status-stays}
+use Rattle.ledger.proofs.Reported.{status-stays}
 use Rattle.ledger.proofs.OneFile.{file-reported}
 use Rattle.ledger.proofs.Calls.{refused-any, on-file}
 
