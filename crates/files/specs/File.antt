@@ -10,7 +10,7 @@ use Rattle.wire.specs.Request.{requestOf, bodyOf}
 use Rattle.wire.specs.declared.request.Request.{Request}
 use Rattle.wire.specs.declared.request.Request.the-variants as request
 use Rattle.files.specs.Lists.{chosen, fill}
-use Rattle.files.specs.Places.{first, leftOut}
+use Rattle.files.specs.Places.{first, isFound, leftOut}
 use Rattle.files.specs.Mirrors.{noMirrors, unblamed, accused, sourceIn}
 use Rattle.files.specs.Blame.{heardNothing, heardOf}
 use Rattle.files.specs.Intents.{noIntent, noIntents, intentOf, isIntent, isFree, isKept, firstTaken, reclaimedIf, unreclaimedIntent}
@@ -114,8 +114,7 @@ heeds f h = fileAnswered (h .status) (heededFile h f)
 
 -- step 6
 abbrev pub ofClient : Heard → Found → Heard
-ofClient h Nothing = heardNothing 10034
-ofClient h (At i) = h
+ofClient h o = cond (isFound o) h (heardNothing 10034)
 
 abbrev pub ofIntent : ℕ → ℕ → File → Heard → Heard
 ofIntent n c f h = cond (isFile n f) (ofClient h (first (isIntent c) (f .intents))) (heardNothing 70)

@@ -14,6 +14,10 @@ unfoldable pub first : {A : Type 0} → (A → Bool) → List A → Found
 first p [] = Nothing
 first p (x ∷ xs) = cond (p x) (At 0) (bump (first p xs))
 
+abbrev pub isFound : Found → Bool
+isFound (At i) = true
+isFound Nothing = false
+
 -- the place, or e if there is none
 abbrev pub placeOr : ℕ → Found → ℕ
 placeOr e (At i) = i

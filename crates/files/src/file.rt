@@ -253,19 +253,20 @@ impl File {
     fn report(self, number: u64, client: u64, body: &[u8]) -> Heard
         ensures { λ r. ⌜ r ≡ reportHeard number client (reportOf (now (body .entry))) self ⌝ }
     {
+        let hit = self.is(number);
+        let xs = self.intents;
+        let held = crate::intents::held(xs, client);
         let ms = self.mirrors;
         let h = listen(ms, body);
         if h.status != 0 {
             return h;
         }
-        let hit = self.is(number);
         if !hit {
             return Heard::nothing(70);
         }
-        let xs = self.intents;
-        let Found::At(_) = crate::intents::holding(xs, client) else {
+        if !held {
             return Heard::nothing(10034);
-        };
+        }
         h
     }
 
@@ -276,12 +277,13 @@ impl File {
         match wire::request::read(request) {
             Request::Refused(k) => Heard::nothing(k),
             Request::Bulk => Heard::nothing(HANDED_ON),
-            Request::File { anonymous, len: _ } => {
+            Request::File { anonymous, len } => {
                 let status = phase(grace, anonymous);
                 if status != 0 {
                     return Heard::nothing(status);
                 }
-                self.report(number, client, wire::body::body(request))
+                let end = 52 + len;
+                self.report(number, client, &request[52..end])
             }
         }
     }

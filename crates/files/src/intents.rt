@@ -6,7 +6,7 @@ ghost use Prim.Native.Nat.{_<_};
 ghost use mathlib.Core.Bool.{cond};
 ghost use lib.ListN.{getD, set, replicate};
 ghost use Rattle.files.specs.Lists.{chosen, fill};
-ghost use Rattle.files.specs.Places.{first, leftOut};
+ghost use Rattle.files.specs.Places.{first, isFound, leftOut};
 ghost use Rattle.files.specs.Intents.{noIntent, intentOf, isIntent, isFree, isKept, reclaimedIf, unreclaimedIntent, firstTaken};
 
 // A place for an intent: its client, whether the place is taken, and whether the client has reclaimed since the latest restart.
@@ -119,6 +119,16 @@ pub(crate) fn holding(intents: [Intent; 8], client: u64) -> Found
         i = i + 1;
     }
     Found::Nothing
+}
+
+// Whether the client has an intent.
+pub(crate) fn held(intents: [Intent; 8], client: u64) -> bool
+    ensures { λ r. ⌜ r ≡ isFound (first (isIntent client) intents) ⌝ }
+{
+    match holding(intents, client) {
+        Found::At(_) => true,
+        Found::Nothing => false,
+    }
 }
 
 // The first free place.

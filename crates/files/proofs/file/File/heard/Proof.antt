@@ -1,7 +1,8 @@
--- Each return rewrites with the tests that led there.
+-- Each return rewrites with the tests that led there; the body lies where the request's law says.
 use mathlib.Core.Path.{sym, _∙_}
 use Prim.Native.Nat.{_-_}
 use borrow.Author.Tests.{eq-eqb, ne-eqb}
+use Rattle.wire.proofs.Requests.{body-fits, body-file}
 use Rattle.files.specs.File.{returnedHeard}
 use native.Mathlib.Omega.{arith}
 use borrow.Author.Needs.{needs}
@@ -36,8 +37,17 @@ returns : tie.Need-returns
 unfolding returnedHeard
 returns c = rw (sym (c .before .before .before .before .before .before .read .ensures) ∙ c .before .before .before .before .anonymous .given .1, ← c .before .before .phase .ensures, ne-eqb _ _ (c .before .if1 .taken)) (c .nothing3 .ensures)
 
-body-requires : tie.Need-body-requires
-body-requires c κs = search needs
+add-end : tie.Need-add-end
+add-end c = omega (arith, body-fits (c .before .before .before .before .before .before .before .args .request .now) (sym (c .before .before .before .before .before .read .ensures) ∙ c .before .before .before .anonymous .given .1))
+
+sub-report : tie.Need-sub-report
+sub-report c = search needs
+
+part-report-start : tie.Need-part-report-start
+part-report-start c = search needs
+
+part-report-end : tie.Need-part-report-end
+part-report-end c = omega (arith, body-fits (c .before .before .before .before .before .before .before .args .request .now) (sym (c .before .before .before .before .before .read .ensures) ∙ c .before .before .before .anonymous .given .1))
 
 report-requires : tie.Need-report-requires
 report-requires c κs = search needs
@@ -52,7 +62,7 @@ returns-3 c = rw (sym (c .before .before .before .read .ensures) ∙ c .before .
 
 returns-4 : tie.Need-returns-4
 unfolding returnedHeard
-returns-4 c = rw (sym (c .before .before .before .before .before .before .before .read .ensures) ∙ c .before .before .before .before .before .anonymous .given .1, ← c .before .before .before .phase .ensures, eq-eqb _ _ (c .before .before .if1 .left), ← c .before .body .ensures) (c .report .ensures)
+returns-4 c = let e = sym (c .before .before .before .before .before .before .before .read .ensures) ∙ c .before .before .before .before .before .anonymous .given .1 in rw (e, ← c .before .before .before .phase .ensures, eq-eqb _ _ (c .before .before .if1 .left), ← body-file (c .before .before .before .before .before .before .before .before .before .args .request .now) e) (c .report .ensures)
 
 pub heard-spec : {M : Type 1} → statement M
 heard-spec =
@@ -67,7 +77,10 @@ heard-spec =
     phase-requires
     nothing-requires-3
     returns
-    body-requires
+    add-end
+    sub-report
+    part-report-start
+    part-report-end
     report-requires
     returns-2
     returns-3
