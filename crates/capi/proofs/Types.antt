@@ -1,6 +1,9 @@
--- The record, a file, and what a call on either answers, as the laws of `walks` take them.
-use Rattle.walks.proofs.Types.{Rec, Stepped}
+-- The record, a file, what a call on either answers, and what is heard of a report, as the laws of `walks` take them.
+use Rattle.walks.proofs.Types.{Rec, Stepped, Status, but-first}
+use Rattle.files.specs.declared.blame.Heard.{Heard}
 use Rattle.files.specs.declared.file.FileAnswered.{FileAnswered}
+use Rattle.files.proofs.blame.Heard as H
+use Rattle.files.proofs.blame.Heard.Laws as H′
 use Rattle.files.proofs.file.File as F
 use Rattle.files.proofs.file.File.Laws as F′
 use Rattle.files.proofs.file.FileAnswered as A
@@ -20,3 +23,6 @@ file = record { T = F.the-type; laws = F′.the-laws; plain = F′.the-plain; lo
 
 abbrev pub file-answered : Stepped file
 file-answered = record { name = A.the-type .name; D = FileAnswered; status = λ s. s .status; rec = λ s. s .file; one = A.the-type .to-one }
+
+abbrev pub hearing : Status
+hearing = record { name = H.the-type .name; D = Heard; others = but-first (H.the-type .parts); status = λ h. h .status; rest = λ h. H.the-type .to h .1; one = H.the-type .to-one; laws = H′.the-laws .1; plain = H′.the-plain }

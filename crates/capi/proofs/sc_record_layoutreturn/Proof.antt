@@ -1,0 +1,40 @@
+-- `sc_record_layoutreturn` meets its contract, by the law of one element of an array in a record over `heard` and `File::heed`, with the file as the key.
+use mathlib.Core.Path.{_≡_, ap, _∙_}
+use mathlib.Core.List.{[], _∷_}
+use lib.ListN.{getD}
+use mir.Syntax.{w8, w64}
+use Rattle.walks.proofs.Args.{num, slice, slice-mut}
+use Rattle.walks.proofs.Decided as decided
+use Rattle.files.specs.File.{noFile, heededFile, heeds}
+use Rattle.files.specs.declared.blame.Heard.{Heard}
+use Rattle.files.proofs.file.File.heed.Symbol as h
+use Rattle.files.proofs.file.File.heed.Met as h-thm
+use Rattle.recovery.specs.Record.{putFile, layoutreturnOf, replyAfter}
+use Rattle.recovery.specs.declared.record.Answered.{Answered}
+use Rattle.capi.specs.Place.{soughtIn}
+use Rattle.capi.specs.Returned.{answeredHeard, fileReply}
+use Rattle.capi.proofs.Types.{file, hearing}
+use Rattle.capi.proofs.Fields.{files, grace}
+use Rattle.capi.proofs.Places.{returned-so, reply-so}
+use Rattle.capi.proofs.OnFile.{sought}
+use Rattle.capi.proofs.position.Symbol as p
+use Rattle.capi.proofs.position.Met as p-thm
+use Rattle.capi.proofs.heard.Symbol as g
+use Rattle.capi.proofs.heard.Met as g-thm
+use Rattle.capi.proofs.sc_record_layoutreturn.Key.{name as #f}
+use Rattle.capi.proofs.sc_record_layoutreturn.Statement as stated
+use Rattle.capi.proofs.sc_record_layoutreturn.Code as code
+
+pub sc-record-layoutreturn-spec : {M : Type 1} → stated.statement M
+unfolding code.routine files grace
+sc-record-layoutreturn-spec 𝓤 H 𝓜 𝓖 𝓡 =
+    decided.spec file files tt w64 grace hearing (num w64 ∷ slice w8 ∷ slice-mut w8 ∷ []) decided.the-first noFile sought
+    (λ l i s o. (s ≡ answeredHeard (i .0) (l .1 .1 .0) (l .1 .0) (i .1 .0) (i .1 .1 .0) (l .0)) × (o .1 .1 .0 ≡ fileReply (i .0) (l .1 .1 .0) (l .1 .0) (i .1 .0) (i .1 .1 .0) (l .0)))
+    (λ r c i s r′ o. (s ≡ layoutreturnOf (i .0) c (i .1 .0) (i .1 .1 .0) r .status) × (r′ ≡ layoutreturnOf (i .0) c (i .1 .0) (i .1 .1 .0) r .after) × (o .1 .1 .0 ≡ replyAfter (i .0) c (i .1 .0) (i .1 .1 .0) r))
+    (λ f s. heededFile s f)
+    (λ r c i s o long e.
+    let so : putFile r (soughtIn (i .0) r) (heeds (getD (r .files) (soughtIn (i .0) r) noFile) s) ≡ _ =
+    ap (λ (a : Heard). putFile r (soughtIn (i .0) r) (heeds (getD (r .files) (soughtIn (i .0) r) noFile) a)) (e .0) ∙ returned-so (i .0) c (i .1 .0) (i .1 .1 .0) r long in
+    (ap (λ (a : Answered). a .status) so, ap (λ (a : Answered). a .after) so, e .1 ∙ reply-so (i .0) c (i .1 .0) (i .1 .1 .0) r long))
+    𝓤 H 𝓜 𝓖 𝓡 code.env #f (p.name, (g.name, (h.name, tt))) (p.routine, (g.routine, (h.routine, tt))) (code.calls-capi·position, (code.calls-capi·heard, (code.calls-files·file·File·heed, tt))) (code.unfolded 𝓤 H 𝓜 𝓡)
+    (p-thm.met 𝓤 H 𝓜 𝓖 𝓡, (g-thm.met 𝓤 H 𝓜 𝓖 𝓡, (h-thm.met 𝓤 H 𝓜 𝓖 𝓡, tt)))
