@@ -8,12 +8,11 @@ use native.Mathlib.Omega.{arith}
 use lib.Dec.{eqb, leb}
 use borrow.Author.Tests.{eqb-true, ne-eqb}
 use Rattle.wire.specs.Report.{DeviceError, Report, Whole, Malformed, Statistics, reportOf, over, outcome}
-use Rattle.wire.specs.Request.{requestOf, bodyOf, refusalOf, unless, answered, arguments, Arguments, asked, Returned, ofFile, ofMany}
-use Rattle.wire.specs.Reader.{Read, Got, Bad}
+use Rattle.wire.specs.Request.{requestOf, bodyOf}
 use Rattle.wire.specs.Reply.{replyIn}
 use Rattle.wire.specs.declared.request.Request.{Request}
 use Rattle.wire.specs.declared.request.Request.the-variants as request
-use Rattle.wire.proofs.Requests.{refused-number}
+use Rattle.wire.proofs.Requests.{cond-below, refused-number, refused-small}
 use Rattle.files.specs.Lists.{any}
 use Rattle.files.specs.Places.{first}
 use Rattle.files.specs.Intents.{isIntent}
@@ -32,42 +31,7 @@ use Rattle.ledger.proofs.Reported.{status-stays}
 use Rattle.ledger.proofs.OneFile.{file-reported}
 use Rattle.ledger.proofs.Calls.{refused-any, on-file}
 
--- ---- a refusal of steps 1 and 2 is no 0, and not the number that stands for "handed on"
-low : (b : Bool) (s t : ℕ) → s < 20000 → t < 20000 → cond b s t < 20000
-low true s t h k = h
-low false s t h k = k
-
-refusal-low : (layout iomode : ℕ) → refusalOf layout iomode < 20000
-unfolding refusalOf
-refusal-low layout iomode = low (eqb layout 4) (cond (leb 1 iomode && leb iomode 3) 0 10049) 10062 (low (leb 1 iomode && leb iomode 3) 0 10049 (omega arith) (omega arith)) (omega arith)
-
-abbrev Low : Request → Type 0
-Low (request.Refused k) = k < 20000
-Low request.Bulk = Unit {0}
-Low (request.File a n) = Unit {0}
-
-unless-low : (k : ℕ) (r : Request) → k < 20000 → Low r → Low (unless k r)
-unfolding unless
-unless-low k r h l = by (eqb k 0)
-  where
-    by : (b : Bool) → Low (cond b r (request.Refused k))
-    by true = l
-    by false = h
-
-asked-low : (t : Returned) → Low (asked t)
-asked-low (ofFile a b) = tt
-asked-low ofMany = tt
-
-answered-low : (q : Read Arguments) → Low (answered q)
-answered-low Bad = omega arith
-answered-low (Got a (x ∷ rest)) = omega arith
-answered-low (Got a []) = unless-low (refusalOf (a .layout) (a .iomode)) (asked (a .returned)) (refusal-low (a .layout) (a .iomode)) (asked-low (a .returned))
-
-request-low : (s : List ℕ) → Low (requestOf s)
-unfolding requestOf
-request-low s = answered-low (arguments s)
-
--- a request as steps 1 and 2 leave it
+-- ---- a request as steps 1 and 2 leave it
 record Refusal (k : ℕ) : Type 0 where
   nonzero : k ≡ 0 → ⊥
   small : k < 20000
@@ -78,7 +42,7 @@ Read-as request.Bulk = Unit {0}
 Read-as (request.File a n) = Unit {0}
 
 read-as : (s : List ℕ) (q : Request) → requestOf s ≡ q → Read-as q
-read-as s (request.Refused k) e = record { nonzero = refused-number s e; small = rw e at (request-low s) }
+read-as s (request.Refused k) e = record { nonzero = refused-number s e; small = refused-small s e }
 read-as s request.Bulk e = tt
 read-as s (request.File a n) e = tt
 
@@ -146,13 +110,13 @@ not-handed t h = ne-eqb t handedOnCode (λ e. omega arith)
 rules-low : (l : Ledger) (n c : ℕ) (p : Report) → refused (reportRules l n c p) < 20000
 rules-low l n c Malformed = omega arith
 rules-low l n c Statistics = omega arith
-rules-low l n c (Whole xs) = low (not (registered n l)) 70 (cond (not (holds c (rowOf n l))) 10034 0) (omega arith) (low (not (holds c (rowOf n l))) 10034 0 (omega arith) (omega arith))
+rules-low l n c (Whole xs) = cond-below (not (registered n l)) 20000 70 (cond (not (holds c (rowOf n l))) 10034 0) (omega arith) (cond-below (not (holds c (rowOf n l))) 20000 10034 0 (omega arith) (omega arith))
 
 answer-is : (l : Ledger) (n c : ℕ) (s d : List ℕ) (q : Request) → Read-as q → handing (codeOf l n c s q) d ≡ judgeRequest l n c s d q
 answer-is l n c s d (request.Refused k) h = rw (not-handed k (h .small))
 answer-is l n c s d request.Bulk h = refl
 answer-is l n c s d (request.File true k) h =
-    rw (not-handed _ (low (not (l .grace)) 10033 (refused (reportRules l n c (reportOf (bodyOf s)))) (omega arith) (rules-low l n c (reportOf (bodyOf s)))))
+    rw (not-handed _ (cond-below (not (l .grace)) 20000 10033 (refused (reportRules l n c (reportOf (bodyOf s)))) (omega arith) (rules-low l n c (reportOf (bodyOf s)))))
 answer-is l n c s d (request.File false k) h = by (l .grace)
   where
     by : (b : Bool) → handing (cond b 10013 handedOnCode) d ≡ cond b (reply 10013 d) (handedOn d)

@@ -10,7 +10,7 @@ use lib.Dec.{ltb}
 use Rattle.extents.specs.declared.Extent.{Extent}
 use Rattle.extents.specs.declared.Verdict.{Verdict}
 use Rattle.extents.specs.declared.Verdict.the-variants.{Accepted, Refused}
-use Rattle.wire.specs.Layout.{extentsOf, checkBody}
+use Rattle.layouts.specs.Layout.{extentsOf, checkBody}
 
 -- the decimal digits of a number of at most k digits, with no zero in front
 unfoldable pub digits : ℕ → ℕ → List ℕ

@@ -5,7 +5,7 @@ ghost use mathlib.Core.Path.{_≡_};
 ghost use Prim.Native.Nat.{_+_, _*_, _≤_};
 ghost use lib.ListN.{length, drop};
 ghost use Rattle.io.specs.Counts.{Counts};
-ghost use Rattle.wire.specs.Layout.{extentOf, extentsOf};
+ghost use Rattle.layouts.specs.Layout.{extentOf, extentsOf};
 ghost use Rattle.list_layout.specs.Text.{decimal, numberText, lineOf, linesOf, acceptedText, refusedText, Put, Listing};
 
 // Stores the bytes of `src` from `at` on, and answers where they end.
@@ -102,7 +102,7 @@ pub fn listing(s: &[u8], d: &mut [u8]) -> usize
     if 65536 < s.len() {
         return put_refused(d, 1, 0);
     }
-    match wire::layout::check(s) {
+    match layouts::layout::check(s) {
         Verdict::Accepted(n) => put_accepted(d, s, n),
         Verdict::Refused(k, i) => put_refused(d, k, i),
     }

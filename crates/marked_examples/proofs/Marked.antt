@@ -2,7 +2,7 @@
 use mathlib.Core.Path.{refl}
 use Rattle.xdr.specs.Be.{beNat, beBytes}
 use Rattle.extents.specs.Extents.{listFrom, tooFar, outOfOrder, clash, anyOf, refusal, verdict}
-use Rattle.wire.specs.Layout.{checkBody}
+use Rattle.layouts.specs.Layout.{checkBody}
 use Rattle.wire.specs.Reader.{sameBytes, number, opaque, boolean, bounded, inTurn}
 use Rattle.wire.specs.Reply.{replyBytes, replyIn}
 use Rattle.wire.specs.Report.{deviceError, ioerr, layoutreturn, joined, reportOf, over, outcome}

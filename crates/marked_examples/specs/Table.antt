@@ -7,7 +7,7 @@ use lib.ListN.{replicate}
 use Rattle.xdr.specs.Be.{beBytes}
 use Rattle.extents.specs.declared.Verdict.{Verdict}
 use Rattle.extents.specs.declared.Verdict.the-variants.{Accepted, Refused}
-use Rattle.wire.specs.Layout.{checkBody}
+use Rattle.layouts.specs.Layout.{checkBody}
 use Rattle.recovery.specs.Calls.{Call, register, opening, reclaim, close, endGrace, restart, layoutReturn, resilver, offered, Answer, said, replied, listed}
 use Rattle.ledger.specs.Ledger.{Ledger, noRows, judge, feed}
 use Rattle.recovery.specs.Record.{fresh}

@@ -226,26 +226,44 @@ module _ (s : List ℕ) where
   unfolding requestIn
   read-file {n} e {a} p q = rw (as-tested s, e) (q ∙ ap (λ (b : Bool). judgedIn s (File b n)) p)
 
--- a refusal of steps 1 and 2 is never 0
-abbrev Refuses : Request → Type 0
-Refuses (Refused k) = k ≡ 0 → ⊥
-Refuses Bulk = Unit
-Refuses (File a n) = Unit
+-- what holds of 10036 and of every number of step 2 holds of a refusal's number
+module _ (P : ℕ → Type 0) (malformed : P 10036) (refusal : (layout iomode : ℕ) → (refusalOf layout iomode ≡ 0 → ⊥) → P (refusalOf layout iomode)) where
+  abbrev Refuses : Request → Type 0
+  Refuses (Refused k) = P k
+  Refuses Bulk = Unit
+  Refuses (File a n) = Unit
 
-judged-refuses : (s : List ℕ) (r : Request) → Refuses r → Refuses (judgedIn s r)
-unfolding judgedIn unless
-judged-refuses s r h =
-    by-test Refuses (eqb (refusalOf (beNat 4 (drop 4 s)) (beNat 4 (drop 8 s))) 0) r (Refused (refusalOf (beNat 4 (drop 4 s)) (beNat 4 (drop 8 s)))) (λ _. h)
-    (λ z. eqb-false (refusalOf (beNat 4 (drop 4 s)) (beNat 4 (drop 8 s))) 0 z)
+  judged-refuses : (s : List ℕ) (r : Request) → Refuses r → Refuses (judgedIn s r)
+  unfolding judgedIn unless
+  judged-refuses s r h =
+      by-test Refuses (eqb (refusalOf (beNat 4 (drop 4 s)) (beNat 4 (drop 8 s))) 0) r (Refused (refusalOf (beNat 4 (drop 4 s)) (beNat 4 (drop 8 s)))) (λ _. h)
+      (λ z. refusal (beNat 4 (drop 4 s)) (beNat 4 (drop 8 s)) (eqb-false (refusalOf (beNat 4 (drop 4 s)) (beNat 4 (drop 8 s))) 0 z))
 
-form-refuses : (s : List ℕ) (f : Form) → Refuses (answerIn s f)
-form-refuses s form.Malformed = λ z. omega arith
-form-refuses s form.Bulk = judged-refuses s Bulk tt
-form-refuses s (form.File n) = judged-refuses s (File (anonymousIn s) n) tt
+  form-refuses : (s : List ℕ) (f : Form) → Refuses (answerIn s f)
+  form-refuses s form.Malformed = malformed
+  form-refuses s form.Bulk = judged-refuses s Bulk tt
+  form-refuses s (form.File n) = judged-refuses s (File (anonymousIn s) n) tt
 
+  of-refused : (s : List ℕ) {k : ℕ} → requestOf s ≡ Refused k → P k
+  unfolding requestIn
+  of-refused s e = rw (sym (as-tested s) ∙ e) at (form-refuses s (formOf s))
+
+-- it is never 0
 pub refused-number : (s : List ℕ) {k : ℕ} → requestOf s ≡ Refused k → k ≡ 0 → ⊥
-unfolding requestIn
-refused-number s e = rw (sym (as-tested s) ∙ e) at (form-refuses s (formOf s))
+refused-number s e = of-refused (λ k. k ≡ 0 → ⊥) (λ z. omega arith) (λ layout iomode z. z) s e
+
+-- and it is a small number, so not one that stands for something else
+pub cond-below : (b : Bool) (n s t : ℕ) → s < n → t < n → cond b s t < n
+cond-below true n s t h k = h
+cond-below false n s t h k = k
+
+refusal-small : (layout iomode : ℕ) → refusalOf layout iomode < 20000
+unfolding refusalOf
+refusal-small layout iomode =
+    cond-below (eqb layout 4) 20000 (cond (leb 1 iomode && leb iomode 3) 0 10049) 10062 (cond-below (leb 1 iomode && leb iomode 3) 20000 0 10049 (omega arith) (omega arith)) (omega arith)
+
+pub refused-small : (s : List ℕ) {k : ℕ} → requestOf s ≡ Refused k → k < 20000
+refused-small s e = of-refused (λ k. k < 20000) (omega arith) (λ layout iomode _. refusal-small layout iomode) s e
 
 -- ---- the body
 abbrev Lent : List ℕ → Request → Type 0

@@ -1,8 +1,8 @@
 -- listing meets its contract: the text is the input's, and no text is longer than the buffer.
 use Rattle.list_layout.proofs.Texts.{refused-short, accepted-short, whole}
 use Rattle.list_layout.specs.Text.{textOf, listed}
-use Rattle.wire.proofs.Bodies.{accepted}
-use Rattle.wire.specs.Layout.{extentAt, extentsOf}
+use Rattle.layouts.proofs.Bodies.{accepted}
+use Rattle.layouts.specs.Layout.{extentAt, extentsOf}
 use Rattle.extents.proofs.Turns.{length-listFrom}
 use borrow.Author.Tests.{lt-ltb, le-ltb}
 use lib.ListN.{length}

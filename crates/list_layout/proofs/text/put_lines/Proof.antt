@@ -1,12 +1,12 @@
 -- put_lines stores one more line at each turn.
 use native.Mathlib.Nat.{zero-add}
-use Rattle.wire.specs.Layout.{extentOf}
+use Rattle.layouts.specs.Layout.{extentOf}
 use lib.ListN.{drop}
 use native.Mathlib.Numerals.{add-one}
 use Rattle.list_layout.proofs.Texts.{nothing, kept, then, line-ends, line-more}
 use Rattle.list_layout.specs.Text.{linesOf, Put}
-use Rattle.wire.proofs.Stores.{listFrom-more}
-use Rattle.wire.specs.Layout.{extentAt}
+use Rattle.layouts.proofs.Stores.{listFrom-more}
+use Rattle.layouts.specs.Layout.{extentAt}
 use Rattle.extents.specs.Extents.{listFrom}
 use lib.ListN.{length}
 use mathlib.Core.Path.{_≡_}
