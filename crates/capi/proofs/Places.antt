@@ -9,13 +9,13 @@ use lib.ListN.{getD, length}
 use lib.Seq.{set-getD}
 use lib.Dec.{ltb}
 use Rattle.walks.specs.Seek.{which, seek}
-use Rattle.files.specs.Places.{first, placeOr}
+use Rattle.mirroring.specs.Places.{first, placeOr}
 use Rattle.files.specs.File.{noFile, isFile, fileAnswered, heeds, returnedFile}
 use Rattle.files.specs.declared.file.File.{File}
 use Rattle.files.specs.declared.file.FileAnswered.{FileAnswered}
-use Rattle.files.specs.declared.places.Found.{Found}
-use Rattle.files.proofs.Loops.{Searching, searching, hit, miss, over}
-use Rattle.files.proofs.Hearing.{nothing-heeded}
+use Rattle.mirroring.specs.declared.places.Found.{Found}
+use Rattle.mirroring.proofs.Loops.{Searching, searching, hit, miss, over}
+use Rattle.files.proofs.Heeding.{nothing-heeded}
 use Rattle.recovery.specs.Record.{placeIn, fileAt, putFile, onPlace, answered, returnedOf, layoutreturnOf, replyAfter}
 use Rattle.recovery.specs.declared.record.Record.{Record}
 use Rattle.recovery.specs.declared.record.Answered.{Answered}

@@ -1,9 +1,9 @@
 -- The record, a file, what a call on either answers, and what is heard of a report, as the laws of `walks` take them.
 use Rattle.walks.proofs.Types.{Rec, Stepped, Status, but-first}
-use Rattle.files.specs.declared.blame.Heard.{Heard}
+use Rattle.mirroring.specs.declared.blame.Heard.{Heard}
 use Rattle.files.specs.declared.file.FileAnswered.{FileAnswered}
-use Rattle.files.proofs.blame.Heard as H
-use Rattle.files.proofs.blame.Heard.Laws as H′
+use Rattle.mirroring.proofs.blame.Heard as H
+use Rattle.mirroring.proofs.blame.Heard.Laws as H′
 use Rattle.files.proofs.file.File as F
 use Rattle.files.proofs.file.File.Laws as F′
 use Rattle.files.proofs.file.FileAnswered as A

@@ -6,9 +6,9 @@ use Prim.Native.Nat.{ℕ}
 use lib.ListN.{length}
 use lib.Dec.{eqb, ltb}
 use Rattle.wire.specs.Reply.{replyIn}
-use Rattle.files.specs.Blame.{heardNothing}
+use Rattle.mirroring.specs.Blame.{heardNothing}
 use Rattle.files.specs.File.{returnedHeard, handedOnCode}
-use Rattle.files.specs.declared.blame.Heard.{Heard}
+use Rattle.mirroring.specs.declared.blame.Heard.{Heard}
 use Rattle.files.specs.declared.file.File.{File}
 
 unfoldable pub answeredHeard : ℕ → Bool → ℕ → List ℕ → List ℕ → File → Heard

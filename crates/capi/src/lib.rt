@@ -1,9 +1,9 @@
 // What a C server calls on a recovery record that it owns (paper 01, "The recovery record"): each call of the record, on the record where it
 // lies, with the promise of the method by value. A call on one file reads that file and changes it in its place; the others go by value.
 // First a file's place, then the functions by value that `recovery` and `files` lack, then the calls in the paper's order.
-use files::blame::Heard;
 use files::file::File;
 use files::file::HANDED_ON;
+use mirroring::blame::Heard;
 use recovery::record::Record;
 ghost use mathlib.Core.Path.{_≡_};
 ghost use mathlib.Core.Bool.{true, false};

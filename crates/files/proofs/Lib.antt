@@ -1,6 +1,1 @@
-pub mod Slots
-pub mod Sets
-pub mod Loops
-pub mod Copies
-pub mod Enrolling
-pub mod Hearing
+pub mod Heeding

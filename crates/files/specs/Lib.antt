@@ -1,7 +1,2 @@
-pub mod Lists
-pub mod Places
-pub mod Devices
-pub mod Mirrors
-pub mod Blame
 pub mod Intents
 pub mod File

@@ -1,11 +1,11 @@
 // One file of the record (paper 01, "The recovery record"): what it holds, and the calls on one file. A call tests for itself whether this is
 // the file of the number that it is given, and answers the status and the file afterwards. Then what a restart and the end of grace do to
 // each file, and what the lists ask of one.
-use crate::blame::Heard;
-use crate::blame::listen;
 use crate::intents::Intent;
-use crate::mirrors::Mirror;
-use crate::places::Found;
+use mirroring::blame::Heard;
+use mirroring::blame::listen;
+use mirroring::mirrors::Mirror;
+use mirroring::places::Found;
 use wire::request::Request;
 ghost use mathlib.Core.Path.{_≡_};
 ghost use Prim.Native.Nat.{_<_};
@@ -218,7 +218,7 @@ impl File {
             };
         }
         let old = self.mirrors;
-        let ms = crate::mirrors::cleared(old);
+        let ms = mirroring::mirrors::cleared(old);
         self.mirrors = ms;
         self.marked = false;
         FileAnswered {
@@ -299,7 +299,7 @@ impl File {
         if h.failed {
             let old = self.mirrors;
             let flags = h.blamed;
-            let ms = crate::mirrors::accused(old, flags);
+            let ms = mirroring::mirrors::accused(old, flags);
             self.mirrors = ms;
             self.marked = true;
             return self;
@@ -371,7 +371,7 @@ impl File {
         ensures { λ r. ⌜ r ≡ sourceOf self ⌝ }
     {
         let ms = self.mirrors;
-        crate::mirrors::source(ms)
+        mirroring::mirrors::source(ms)
     }
 }
 

@@ -1,12 +1,12 @@
 // A file's write intents (paper 01, "The recovery record"): one a client, at most 8, and the free places last. First one place, then the eight.
-use crate::places::Found;
+use mirroring::places::Found;
 ghost use mathlib.Core.Path.{_≡_};
 ghost use mathlib.Core.List.{map};
 ghost use Prim.Native.Nat.{_<_};
 ghost use mathlib.Core.Bool.{cond};
 ghost use lib.ListN.{getD, set, replicate};
-ghost use Rattle.files.specs.Lists.{chosen, fill};
-ghost use Rattle.files.specs.Places.{first, isFound, leftOut};
+ghost use Rattle.mirroring.specs.Lists.{chosen, fill};
+ghost use Rattle.mirroring.specs.Places.{first, isFound, leftOut};
 ghost use Rattle.files.specs.Intents.{noIntent, intentOf, isIntent, isFree, isKept, reclaimedIf, unreclaimedIntent, firstTaken};
 
 // A place for an intent: its client, whether the place is taken, and whether the client has reclaimed since the latest restart.

@@ -6,14 +6,14 @@ use mathlib.Core.Bool.{Bool, true, false, not, cond}
 use Prim.Native.Nat.{ℕ}
 use lib.ListN.{length}
 use lib.Dec.{eqb}
-use Rattle.files.specs.Lists.{has, none, Rising}
+use Rattle.mirroring.specs.Lists.{has, none, Rising}
 use Rattle.files.specs.File as file
 use Rattle.files.specs.declared.intents.Intent.{Intent}
-use Rattle.files.specs.declared.mirrors.Mirror.{Mirror}
+use Rattle.mirroring.specs.declared.mirrors.Mirror.{Mirror}
 use Rattle.files.specs.declared.file.File.{File}
 use Rattle.files.specs.declared.file.FileAnswered.{FileAnswered}
-use Rattle.files.proofs.Slots.{Slots}
-use Rattle.files.proofs.Copies.{Copies}
+use Rattle.mirroring.proofs.Slots.{Slots}
+use Rattle.mirroring.proofs.Copies.{Copies}
 use Rattle.ledger.specs.Ledger.{Row, Ledger, numbers, withIntents, withMark, withBlame}
 use Rattle.recovery.specs.declared.record.Record.{Record}
 use Rattle.recovery.specs.declared.record.Answered.{Answered}

@@ -8,21 +8,21 @@ use lib.ListN.{length, length-set}
 use lib.Dec.{eqb}
 use Rattle.wire.specs.Device.{Device}
 use Rattle.wire.specs.Report.{DeviceError, over}
-use Rattle.files.specs.Lists.{any, with}
-use Rattle.files.specs.Places.{first}
-use Rattle.files.specs.Devices.{deviceOf, isMirror, placeOf}
-use Rattle.files.specs.Mirrors.{isDevice, accused}
-use Rattle.files.specs.Blame.{heardNothing, faultAt, toldAt, toldOf, told}
+use Rattle.mirroring.specs.Lists.{any, with}
+use Rattle.mirroring.specs.Places.{first}
+use Rattle.mirroring.specs.Devices.{deviceOf, isMirror, placeOf}
+use Rattle.mirroring.specs.Mirrors.{isDevice, accused}
+use Rattle.mirroring.specs.Blame.{heardNothing, faultAt, toldAt, toldOf, told}
 use Rattle.files.specs.File as file
 use Rattle.files.specs.File.{heededFile}
-use Rattle.files.specs.declared.mirrors.Mirror.{Mirror}
-use Rattle.files.specs.declared.blame.Heard.{Heard}
+use Rattle.mirroring.specs.declared.mirrors.Mirror.{Mirror}
+use Rattle.mirroring.specs.declared.blame.Heard.{Heard}
 use Rattle.files.specs.declared.file.File.{File}
-use Rattle.files.specs.declared.places.Found.{Found}
-use Rattle.files.specs.declared.places.Found.the-variants.{At, Nothing}
-use Rattle.files.proofs.Sets.{true-false, none-first}
-use Rattle.files.proofs.Slots.{Slots}
-use Rattle.files.proofs.Copies.{Copies, MirrorIs, NoMirror, known, placed, none-accused, flag-raised}
+use Rattle.mirroring.specs.declared.places.Found.{Found}
+use Rattle.mirroring.specs.declared.places.Found.the-variants.{At, Nothing}
+use Rattle.mirroring.proofs.Sets.{true-false, none-first}
+use Rattle.mirroring.proofs.Slots.{Slots}
+use Rattle.mirroring.proofs.Copies.{Copies, MirrorIs, NoMirror, known, placed, none-accused, flag-raised}
 use Rattle.ledger.specs.Ledger.{Row, names, isFault, isStranger, blame, reported, withMark, withBlame}
 use Rattle.ledger.proofs.Relation.{FileIs, with-mark, with-copies}
 

@@ -13,15 +13,15 @@ use Rattle.wire.specs.Reply.{replyIn}
 use Rattle.wire.specs.declared.request.Request.{Request}
 use Rattle.wire.specs.declared.request.Request.the-variants as request
 use Rattle.wire.proofs.Requests.{cond-below, refused-number, refused-small}
-use Rattle.files.specs.Lists.{any}
-use Rattle.files.specs.Places.{first}
+use Rattle.mirroring.specs.Lists.{any}
+use Rattle.mirroring.specs.Places.{first}
 use Rattle.files.specs.Intents.{isIntent}
-use Rattle.files.specs.declared.blame.Heard.{Heard}
-use Rattle.files.specs.Blame.{heardNothing, told, heardOf}
+use Rattle.mirroring.specs.declared.blame.Heard.{Heard}
+use Rattle.mirroring.specs.Blame.{heardNothing, told, heardOf}
 use Rattle.files.specs.File.{isFile, fileAnswered, heededFile, heeds, ofIntent, ifWhole, reportHeard, asksHeard, handedOnCode}
 use Rattle.files.specs.declared.file.File.{File}
 use Rattle.files.specs.declared.file.FileAnswered.{FileAnswered}
-use Rattle.files.proofs.Hearing.{nothing-heeded}
+use Rattle.files.proofs.Heeding.{nothing-heeded}
 use Rattle.recovery.specs.Calls.{Answer, replied, handedOn}
 use Rattle.ledger.specs.Ledger.{Row, Ledger, registered, rowOf, holds, refused, intentRules, reportRules, judgeRequest, reply, isFault, isStranger, blame, withMark, withBlame, reported, errorsOf, onRow}
 use Rattle.recovery.specs.Record.{onPlace}

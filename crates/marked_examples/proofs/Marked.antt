@@ -7,12 +7,12 @@ use Rattle.wire.specs.Reader.{sameBytes, number, opaque, boolean, bounded, inTu
 use Rattle.wire.specs.Reply.{replyBytes, replyIn}
 use Rattle.wire.specs.Report.{deviceError, ioerr, layoutreturn, joined, reportOf, over, outcome}
 use Rattle.wire.specs.Request.{fileReturn, returnOf, arguments, refusalOf, isAnonymous, unless, requestOf, bodyOf}
-use Rattle.files.specs.Blame.{toldOf, heardOf}
-use Rattle.files.specs.Devices.{devicesIn, mirrorsIn, isMirror, placeOf, twice, badMirrors}
+use Rattle.mirroring.specs.Blame.{toldOf, heardOf}
+use Rattle.mirroring.specs.Devices.{devicesIn, mirrorsIn, isMirror, placeOf, twice, badMirrors}
 use Rattle.files.specs.File.{openedFile, reclaimedFile, closedFile, repairedFile, heededFile, reportHeard, returnedHeard, returnedFile, restartedFile, endedFile, sourceOf}
-use Rattle.files.specs.Lists.{any, chosen, has, with, none, amend, discard, firstOr, fill}
-use Rattle.files.specs.Mirrors.{accused, sourceIn, enrolledOf}
-use Rattle.files.specs.Places.{first, pull}
+use Rattle.mirroring.specs.Lists.{any, chosen, has, with, none, amend, discard, firstOr, fill}
+use Rattle.mirroring.specs.Mirrors.{accused, sourceIn, enrolledOf}
+use Rattle.mirroring.specs.Places.{first, pull}
 use Rattle.ledger.specs.History.{step, answers}
 use Rattle.ledger.specs.Ledger.{registered, rowOf, sourceFrom, judge, blame, insert, apply, feed}
 use Rattle.recovery.specs.Record.{placeIn, openOf, reclaimOf, closeOf, enter, registerOf, endOf, restartOf, listingOf, returnedOf, layoutreturnOf, replyAfter}

@@ -6,13 +6,13 @@ use Prim.Native.Nat.{ℕ}
 use lib.ListN.{getD, set, length, replicate}
 use lib.Dec.{eqb, leb, ltb}
 use Rattle.wire.specs.Reply.{replyIn}
-use Rattle.files.specs.Lists.{chosen}
-use Rattle.files.specs.Places.{first, placeOr, leftOut}
-use Rattle.files.specs.Mirrors.{enrolledOf}
+use Rattle.mirroring.specs.Lists.{chosen}
+use Rattle.mirroring.specs.Places.{first, placeOr, leftOut}
+use Rattle.mirroring.specs.Mirrors.{enrolledOf}
 use Rattle.files.specs.File.{noFile, blankFile, fileOf, isFile, isVacant, openedFile, reclaimedFile, closedFile, repairedFile, forgettable, returnedFile, handedOnCode, restartedFile, endedFile, isListed, isReady, sourceOf}
 use Rattle.files.specs.declared.file.File.{File}
 use Rattle.files.specs.declared.file.FileAnswered.{FileAnswered}
-use Rattle.files.specs.declared.enrol.Enrolled.{Enrolled}
+use Rattle.mirroring.specs.declared.enrol.Enrolled.{Enrolled}
 use Rattle.recovery.specs.Calls.{Answer, lend}
 use Rattle.recovery.specs.declared.record.Record.{Record}
 use Rattle.recovery.specs.declared.record.Answered.{Answered}

@@ -5,7 +5,7 @@ use files::file::FileAnswered;
 ghost use mathlib.Core.Path.{_≡_};
 ghost use mathlib.Core.List.{map};
 ghost use Prim.Native.Nat.{_<_};
-ghost use Rattle.files.specs.Places.{leftOut};
+ghost use Rattle.mirroring.specs.Places.{leftOut};
 ghost use Rattle.files.specs.File.{blankFile, restartedFile, endedFile};
 ghost use Rattle.recovery.specs.Record.{fresh, answered, placeIn, putFile, enter, registerOf, openOf, reclaimOf, closeOf, repairedOf, forgetOf, endOf, restartOf};
 
@@ -153,7 +153,7 @@ impl Record {
         if self.grace {
             return self.refused(10013);
         }
-        let e = files::enrol::enrol(mirrors);
+        let e = mirroring::enrol::enrol(mirrors);
         if !e.good {
             return self.refused(22);
         }

@@ -6,7 +6,7 @@ use mir.Syntax.{w8, w64}
 use Rattle.walks.proofs.Args.{num, slice, slice-mut}
 use Rattle.walks.proofs.Decided as decided
 use Rattle.files.specs.File.{noFile, heededFile, heeds}
-use Rattle.files.specs.declared.blame.Heard.{Heard}
+use Rattle.mirroring.specs.declared.blame.Heard.{Heard}
 use Rattle.files.proofs.file.File.heed.Symbol as h
 use Rattle.files.proofs.file.File.heed.Met as h-thm
 use Rattle.recovery.specs.Record.{putFile, layoutreturnOf, replyAfter}

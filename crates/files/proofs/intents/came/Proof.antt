@@ -3,7 +3,7 @@ use mathlib.Core.Path.{_≡_, refl}
 use mathlib.Core.Bool.{Bool}
 use Prim.Native.Nat.{_-_}
 use lib.ListN.{length}
-use Rattle.files.proofs.Loops.{mapped-length, Fetching, to-fetch, fetching-more, fetching-done}
+use Rattle.mirroring.proofs.Loops.{mapped-length, Fetching, to-fetch, fetching-more, fetching-done}
 use Rattle.files.specs.Intents.{noIntent}
 use Rattle.files.specs.declared.intents.Intent.{Intent}
 use native.Mathlib.Omega.{arith}

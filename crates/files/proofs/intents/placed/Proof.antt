@@ -2,7 +2,7 @@
 use mathlib.Core.Path.{_≡_, refl}
 use Prim.Native.Nat.{_-_}
 use lib.ListN.{length}
-use Rattle.files.proofs.Loops.{mapped-length, Putting, to-put, putting-more, putting-done}
+use Rattle.mirroring.proofs.Loops.{mapped-length, Putting, to-put, putting-more, putting-done}
 use Rattle.files.specs.Intents.{noIntent}
 use native.Mathlib.Omega.{arith}
 use borrow.Author.Needs.{needs}

@@ -4,8 +4,8 @@ use Prim.Native.Nat.{_-_}
 use native.Mathlib.Omega.{arith}
 use lib.ListN.{length}
 use borrow.Author.Needs.{needs}
-use Rattle.files.proofs.Loops.{mapped-length, Searching, searching, hit, miss, over}
-use Rattle.files.specs.Places.{first}
+use Rattle.mirroring.proofs.Loops.{mapped-length, Searching, searching, hit, miss, over}
+use Rattle.mirroring.specs.Places.{first}
 use Rattle.files.specs.Intents.{noIntent, isFree}
 use Rattle.files.proofs.intents.room.Statement.{statement}
 use Rattle.files.proofs.intents.room.Tie as tie

@@ -5,8 +5,8 @@ use native.Mathlib.Omega.{arith}
 use lib.ListN.{length, replicate}
 use borrow.Author.Needs.{needs}
 use borrow.Author.Tests.{not-true, not-false}
-use Rattle.files.proofs.Loops.{mapped-length, Counting, counting-none, counting-skip, counting-more, Filling, filling-none, filling-skip, filling-more, filled, map-self}
-use Rattle.files.specs.Lists.{chosen, fill}
+use Rattle.mirroring.proofs.Loops.{mapped-length, Counting, counting-none, counting-skip, counting-more, Filling, filling-none, filling-skip, filling-more, filled, map-self}
+use Rattle.mirroring.specs.Lists.{chosen, fill}
 use Rattle.files.specs.Intents.{noIntent, isKept}
 use Rattle.files.proofs.intents.staying.Statement.{statement}
 use Rattle.files.proofs.intents.staying.Tie as tie

@@ -2,8 +2,8 @@
 use mathlib.Core.Path.{_≡_, refl}
 use Prim.Native.Nat.{_≤_, _-_}
 use lib.ListN.{length}
-use Rattle.files.proofs.Loops.{mapped-length, Pulling, reach, pulling-none, pulling-next, pulled-all}
-use Rattle.files.specs.Places.{leftOut}
+use Rattle.mirroring.proofs.Loops.{mapped-length, Pulling, reach, pulling-none, pulling-next, pulled-all}
+use Rattle.mirroring.specs.Places.{leftOut}
 use Rattle.files.specs.Intents.{noIntent}
 use native.Mathlib.Omega.{arith}
 use borrow.Author.Needs.{needs}

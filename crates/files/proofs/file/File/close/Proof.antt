@@ -3,9 +3,9 @@ use mathlib.Core.Path.{_≡_, sym, _∙_}
 use Prim.Native.Nat.{_<_, _-_}
 use lib.ListN.{length}
 use borrow.Author.Tests.{not-true, not-false}
-use Rattle.files.proofs.Loops.{mapped-length, found-below}
-use Rattle.files.specs.Places.{first}
-use Rattle.files.specs.declared.places.Found.the-variants.{At}
+use Rattle.mirroring.proofs.Loops.{mapped-length, found-below}
+use Rattle.mirroring.specs.Places.{first}
+use Rattle.mirroring.specs.declared.places.Found.the-variants.{At}
 use Rattle.files.specs.Intents.{isIntent}
 use Rattle.files.specs.File.{closedFile}
 use native.Mathlib.Omega.{arith}

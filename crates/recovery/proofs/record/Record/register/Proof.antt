@@ -4,7 +4,7 @@ use Prim.Native.Nat.{_-_}
 use borrow.Author.Needs.{needs}
 use borrow.Author.Tests.{not-true, not-false}
 use Rattle.recovery.specs.Record.{registerOf}
-use Rattle.files.specs.declared.enrol.Enrolled.{Enrolled}
+use Rattle.mirroring.specs.declared.enrol.Enrolled.{Enrolled}
 use Rattle.recovery.proofs.record.Record.register.Statement.{statement}
 use Rattle.recovery.proofs.record.Record.register.Tie as tie
 

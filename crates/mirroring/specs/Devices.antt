@@ -1,0 +1,45 @@
+-- DEFINITION. Devices, and the mirror list of a register call (paper 01, "The recovery record"), in this order: the same id; the ids in a list of
+-- bytes; whether a device is among others and at which place; a bad mirror list.
+use mathlib.Core.List.{List, [], _∷_}
+use mathlib.Core.Bool.{Bool, true, false, not, cond}
+use Prim.Native.Nat.{ℕ, zero, suc, _/_, _%_}
+use lib.ListN.{length, drop}
+use lib.Dec.{eqb, ltb}
+use Rattle.wire.specs.Device.{Device, halves}
+use Rattle.wire.specs.Report.{DeviceError}
+use Rattle.mirroring.specs.Lists.{any, none}
+
+abbrev pub sameDevice : Device → Device → Bool
+sameDevice d e = cond (eqb (d .high) (e .high)) (eqb (d .low) (e .low)) false
+
+-- the first n ids of a list of bytes
+unfoldable pub devicesIn : ℕ → List ℕ → List Device
+devicesIn zero s = []
+devicesIn (suc n) s = halves s ∷ devicesIn n (drop 16 s)
+
+-- all the ids of a list
+unfoldable pub mirrorsIn : List ℕ → List Device
+mirrorsIn s = devicesIn (length s / 16) s
+
+-- the device that a device error names
+abbrev pub deviceOf : DeviceError → Device
+deviceOf x = halves (x .device)
+
+unfoldable pub isMirror : Device → List Device → Bool
+isMirror d ds = any (λ e. sameDevice e d) ds
+
+-- the place of a mirror
+unfoldable pub placeOf : Device → List Device → ℕ
+placeOf d [] = 0
+placeOf d (e ∷ es) = cond (sameDevice e d) 0 (suc (placeOf d es))
+
+unfoldable pub twice : List Device → Bool
+twice [] = false
+twice (d ∷ ds) = cond (isMirror d ds) true (twice ds)
+
+-- a bad mirror list isn't whole ids, is empty, has more than 4 devices, or names one twice
+unfoldable pub badMirrors : List ℕ → Bool
+badMirrors s =
+    cond (not (eqb (length s % 16) 0)) true
+    (cond (none (mirrorsIn s)) true
+    (cond (ltb 4 (length (mirrorsIn s))) true (twice (mirrorsIn s))))

@@ -1,0 +1,5 @@
+pub mod Lists
+pub mod Places
+pub mod Devices
+pub mod Mirrors
+pub mod Blame

@@ -1,0 +1,68 @@
+-- MODEL. A file's four places for mirrors, in this order: one place; tests; changes; the source; the places that a mirror list fills.
+use mathlib.Core.List.{List, [], _∷_, map}
+use mathlib.Core.Bool.{Bool, true, false, not, cond}
+use Prim.Native.Nat.{ℕ, _%_}
+use lib.ListN.{replicate}
+use lib.Dec.{eqb, leb}
+use Rattle.mirroring.specs.Lists.{fill}
+use Rattle.mirroring.specs.Places.{first, placeOr}
+use Rattle.wire.specs.Device.{Device}
+use Rattle.mirroring.specs.Devices.{mirrorsIn, badMirrors}
+use Rattle.mirroring.specs.declared.mirrors.Mirror.{Mirror}
+use Rattle.mirroring.specs.declared.enrol.Enrolled.{Enrolled}
+
+abbrev pub noMirror : Mirror
+noMirror = record { high = 0; low = 0; present = false; blamed = false }
+
+abbrev pub newMirror : ℕ → ℕ → Mirror
+newMirror h l = record { high = h; low = l; present = true; blamed = false }
+
+abbrev pub mirrorOf : Device → Mirror
+mirrorOf d = newMirror (d .high) (d .low)
+
+-- ---- tests
+abbrev pub isAt : ℕ → ℕ → Mirror → Bool
+isAt h l m = cond (m .present) (cond (eqb (m .high) h) (eqb (m .low) l) false) false
+
+abbrev pub isDevice : Device → Mirror → Bool
+isDevice d m = isAt (d .high) (d .low) m
+
+abbrev pub isGood : Mirror → Bool
+isGood m = cond (m .present) (not (m .blamed)) false
+
+-- ---- changes
+abbrev pub withBlame : Bool → Mirror → Mirror
+withBlame b m = record { high = m .high; low = m .low; present = m .present; blamed = b }
+
+abbrev pub unblamed : Mirror → Mirror
+unblamed m = withBlame false m
+
+abbrev pub blamedIf : Bool → Mirror → Mirror
+blamedIf b m = withBlame (cond b true (m .blamed)) m
+
+-- a mirror is blamed if its flag is up, or if it was
+unfoldable pub accused : List Bool → List Mirror → List Mirror
+accused bs [] = []
+accused [] (m ∷ ms) = m ∷ ms
+accused (b ∷ bs) (m ∷ ms) = blamedIf b m ∷ accused bs ms
+
+-- ---- the source
+unfoldable pub sourceIn : List Mirror → ℕ
+sourceIn ms = placeOr 255 (first isGood ms)
+
+-- ---- a mirror list
+-- whether n bytes are 1 to 4 whole ids
+abbrev pub wholeList : ℕ → Bool
+wholeList n = cond (not (eqb (n % 16) 0)) false (cond (eqb n 0) false (leb n 64))
+
+abbrev pub noMirrors : List Mirror
+noMirrors = replicate 4 noMirror
+
+abbrev pub refusedList : Enrolled
+refusedList = record { mirrors = noMirrors; good = false }
+
+abbrev pub placedMirrors : List Device → List Mirror
+placedMirrors ds = fill (map mirrorOf ds) noMirrors
+
+unfoldable pub enrolledOf : List ℕ → Enrolled
+enrolledOf s = cond (badMirrors s) refusedList (record { mirrors = placedMirrors (mirrorsIn s); good = true })

@@ -1,0 +1,155 @@
+// A file's mirrors (paper 01, "The recovery record"): 1 to 4 devices, by place from 0, and which of them are blamed. First one place, then
+// the four: a device's place, the source to copy from, and the end of all blame.
+use crate::places::Found;
+ghost use mathlib.Core.Path.{_≡_};
+ghost use mathlib.Core.List.{map};
+ghost use Prim.Native.Nat.{_<_};
+ghost use Rattle.mirroring.specs.Places.{first};
+ghost use Rattle.mirroring.specs.Mirrors.{noMirror, newMirror, isAt, isGood, unblamed, blamedIf, accused, sourceIn};
+
+// A place for a mirror: the two halves of its device's id, whether the place is used, and whether its device is blamed.
+#[repr(C)]
+pub struct Mirror {
+    pub high: u64,
+    pub low: u64,
+    pub present: bool,
+    pub blamed: bool,
+}
+
+impl Mirror {
+    // A place without a mirror.
+    pub fn none() -> Mirror
+        ensures { λ r. ⌜ r ≡ noMirror ⌝ }
+    {
+        Mirror {
+            high: 0,
+            low: 0,
+            present: false,
+            blamed: false,
+        }
+    }
+
+    // A new mirror.
+    pub(crate) fn new(high: u64, low: u64) -> Mirror
+        ensures { λ r. ⌜ r ≡ newMirror high low ⌝ }
+    {
+        Mirror {
+            high: high,
+            low: low,
+            present: true,
+            blamed: false,
+        }
+    }
+
+    // Whether the device is the mirror here.
+    pub(crate) fn is(self, high: u64, low: u64) -> bool
+        ensures { λ r. ⌜ r ≡ isAt high low self ⌝ }
+    {
+        if !self.present {
+            return false;
+        }
+        if self.high != high {
+            return false;
+        }
+        self.low == low
+    }
+
+    // Whether it can be copied from.
+    pub(crate) fn good(self) -> bool
+        ensures { λ r. ⌜ r ≡ isGood self ⌝ }
+    {
+        if self.present { !self.blamed } else { false }
+    }
+
+    // The place once its device is blamed, if it is.
+    pub(crate) fn blame(mut self, faulty: bool) -> Mirror
+        ensures { λ r. ⌜ r ≡ blamedIf faulty self ⌝ }
+    {
+        if faulty {
+            self.blamed = true;
+            return self;
+        }
+        self
+    }
+
+    // The place once the file is repaired.
+    pub(crate) fn clear(mut self) -> Mirror
+        ensures { λ r. ⌜ r ≡ unblamed self ⌝ }
+    {
+        self.blamed = false;
+        self
+    }
+}
+
+// The place of a device.
+pub(crate) fn place(mirrors: [Mirror; 4], high: u64, low: u64) -> Found
+    ensures { λ r. ⌜ r ≡ first (isAt high low) mirrors ⌝ }
+{
+    let mut i: usize = 0;
+    while i < 4 {
+        let m = mirrors[i];
+        let hit = m.is(high, low);
+        if hit {
+            return Found::At(i);
+        }
+        i = i + 1;
+    }
+    Found::Nothing
+}
+
+// The lowest place that is not blamed.
+fn lowest(mirrors: [Mirror; 4]) -> Found
+    ensures { λ r. ⌜ r ≡ first isGood mirrors ⌝ }
+{
+    let mut i: usize = 0;
+    while i < 4 {
+        let m = mirrors[i];
+        let hit = m.good();
+        if hit {
+            return Found::At(i);
+        }
+        i = i + 1;
+    }
+    Found::Nothing
+}
+
+// The place to copy from, or 255.
+pub fn source(mirrors: [Mirror; 4]) -> u8
+    ensures { λ r. ⌜ r ≡ sourceIn mirrors ⌝ }
+{
+    match lowest(mirrors) {
+        Found::At(i) => i as u8,
+        Found::Nothing => 255,
+    }
+}
+
+// The mirrors once the file is repaired.
+pub fn cleared(mirrors: [Mirror; 4]) -> [Mirror; 4]
+    ensures { λ r. ⌜ r ≡ map unblamed mirrors ⌝ }
+{
+    let mut ms = mirrors;
+    let mut i: usize = 0;
+    while i < 4 {
+        let m = ms[i];
+        let n = m.clear();
+        ms[i] = n;
+        i = i + 1;
+    }
+    ms
+}
+
+// The mirrors with those blamed whose flag is up.
+pub fn accused(mirrors: [Mirror; 4], flags: [bool; 4]) -> [Mirror; 4]
+    ensures { λ r. ⌜ r ≡ accused flags mirrors ⌝ }
+{
+    let mut ms = mirrors;
+    let mut i: usize = 0;
+    while i < 4 {
+        let m = ms[i];
+        let b = flags[i];
+        let n = m.blame(b);
+        ms[i] = n;
+        i = i + 1;
+    }
+    ms
+}
