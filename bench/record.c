@@ -1,6 +1,7 @@
 /* The calls on a full record (64 files, 8 intents each), beside plain C that works in place by gcc -O2 and clang -O2, in one process and in turn: the
- * least time of a call. Ends with 1 where an answer differs, where a call on one file takes more than 1.5 times gcc's, or where a LAYOUTRETURN with
- * 20 error records takes more than twice one with 1. */
+ * least time of a call. First with files and clients in random order, which no branch predictor learns, then the calls on one file with both in
+ * rising order, which it does. Ends with 1 where an answer differs, or where a call on one file takes more than 1.5 times gcc's in either order. How a
+ * LAYOUTRETURN grows with its report is limited for the record by value, in by_value.py. */
 #include "bench.h"
 #include "record_plain.h"
 #include "stellcircle.h"
@@ -16,9 +17,10 @@ static uint64_t files[FILES], count;
 
 static uint64_t number(int k) { return 1000003 * (uint64_t)(k + 1); }
 
-/* random files and clients, and each file once in random order: the same for every version, and others in each round, so that no branch is learnt by
+/* files and clients, and each file once: the same for every version. In random order they are others in each round, so that no branch is learnt by
  * heart */
 static uint64_t file[MANY], client[MANY], each[FILES], seed = 88172645463325252u;
+static int rising;
 
 static uint64_t random64(void)
 {
@@ -31,11 +33,11 @@ static uint64_t random64(void)
 static void shuffle(void)
 {
     for (int k = 0; k < MANY; k++) {
-        file[k] = number((int)(random64() % FILES));
-        client[k] = 1 + random64() % 8;
+        file[k] = number(rising ? k % FILES : (int)(random64() % FILES));
+        client[k] = 1 + (rising ? (uint64_t)k : random64()) % 8;
     }
     for (int k = 0; k < FILES; k++) {
-        int at = (int)(random64() % (uint64_t)(k + 1));
+        int at = rising ? k : (int)(random64() % (uint64_t)(k + 1));
         each[k] = each[at];
         each[at] = number(k);
     }
@@ -131,19 +133,14 @@ static void measure(const struct job *j, double *best)
     }
 }
 
-int main(void)
+/* Runs the jobs, or those on one file alone, and prints a row for each; 1 where an answer differs or a limit is passed. */
+static int table(double best[][3], int one_file_alone)
 {
-    double best[JOBS][3];
     int bad = 0;
-    memset(mirrors, 0xaa, 16);
-    memset(mirrors + 16, 0xbb, 16);
-    one_len = request(one, 1);
-    twenty_len = request(twenty, 20);
-    put32(bulk + 4, 4);
-    put32(bulk + 8, 2);
-    put32(bulk + 12, 2);
     bench_head();
     for (int k = 0; k < JOBS; k++) {
+        if (one_file_alone && !jobs[k].one_file)
+            continue;
         sc_sum = gcc_sum = clang_sum = 0;
         measure(&jobs[k], best[k]);
         bench_row(jobs[k].what, best[k]);
@@ -154,10 +151,25 @@ int main(void)
         if (jobs[k].one_file && best[k][0] > 1.5 * best[k][1])
             bad = 1;
     }
-    double growth = best[TWENTY][0] / best[ONE][0];
-    printf("LAYOUTRETURN with 20 error records beside one with 1: %.2f; in plain C %.2f\n", growth, best[TWENTY][1] / best[ONE][1]);
-    if (growth > 2)
-        bad = 1;
+    printf("LAYOUTRETURN with 20 error records beside one with 1: %.2f; in plain C %.2f\n", best[TWENTY][0] / best[ONE][0], best[TWENTY][1] / best[ONE][1]);
+    return bad;
+}
+
+int main(void)
+{
+    double best[JOBS][3];
+    memset(mirrors, 0xaa, 16);
+    memset(mirrors + 16, 0xbb, 16);
+    one_len = request(one, 1);
+    twenty_len = request(twenty, 20);
+    put32(bulk + 4, 4);
+    put32(bulk + 8, 2);
+    put32(bulk + 12, 2);
+    puts("files and clients in random order");
+    int bad = table(best, 0);
+    rising = 1;
+    puts("files and clients in rising order");
+    bad |= table(best, 1);
     printf("a record: %zu bytes; in plain C %zu\n", sizeof(struct sc_record), sizeof(struct plain_record));
     if (bad)
         puts("record: an answer differs, or a limit is passed");
