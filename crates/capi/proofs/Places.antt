@@ -9,12 +9,12 @@ use lib.ListN.{getD, length}
 use lib.Seq.{set-getD}
 use lib.Dec.{ltb}
 use Rattle.walks.specs.Seek.{which, seek}
-use Rattle.mirroring.specs.Places.{first, placeOr}
+use Rattle.places.specs.Places.{first, placeOr}
 use Rattle.files.specs.File.{noFile, isFile, fileAnswered, heeds, returnedFile}
 use Rattle.files.specs.declared.file.File.{File}
 use Rattle.files.specs.declared.file.FileAnswered.{FileAnswered}
-use Rattle.mirroring.specs.declared.places.Found.{Found}
-use Rattle.mirroring.proofs.Loops.{Searching, searching, hit, miss, over}
+use Rattle.places.specs.declared.Found.{Found}
+use Rattle.places.proofs.Loops.{Searching, searching, hit, miss, over}
 use Rattle.files.proofs.Heeding.{nothing-heeded}
 use Rattle.recovery.specs.Record.{placeIn, fileAt, putFile, onPlace, answered, returnedOf, layoutreturnOf, replyAfter}
 use Rattle.recovery.specs.declared.record.Record.{Record}

@@ -9,18 +9,18 @@ use Rattle.wire.specs.Report.{Report, reportOf}
 use Rattle.wire.specs.Request.{requestOf, bodyOf}
 use Rattle.wire.specs.declared.request.Request.{Request}
 use Rattle.wire.specs.declared.request.Request.the-variants as request
-use Rattle.mirroring.specs.Lists.{chosen, fill}
-use Rattle.mirroring.specs.Places.{first, isFound, leftOut}
+use Rattle.places.specs.Lists.{chosen, fill}
+use Rattle.places.specs.Places.{first, isFound, leftOut}
 use Rattle.mirroring.specs.Mirrors.{noMirrors, unblamed, accused, sourceIn}
 use Rattle.mirroring.specs.Blame.{heardNothing, heardOf}
-use Rattle.files.specs.Intents.{noIntent, noIntents, intentOf, isIntent, isFree, isKept, firstTaken, reclaimedIf, unreclaimedIntent}
+use Rattle.intents.specs.Intents.{noIntent, noIntents, intentOf, isIntent, isFree, isKept, firstTaken, reclaimedIf, unreclaimedIntent}
 use Rattle.mirroring.specs.declared.mirrors.Mirror.{Mirror}
-use Rattle.files.specs.declared.intents.Intent.{Intent}
+use Rattle.intents.specs.declared.Intent.{Intent}
 use Rattle.mirroring.specs.declared.blame.Heard.{Heard}
 use Rattle.files.specs.declared.file.File.{File}
 use Rattle.files.specs.declared.file.FileAnswered.{FileAnswered}
-use Rattle.mirroring.specs.declared.places.Found.{Found}
-use Rattle.mirroring.specs.declared.places.Found.the-variants.{At, Nothing}
+use Rattle.places.specs.declared.Found.{Found}
+use Rattle.places.specs.declared.Found.the-variants.{At, Nothing}
 
 -- ---- fields
 -- what a list has past its end

@@ -1,2 +1,1 @@
-pub mod Intents
 pub mod File

@@ -1,11 +1,11 @@
 // One file of the record (paper 01, "The recovery record"): what it holds, and the calls on one file. A call tests for itself whether this is
 // the file of the number that it is given, and answers the status and the file afterwards. Then what a restart and the end of grace do to
 // each file, and what the lists ask of one.
-use crate::intents::Intent;
+use intents::Intent;
 use mirroring::blame::Heard;
 use mirroring::blame::listen;
 use mirroring::mirrors::Mirror;
-use mirroring::places::Found;
+use places::Found;
 use wire::request::Request;
 ghost use mathlib.Core.Path.{_≡_};
 ghost use Prim.Native.Nat.{_<_};
@@ -104,20 +104,20 @@ impl File {
             };
         }
         let old = self.intents;
-        if let Found::At(_) = crate::intents::holding(old, client) {
+        if let Found::At(_) = intents::holding(old, client) {
             return FileAnswered {
                 status: 0,
                 file: self,
             };
         }
-        let Found::At(i) = crate::intents::room(old) else {
+        let Found::At(i) = intents::room(old) else {
             return FileAnswered {
                 status: 28,
                 file: self,
             };
         };
         let x = Intent::new(client);
-        let xs = crate::intents::placed(old, i, x);
+        let xs = intents::placed(old, i, x);
         self.intents = xs;
         FileAnswered {
             status: 0,
@@ -143,13 +143,13 @@ impl File {
             };
         }
         let old = self.intents;
-        let Found::At(_) = crate::intents::holding(old, client) else {
+        let Found::At(_) = intents::holding(old, client) else {
             return FileAnswered {
                 status: 10034,
                 file: self,
             };
         };
-        let xs = crate::intents::reclaimed(old, client);
+        let xs = intents::reclaimed(old, client);
         self.intents = xs;
         self.recovered = true;
         FileAnswered {
@@ -170,13 +170,13 @@ impl File {
             };
         }
         let old = self.intents;
-        let Found::At(i) = crate::intents::holding(old, client) else {
+        let Found::At(i) = intents::holding(old, client) else {
             return FileAnswered {
                 status: 10025,
                 file: self,
             };
         };
-        let came = crate::intents::came(old, i);
+        let came = intents::came(old, i);
         let barred = unreclaimed(grace, came);
         if barred {
             return FileAnswered {
@@ -184,7 +184,7 @@ impl File {
                 file: self,
             };
         }
-        let xs = crate::intents::without(old, i);
+        let xs = intents::without(old, i);
         self.intents = xs;
         FileAnswered {
             status: 0,
@@ -210,7 +210,7 @@ impl File {
             };
         }
         let xs = self.intents;
-        let held = crate::intents::busy(xs);
+        let held = intents::busy(xs);
         if held {
             return FileAnswered {
                 status: 10008,
@@ -242,7 +242,7 @@ impl File {
             return 10008;
         }
         let xs = self.intents;
-        let held = crate::intents::busy(xs);
+        let held = intents::busy(xs);
         if held {
             return 10008;
         }
@@ -255,7 +255,7 @@ impl File {
     {
         let hit = self.is(number);
         let xs = self.intents;
-        let held = crate::intents::held(xs, client);
+        let held = intents::held(xs, client);
         let ms = self.mirrors;
         let h = listen(ms, body);
         if h.status != 0 {
@@ -324,7 +324,7 @@ impl File {
         ensures { λ r. ⌜ r ≡ restartedFile self ⌝ }
     {
         let old = self.intents;
-        let xs = crate::intents::unreclaimed(old);
+        let xs = intents::unreclaimed(old);
         self.intents = xs;
         self.recovered = false;
         self
@@ -335,8 +335,8 @@ impl File {
         ensures { λ r. ⌜ r ≡ endedFile self ⌝ }
     {
         let old = self.intents;
-        let held = crate::intents::busy(old);
-        let xs = crate::intents::staying(old);
+        let held = intents::busy(old);
+        let xs = intents::staying(old);
         let lost = unreclaimed(held, self.recovered);
         self.intents = xs;
         if lost {
@@ -362,7 +362,7 @@ impl File {
             return false;
         }
         let xs = self.intents;
-        let held = crate::intents::busy(xs);
+        let held = intents::busy(xs);
         !held
     }
 

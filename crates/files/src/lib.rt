@@ -1,3 +1,2 @@
-// One file of the recovery record (paper 01): its write intents, and the calls on one file; its mirrors are crate mirroring's.
+// One file of the recovery record (paper 01), and the calls on one file; its mirrors are crate mirroring's, its write intents crate intents'.
 pub mod file;
-pub mod intents;

@@ -10,16 +10,16 @@ use lib.Seq.{set-getD}
 use lib.Dec.{eqb, leb, ltb}
 use borrow.Author.Tests.{eqb-false, le-leb, lt-leb, leb-true, leb-false, ltb-true, ltb-false}
 use Rattle.wire.specs.Device.{Device}
-use Rattle.mirroring.specs.Lists.{any, chosen, none, discard, amend, Above, Rising}
-use Rattle.mirroring.specs.Places.{first, placeOr, leftOut}
+use Rattle.places.specs.Lists.{any, chosen, none, discard, amend, Above, Rising}
+use Rattle.places.specs.Places.{first, placeOr, leftOut}
 use Rattle.mirroring.specs.Devices.{mirrorsIn, badMirrors}
 use Rattle.mirroring.specs.Mirrors.{placedMirrors, enrolledOf}
 use Rattle.files.specs.File.{noFile, blankFile, isFile, isVacant, fileOf, fileAnswered, openedFile, reclaimedFile, closedFile, repairedFile, forgettable, restartedFile, endedFile, isListed, isReady, sourceOf}
-use Rattle.mirroring.specs.declared.places.Found.the-variants.{At, Nothing}
+use Rattle.places.specs.declared.Found.the-variants.{At, Nothing}
 use Rattle.files.specs.declared.file.File.{File}
 use Rattle.files.specs.declared.file.FileAnswered.{FileAnswered}
-use Rattle.mirroring.proofs.Slots.{All, Slots, Focus, Hit, slots-map, slots-chosen, slots-at, focus, pairs-map, leftOut-length, missing, found}
-use Rattle.mirroring.proofs.Sets.{true-false, first-nothing, none-at, first-no, rest-no}
+use Rattle.places.proofs.Slots.{All, Slots, Focus, Hit, slots-map, slots-chosen, slots-at, focus, pairs-map, leftOut-length, missing, found}
+use Rattle.places.proofs.Sets.{true-false, first-nothing, none-at, first-no, rest-no}
 use Rattle.mirroring.proofs.Enrolling.{few-mirrors}
 use Rattle.ledger.specs.Ledger.{Row, Ledger, isRow, newRow, registered, rowOf, refused, _⇒_, openRules, intentRules, closeRules, repairedRules, forgetRules, isMarked, isOffered, needRepair, forCopying, listOf, numbers, source, opened, hasReclaimed, closed, mended, restarted, ended, insert, withRows, withGrace, onRow}
 use Rattle.recovery.specs.Record.{withFiles, answered, placeIn, fileAt, onPlace, openOf, reclaimOf, closeOf, repairedOf, enter, isFull, registerWith, registerOf, forgets, forgetOf, endOf, restartOf, isWanted, numberOf, listingOf}

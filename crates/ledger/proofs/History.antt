@@ -7,9 +7,9 @@ use lib.Dec.{eqb, leb, ltb}
 use lib.ListN.{length}
 use borrow.Author.Tests.{eqb-true}
 use Rattle.wire.specs.Reply.{replyIn}
-use Rattle.mirroring.specs.Lists.{fill}
+use Rattle.places.specs.Lists.{fill}
 use Rattle.files.specs.File.{blankFile, handedOnCode, returnedHeard, returnedFile}
-use Rattle.mirroring.proofs.Slots.{Slots, all-replicate}
+use Rattle.places.proofs.Slots.{Slots, all-replicate}
 use Rattle.recovery.specs.Calls.{Call, register, opening, reclaim, close, repaired, forget, endGrace, restart, layoutReturn, resilver, offered, Answer, said, replied, handedOn, listed, lend}
 use Rattle.ledger.specs.Ledger.{Ledger, noRows, judge, apply, accepted, feed, reply, isMarked, isOffered}
 use Rattle.recovery.specs.Record.{fresh, returning, writing, returnedOf, layoutreturnOf, replyAfter}

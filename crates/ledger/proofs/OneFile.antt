@@ -10,20 +10,20 @@ use lib.Dec.{eqb, leb}
 use borrow.Author.Tests.{eqb-true, le-leb, lt-leb}
 use Rattle.wire.specs.Device.{Device}
 use Rattle.wire.specs.Report.{DeviceError, over}
-use Rattle.mirroring.specs.Lists.{any, chosen, has, with, none}
-use Rattle.mirroring.specs.Places.{bump, first, placeOr}
+use Rattle.places.specs.Lists.{any, chosen, has, with, none}
+use Rattle.places.specs.Places.{bump, first, placeOr}
 use Rattle.mirroring.specs.Mirrors.{noMirror, isGood, placedMirrors, sourceIn}
 use Rattle.mirroring.specs.Blame.{heardNothing, told}
-use Rattle.files.specs.Intents.{noIntent, noIntents, intentOf, isIntent, isFree, isKept, firstTaken, reclaimedIf, unreclaimedIntent}
+use Rattle.intents.specs.Intents.{noIntent, noIntents, intentOf, isIntent, isFree, isKept, firstTaken, reclaimedIf, unreclaimedIntent}
 use Rattle.files.specs.File as file
 use Rattle.files.specs.File.{fileOf, fileAnswered, takes, opens, reclaims, leaves, mendedFile, heeds, ofClient, restartedFile, endedFile, sourceOf}
-use Rattle.files.specs.declared.intents.Intent.{Intent}
+use Rattle.intents.specs.declared.Intent.{Intent}
 use Rattle.mirroring.specs.declared.mirrors.Mirror.{Mirror}
 use Rattle.files.specs.declared.file.File.{File}
-use Rattle.mirroring.specs.declared.places.Found.{Found}
-use Rattle.mirroring.specs.declared.places.Found.the-variants.{At, Nothing}
-use Rattle.mirroring.proofs.Slots.{All, Pairs, Slots, Focus, Room, slots-left, slots-fill, slots-chosen, focus, roomFor, pairs-as, all-replicate, fill-length, chosen-length, leftOut-length, missing, found, full, room}
-use Rattle.mirroring.proofs.Sets.{true-false, has-with, none-with, with-old, with-new}
+use Rattle.places.specs.declared.Found.{Found}
+use Rattle.places.specs.declared.Found.the-variants.{At, Nothing}
+use Rattle.places.proofs.Slots.{All, Pairs, Slots, Focus, Room, slots-left, slots-fill, slots-chosen, focus, roomFor, pairs-as, all-replicate, fill-length, chosen-length, leftOut-length, missing, found, full, room}
+use Rattle.places.proofs.Sets.{true-false, has-with, none-with, with-old, with-new}
 use Rattle.mirroring.proofs.Copies.{MirrorIs, NoMirror, Copies, copies-unblamed, copies-new}
 use Rattle.files.proofs.Heeding.{nothing-heeded}
 use Rattle.ledger.specs.Ledger.{Row, newRow, source, sourceFrom, refused, openRules, intentRules, closeRules, repairedRules, opened, hasReclaimed, closed, mended, restarted, ended, reported}

@@ -6,13 +6,13 @@ use mathlib.Core.Bool.{Bool, true, false, not, cond}
 use Prim.Native.Nat.{ℕ}
 use lib.ListN.{length}
 use lib.Dec.{eqb}
-use Rattle.mirroring.specs.Lists.{has, none, Rising}
+use Rattle.places.specs.Lists.{has, none, Rising}
 use Rattle.files.specs.File as file
-use Rattle.files.specs.declared.intents.Intent.{Intent}
+use Rattle.intents.specs.declared.Intent.{Intent}
 use Rattle.mirroring.specs.declared.mirrors.Mirror.{Mirror}
 use Rattle.files.specs.declared.file.File.{File}
 use Rattle.files.specs.declared.file.FileAnswered.{FileAnswered}
-use Rattle.mirroring.proofs.Slots.{Slots}
+use Rattle.places.proofs.Slots.{Slots}
 use Rattle.mirroring.proofs.Copies.{Copies}
 use Rattle.ledger.specs.Ledger.{Row, Ledger, numbers, withIntents, withMark, withBlame}
 use Rattle.recovery.specs.declared.record.Record.{Record}

@@ -8,8 +8,8 @@ use lib.ListN.{length, length-set}
 use lib.Dec.{eqb}
 use Rattle.wire.specs.Device.{Device}
 use Rattle.wire.specs.Report.{DeviceError, over}
-use Rattle.mirroring.specs.Lists.{any, with}
-use Rattle.mirroring.specs.Places.{first}
+use Rattle.places.specs.Lists.{any, with}
+use Rattle.places.specs.Places.{first}
 use Rattle.mirroring.specs.Devices.{deviceOf, isMirror, placeOf}
 use Rattle.mirroring.specs.Mirrors.{isDevice, accused}
 use Rattle.mirroring.specs.Blame.{heardNothing, faultAt, toldAt, toldOf, told}
@@ -18,10 +18,10 @@ use Rattle.files.specs.File.{heededFile}
 use Rattle.mirroring.specs.declared.mirrors.Mirror.{Mirror}
 use Rattle.mirroring.specs.declared.blame.Heard.{Heard}
 use Rattle.files.specs.declared.file.File.{File}
-use Rattle.mirroring.specs.declared.places.Found.{Found}
-use Rattle.mirroring.specs.declared.places.Found.the-variants.{At, Nothing}
-use Rattle.mirroring.proofs.Sets.{true-false, none-first}
-use Rattle.mirroring.proofs.Slots.{Slots}
+use Rattle.places.specs.declared.Found.{Found}
+use Rattle.places.specs.declared.Found.the-variants.{At, Nothing}
+use Rattle.places.proofs.Sets.{true-false, none-first}
+use Rattle.places.proofs.Slots.{Slots}
 use Rattle.mirroring.proofs.Copies.{Copies, MirrorIs, NoMirror, known, placed, none-accused, flag-raised}
 use Rattle.ledger.specs.Ledger.{Row, names, isFault, isStranger, blame, reported, withMark, withBlame}
 use Rattle.ledger.proofs.Relation.{FileIs, with-mark, with-copies}

@@ -13,9 +13,9 @@ use Rattle.wire.specs.Reply.{replyIn}
 use Rattle.wire.specs.declared.request.Request.{Request}
 use Rattle.wire.specs.declared.request.Request.the-variants as request
 use Rattle.wire.proofs.Requests.{cond-below, refused-number, refused-small}
-use Rattle.mirroring.specs.Lists.{any}
-use Rattle.mirroring.specs.Places.{first}
-use Rattle.files.specs.Intents.{isIntent}
+use Rattle.places.specs.Lists.{any}
+use Rattle.places.specs.Places.{first}
+use Rattle.intents.specs.Intents.{isIntent}
 use Rattle.mirroring.specs.declared.blame.Heard.{Heard}
 use Rattle.mirroring.specs.Blame.{heardNothing, told, heardOf}
 use Rattle.files.specs.File.{isFile, fileAnswered, heededFile, heeds, ofIntent, ifWhole, reportHeard, asksHeard, handedOnCode}

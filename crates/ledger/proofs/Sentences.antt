@@ -10,9 +10,9 @@ use lib.ListN.{length}
 use lib.Dec.{eqb, ltb}
 use borrow.Author.Tests.{eqb-true, eq-eqb, ne-eqb, ltb-true, ltb-false}
 use Rattle.wire.specs.Device.{Device}
-use Rattle.mirroring.specs.Lists.{any, chosen, has, firstOr, Above, Rising}
-use Rattle.mirroring.proofs.Slots.{All}
-use Rattle.mirroring.proofs.Sets.{true-false}
+use Rattle.places.specs.Lists.{any, chosen, has, firstOr, Above, Rising}
+use Rattle.places.proofs.Slots.{All}
+use Rattle.places.proofs.Sets.{true-false}
 use Rattle.ledger.specs.Ledger.{Row, Ledger, isRow, newRow, registered, rowOf, numbers, sources, sourceFrom, source}
 use Rattle.ledger.specs.Lists.{IsSource, lowest, nowhere, Sources, sources-nil, sources-cons, rowPasses, IsList, OneList}
 

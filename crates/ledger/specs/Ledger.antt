@@ -12,7 +12,7 @@ use Rattle.wire.specs.Request.{requestOf, bodyOf}
 use Rattle.wire.specs.Reply.{replyIn}
 use Rattle.wire.specs.declared.request.Request.{Request}
 use Rattle.wire.specs.declared.request.Request.the-variants as request
-use Rattle.mirroring.specs.Lists.{any, chosen, has, with, none, amend, discard, firstOr, fill}
+use Rattle.places.specs.Lists.{any, chosen, has, with, none, amend, discard, firstOr, fill}
 use Rattle.mirroring.specs.Devices.{deviceOf, mirrorsIn, isMirror, placeOf, badMirrors}
 use Rattle.recovery.specs.Calls.{Call, register, opening, reclaim, close, repaired, forget, endGrace, restart, layoutReturn, resilver, offered, Answer, said, replied, handedOn, listed, lend}
 

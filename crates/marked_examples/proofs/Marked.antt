@@ -10,9 +10,9 @@ use Rattle.wire.specs.Request.{fileReturn, returnOf, arguments, refusalOf, isAn
 use Rattle.mirroring.specs.Blame.{toldOf, heardOf}
 use Rattle.mirroring.specs.Devices.{devicesIn, mirrorsIn, isMirror, placeOf, twice, badMirrors}
 use Rattle.files.specs.File.{openedFile, reclaimedFile, closedFile, repairedFile, heededFile, reportHeard, returnedHeard, returnedFile, restartedFile, endedFile, sourceOf}
-use Rattle.mirroring.specs.Lists.{any, chosen, has, with, none, amend, discard, firstOr, fill}
+use Rattle.places.specs.Lists.{any, chosen, has, with, none, amend, discard, firstOr, fill}
 use Rattle.mirroring.specs.Mirrors.{accused, sourceIn, enrolledOf}
-use Rattle.mirroring.specs.Places.{first, pull}
+use Rattle.places.specs.Places.{first, pull}
 use Rattle.ledger.specs.History.{step, answers}
 use Rattle.ledger.specs.Ledger.{registered, rowOf, sourceFrom, judge, blame, insert, apply, feed}
 use Rattle.recovery.specs.Record.{placeIn, openOf, reclaimOf, closeOf, enter, registerOf, endOf, restartOf, listingOf, returnedOf, layoutreturnOf, replyAfter}

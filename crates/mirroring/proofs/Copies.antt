@@ -9,16 +9,16 @@ use native.Mathlib.Decide.{ℕ-discrete}
 use lib.ListN.{getD, set, length, replicate, length-set, length-map, List·getD-map}
 use lib.Seq.{getD-set-same, getD-set-other}
 use borrow.Author.Tests.{eq-eqb, ne-eqb}
-use Rattle.mirroring.specs.Lists.{any, has, with, fill}
-use Rattle.mirroring.specs.Places.{bump, first, placeOr}
+use Rattle.places.specs.Lists.{any, has, with, fill}
+use Rattle.places.specs.Places.{bump, first, placeOr}
 use Rattle.wire.specs.Device.{Device}
 use Rattle.mirroring.specs.Devices.{sameDevice, isMirror, placeOf}
 use Rattle.mirroring.specs.Mirrors.{noMirror, noMirrors, isDevice, isGood, unblamed, blamedIf, accused, mirrorOf, placedMirrors, sourceIn}
 use Rattle.mirroring.specs.declared.mirrors.Mirror.{Mirror}
-use Rattle.mirroring.specs.declared.places.Found.{Found}
-use Rattle.mirroring.specs.declared.places.Found.the-variants.{At, Nothing}
-use Rattle.mirroring.proofs.Slots.{All, fill-length, Slots, slots-left, slots-set, slots-fill, slots-any, pairs-from, all-replicate}
-use Rattle.mirroring.proofs.Sets.{true-false, has-with}
+use Rattle.places.specs.declared.Found.{Found}
+use Rattle.places.specs.declared.Found.the-variants.{At, Nothing}
+use Rattle.places.proofs.Slots.{All, fill-length, Slots, slots-left, slots-set, slots-fill, slots-any, pairs-from, all-replicate}
+use Rattle.places.proofs.Sets.{true-false, has-with}
 
 -- ---- how they go together
 pub record MirrorIs (m : Mirror) (d : Device) : Type 0 where

@@ -11,16 +11,16 @@ use lib.Seq.{drop-drop}
 use lib.Dec.{eqb, leb, ltb}
 use borrow.Author.Tests.{eqb-true, eqb-false, leb-true, leb-false, eq-eqb, ne-eqb, lt-ltb, le-ltb, ltb-false}
 use Rattle.xdr.specs.Be.{beNat}
-use Rattle.mirroring.specs.Lists.{any, none, fill}
-use Rattle.mirroring.specs.Places.{first}
+use Rattle.places.specs.Lists.{any, none, fill}
+use Rattle.places.specs.Places.{first}
 use Rattle.wire.specs.Device.{Device, halves}
 use Rattle.mirroring.specs.Devices.{sameDevice, devicesIn, mirrorsIn, isMirror, twice, badMirrors}
 use Rattle.mirroring.specs.Mirrors.{noMirror, newMirror, mirrorOf, isAt, isDevice, wholeList, refusedList, placedMirrors, enrolledOf}
 use Rattle.mirroring.specs.declared.mirrors.Mirror.{Mirror}
 use Rattle.mirroring.specs.declared.enrol.Enrolled.{Enrolled}
-use Rattle.mirroring.specs.declared.places.Found.the-variants.{At, Nothing}
-use Rattle.mirroring.proofs.Sets.{true-false, eqb-sym, any-append, first-at, first-nothing}
-use Rattle.mirroring.proofs.Loops.{fill-snoc}
+use Rattle.places.specs.declared.Found.the-variants.{At, Nothing}
+use Rattle.places.proofs.Sets.{true-false, eqb-sym, any-append, first-at, first-nothing}
+use Rattle.places.proofs.Loops.{fill-snoc}
 use Rattle.mirroring.proofs.Copies.{known, slots-new}
 
 -- ---- the ids in a list of bytes

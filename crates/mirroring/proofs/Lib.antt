@@ -1,6 +1,4 @@
-pub mod Slots
-pub mod Sets
-pub mod Loops
 pub mod Copies
 pub mod Enrolling
 mod Hearing
+mod Flags

@@ -5,13 +5,13 @@ use Prim.Native.Nat.{ℕ}
 use lib.ListN.{set, replicate}
 use lib.Dec.{eqb}
 use Rattle.wire.specs.Report.{DeviceError, Report, outcome}
-use Rattle.mirroring.specs.Places.{first}
+use Rattle.places.specs.Places.{first}
 use Rattle.mirroring.specs.Devices.{deviceOf}
 use Rattle.mirroring.specs.Mirrors.{isAt}
 use Rattle.mirroring.specs.declared.mirrors.Mirror.{Mirror}
 use Rattle.mirroring.specs.declared.blame.Heard.{Heard}
-use Rattle.mirroring.specs.declared.places.Found.{Found}
-use Rattle.mirroring.specs.declared.places.Found.the-variants.{At, Nothing}
+use Rattle.places.specs.declared.Found.{Found}
+use Rattle.places.specs.declared.Found.the-variants.{At, Nothing}
 
 abbrev pub noFlags : List Bool
 noFlags = replicate 4 false

@@ -7,7 +7,7 @@ use lib.ListN.{length, drop}
 use lib.Dec.{eqb, ltb}
 use Rattle.wire.specs.Device.{Device, halves}
 use Rattle.wire.specs.Report.{DeviceError}
-use Rattle.mirroring.specs.Lists.{any, none}
+use Rattle.places.specs.Lists.{any, none}
 
 abbrev pub sameDevice : Device → Device → Bool
 sameDevice d e = cond (eqb (d .high) (e .high)) (eqb (d .low) (e .low)) false

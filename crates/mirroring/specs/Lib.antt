@@ -1,5 +1,3 @@
-pub mod Lists
-pub mod Places
 pub mod Devices
 pub mod Mirrors
 pub mod Blame

@@ -4,8 +4,8 @@ use mathlib.Core.Bool.{Bool, true, false, not, cond}
 use Prim.Native.Nat.{ℕ, _%_}
 use lib.ListN.{replicate}
 use lib.Dec.{eqb, leb}
-use Rattle.mirroring.specs.Lists.{fill}
-use Rattle.mirroring.specs.Places.{first, placeOr}
+use Rattle.places.specs.Lists.{fill}
+use Rattle.places.specs.Places.{first, placeOr}
 use Rattle.wire.specs.Device.{Device}
 use Rattle.mirroring.specs.Devices.{mirrorsIn, badMirrors}
 use Rattle.mirroring.specs.declared.mirrors.Mirror.{Mirror}

@@ -1,7 +1,7 @@
 // What a report says of a file's mirrors (paper 01, LAYOUTRETURN, steps 5 and 7): one walk of its device errors.
 use crate::mirrors::Mirror;
 use crate::mirrors::place;
-use crate::places::Found;
+use places::Found;
 use wire::report::Entry;
 ghost use mathlib.Core.Path.{_≡_};
 ghost use mathlib.Core.Bool.{Bool, true, cond};

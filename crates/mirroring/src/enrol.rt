@@ -2,7 +2,7 @@
 // list is bad.
 use crate::mirrors::Mirror;
 use crate::mirrors::place;
-use crate::places::Found;
+use places::Found;
 ghost use mathlib.Core.Path.{_≡_};
 ghost use mathlib.Core.Bool.{not};
 ghost use lib.ListN.{length};

@@ -1,10 +1,10 @@
 // A file's mirrors (paper 01, "The recovery record"): 1 to 4 devices, by place from 0, and which of them are blamed. First one place, then
 // the four: a device's place, the source to copy from, and the end of all blame.
-use crate::places::Found;
+use places::Found;
 ghost use mathlib.Core.Path.{_≡_};
 ghost use mathlib.Core.List.{map};
 ghost use Prim.Native.Nat.{_<_};
-ghost use Rattle.mirroring.specs.Places.{first};
+ghost use Rattle.places.specs.Places.{first};
 ghost use Rattle.mirroring.specs.Mirrors.{noMirror, newMirror, isAt, isGood, unblamed, blamedIf, accused, sourceIn};
 
 // A place for a mirror: the two halves of its device's id, whether the place is used, and whether its device is blamed.

@@ -5,7 +5,7 @@ use mathlib.Core.Bool.{Bool}
 use Prim.Native.Nat.{ℕ, _<_, _≤_}
 use lib.ListN.{length, length-map}
 use borrow.Author.Tests.{le-leb, lt-leb}
-use Rattle.mirroring.specs.Lists.{chosen, fill}
+use Rattle.places.specs.Lists.{chosen, fill}
 use Rattle.files.specs.File.{sourceOf}
 use Rattle.recovery.specs.Calls.{listed, lend}
 use Rattle.recovery.specs.Record.{isWanted, numberOf, listingOf}

@@ -5,7 +5,7 @@ use mathlib.Core.Bool.{cond}
 use Prim.Native.Nat.{ℕ}
 use lib.ListN.{length}
 use lib.Dec.{leb}
-use Rattle.mirroring.specs.Lists.{fill}
+use Rattle.places.specs.Lists.{fill}
 
 -- mirrors, request and reply are bytes, 16 a device; a listing is lent a slice of file numbers and a slice of sources
 pub data Call : Type 0 where

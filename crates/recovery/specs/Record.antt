@@ -6,8 +6,8 @@ use Prim.Native.Nat.{ℕ}
 use lib.ListN.{getD, set, length, replicate}
 use lib.Dec.{eqb, leb, ltb}
 use Rattle.wire.specs.Reply.{replyIn}
-use Rattle.mirroring.specs.Lists.{chosen}
-use Rattle.mirroring.specs.Places.{first, placeOr, leftOut}
+use Rattle.places.specs.Lists.{chosen}
+use Rattle.places.specs.Places.{first, placeOr, leftOut}
 use Rattle.mirroring.specs.Mirrors.{enrolledOf}
 use Rattle.files.specs.File.{noFile, blankFile, fileOf, isFile, isVacant, openedFile, reclaimedFile, closedFile, repairedFile, forgettable, returnedFile, handedOnCode, restartedFile, endedFile, isListed, isReady, sourceOf}
 use Rattle.files.specs.declared.file.File.{File}

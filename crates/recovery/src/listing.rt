@@ -5,7 +5,7 @@ use files::file::File;
 ghost use mathlib.Core.Path.{_≡_};
 ghost use mathlib.Core.Bool.{true, false};
 ghost use lib.ListN.{length};
-ghost use Rattle.mirroring.specs.Lists.{chosen};
+ghost use Rattle.places.specs.Lists.{chosen};
 ghost use Rattle.recovery.specs.Calls.{listed};
 ghost use Rattle.recovery.specs.Record.{isWanted, listingOf};
 

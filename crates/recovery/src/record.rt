@@ -5,7 +5,7 @@ use files::file::FileAnswered;
 ghost use mathlib.Core.Path.{_≡_};
 ghost use mathlib.Core.List.{map};
 ghost use Prim.Native.Nat.{_<_};
-ghost use Rattle.mirroring.specs.Places.{leftOut};
+ghost use Rattle.places.specs.Places.{leftOut};
 ghost use Rattle.files.specs.File.{blankFile, restartedFile, endedFile};
 ghost use Rattle.recovery.specs.Record.{fresh, answered, placeIn, putFile, enter, registerOf, openOf, reclaimOf, closeOf, repairedOf, forgetOf, endOf, restartOf};
 

@@ -4,7 +4,7 @@ use mathlib.Core.Bool.{Bool, true, false, cond}
 use Prim.Native.Nat.{_-_}
 use lib.ListN.{length, getD}
 use lib.Dec.{eqb}
-use Rattle.mirroring.proofs.Loops.{Putting, to-put, putting-more, putting-done}
+use Rattle.places.proofs.Loops.{Putting, to-put, putting-more, putting-done}
 use native.Mathlib.Omega.{arith}
 use borrow.Author.Needs.{needs}
 use Rattle.mirroring.proofs.blame.flagged.Statement.{statement}

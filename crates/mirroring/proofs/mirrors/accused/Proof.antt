@@ -3,7 +3,8 @@ use mathlib.Core.Path.{_≡_, sym, _∙_}
 use mathlib.Core.Bool.{false}
 use Prim.Native.Nat.{_-_}
 use lib.ListN.{length, getD}
-use Rattle.mirroring.proofs.Loops.{mapped-length, Mapping, mapping-none, mapping-more, mapped-flags}
+use Rattle.places.proofs.Loops.{mapped-length, Mapping, mapping-none, mapping-more}
+use Rattle.mirroring.proofs.Flags.{mapped-flags}
 use Rattle.mirroring.specs.Mirrors.{noMirror, blamedIf}
 use native.Mathlib.Omega.{arith}
 use borrow.Author.Needs.{needs}

@@ -4,7 +4,7 @@ use Prim.Native.Nat.{_-_}
 use native.Mathlib.Omega.{arith}
 use lib.ListN.{length}
 use borrow.Author.Needs.{needs}
-use Rattle.mirroring.proofs.Loops.{mapped-length, Mapping, mapping-none, mapping-more, mapped}
+use Rattle.places.proofs.Loops.{mapped-length, Mapping, mapping-none, mapping-more, mapped}
 use Rattle.mirroring.specs.Mirrors.{noMirror, unblamed}
 use Rattle.mirroring.proofs.mirrors.cleared.Statement.{statement}
 use Rattle.mirroring.proofs.mirrors.cleared.Tie as tie

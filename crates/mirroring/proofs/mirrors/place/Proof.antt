@@ -4,8 +4,8 @@ use Prim.Native.Nat.{_-_}
 use native.Mathlib.Omega.{arith}
 use lib.ListN.{length}
 use borrow.Author.Needs.{needs}
-use Rattle.mirroring.proofs.Loops.{mapped-length, Searching, searching, hit, miss, over}
-use Rattle.mirroring.specs.Places.{first}
+use Rattle.places.proofs.Loops.{mapped-length, Searching, searching, hit, miss, over}
+use Rattle.places.specs.Places.{first}
 use Rattle.mirroring.specs.Mirrors.{noMirror, isAt}
 use Rattle.mirroring.proofs.mirrors.place.Statement.{statement}
 use Rattle.mirroring.proofs.mirrors.place.Tie as tie

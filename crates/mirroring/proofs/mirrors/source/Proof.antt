@@ -4,9 +4,9 @@ use Prim.Native.Nat.{_-_}
 use native.Mathlib.Omega.{arith}
 use lib.ListN.{length}
 use borrow.Author.Needs.{needs}
-use Rattle.mirroring.proofs.Loops.{mapped-length, found-below}
-use Rattle.mirroring.specs.Places.{first}
-use Rattle.mirroring.specs.declared.places.Found.the-variants.{At}
+use Rattle.places.proofs.Loops.{mapped-length, found-below}
+use Rattle.places.specs.Places.{first}
+use Rattle.places.specs.declared.Found.the-variants.{At}
 use Rattle.mirroring.specs.Mirrors.{isGood, sourceIn}
 use Rattle.mirroring.proofs.mirrors.source.Statement.{statement}
 use Rattle.mirroring.proofs.mirrors.source.Tie as tie

@@ -5,7 +5,7 @@ use native.Mathlib.Omega.{arith}
 use lib.ListN.{length}
 use borrow.Author.Needs.{needs}
 use borrow.Author.Tests.{not-true, not-false}
-use Rattle.mirroring.proofs.Loops.{mapped-length, Counting, counting-none, counting-skip, counting-more, counted}
+use Rattle.places.proofs.Loops.{mapped-length, Counting, counting-none, counting-skip, counting-more, counted}
 use Rattle.files.specs.File.{noFile}
 use Rattle.recovery.specs.Record.{isWanted}
 use Rattle.recovery.proofs.listing.counted.Statement.{statement}

@@ -4,7 +4,7 @@ use Prim.Native.Nat.{_-_}
 use native.Mathlib.Omega.{arith}
 use lib.ListN.{length}
 use borrow.Author.Needs.{needs}
-use Rattle.mirroring.proofs.Loops.{mapped-length}
+use Rattle.places.proofs.Loops.{mapped-length}
 use Rattle.recovery.proofs.Entering.{Entering, entered-here, entering-on, entering-put, entered-not}
 use Rattle.recovery.specs.Record.{enter}
 use Rattle.recovery.proofs.record.entered.Statement.{statement}

@@ -4,8 +4,8 @@ use Prim.Native.Nat.{_≤_, _-_}
 use native.Mathlib.Omega.{arith}
 use lib.ListN.{length}
 use borrow.Author.Needs.{needs}
-use Rattle.mirroring.proofs.Loops.{mapped-length, Pulling, pulling-on, pulled}
-use Rattle.mirroring.specs.Places.{leftOut}
+use Rattle.places.proofs.Loops.{mapped-length, Pulling, pulling-on, pulled}
+use Rattle.places.specs.Places.{leftOut}
 use Rattle.files.specs.File.{noFile, blankFile}
 use Rattle.recovery.proofs.record.left_out.Statement.{statement}
 use Rattle.recovery.proofs.record.left_out.Tie as tie

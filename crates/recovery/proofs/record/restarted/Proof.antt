@@ -4,7 +4,7 @@ use Prim.Native.Nat.{_-_}
 use native.Mathlib.Omega.{arith}
 use lib.ListN.{length}
 use borrow.Author.Needs.{needs}
-use Rattle.mirroring.proofs.Loops.{mapped-length, Mapping, mapping-none, mapping-more, mapped}
+use Rattle.places.proofs.Loops.{mapped-length, Mapping, mapping-none, mapping-more, mapped}
 use Rattle.files.specs.File.{noFile, restartedFile}
 use Rattle.recovery.proofs.record.restarted.Statement.{statement}
 use Rattle.recovery.proofs.record.restarted.Tie as tie

@@ -1,27 +1,18 @@
 -- Each return rewrites with the tests that led there.
 use mathlib.Core.Path.{_≡_, sym, _∙_}
-use Prim.Native.Nat.{_<_, _-_}
-use lib.ListN.{length}
+use Prim.Native.Nat.{_-_}
 use borrow.Author.Tests.{not-true, not-false}
-use Rattle.mirroring.proofs.Loops.{mapped-length, found-below}
-use Rattle.mirroring.specs.Places.{first}
-use Rattle.mirroring.specs.declared.places.Found.the-variants.{At}
-use Rattle.files.specs.Intents.{isIntent}
+use Rattle.places.specs.Places.{first}
+use Rattle.places.specs.declared.Found.the-variants.{At}
+use Rattle.intents.specs.Intents.{isIntent}
 use Rattle.files.specs.File.{closedFile}
-use native.Mathlib.Omega.{arith}
 use borrow.Author.Needs.{needs}
 use Rattle.files.proofs.file.File.close.Statement.{statement}
 use Rattle.files.proofs.file.File.close.Tie as tie
 
-long : (c : tie.Start) → length (c .args .self .intents) ≡ 8
-long c = search (mapped-length, needs)
-
 -- the intent's place
 at : (c : tie.After-known-told) → first (isIntent (c .before .before .before .before .before .before .before .args .client)) (c .before .before .before .before .before .before .before .args .self .intents) ≡ At (c .before .i .given .0 .0)
 at c = sym (c .before .before .before .holding .ensures) ∙ c .before .i .given .1
-
-below : (c : tie.After-known-told) → c .before .i .given .0 .0 < 8
-below c = omega (arith, found-below (isIntent _) _ _ (at c), long (c .before .before .before .before .before .before .before))
 
 is-requires : tie.Need-is-requires
 is-requires c κs = search needs
@@ -54,7 +45,7 @@ unfolding closedFile
 returns-3 c = rw (sym (c .before .before .before .before .before .before .before .before .before .is .ensures) ∙ not-false _ (c .before .before .before .before .before .before .before .before .if1 .left), at (c .before .before .before), ← c .before .before .came .ensures, sym (c .before .unreclaimed .ensures) ∙ c .if2 .taken)
 
 without-requires : tie.Need-without-requires
-without-requires c κs = below (c .before .before .before)
+without-requires c κs = search needs
 
 returns-4 : tie.Need-returns-4
 unfolding closedFile

@@ -5,7 +5,7 @@ use Rattle.files.specs.File.{endedFile, unreclaimedBar}
 use Rattle.files.proofs.file.File.ended.Statement.{statement}
 use Rattle.files.proofs.file.File.ended.Tie as tie
 
-lost : (c : tie.After-unreclaimed) → unreclaimedBar (Rattle.files.specs.Intents.firstTaken (c .before .before .before .before .args .self .intents)) (c .before .before .before .before .args .self .recovered) ≡ c .unreclaimed .result
+lost : (c : tie.After-unreclaimed) → unreclaimedBar (Rattle.intents.specs.Intents.firstTaken (c .before .before .before .before .args .self .intents)) (c .before .before .before .before .args .self .recovered) ≡ c .unreclaimed .result
 lost c = sym (rw (c .before .before .busy .ensures) at (c .unreclaimed .ensures))
 
 busy-requires : tie.Need-busy-requires

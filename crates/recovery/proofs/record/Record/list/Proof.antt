@@ -5,7 +5,7 @@ use native.Mathlib.Omega.{arith}
 use lib.ListN.{length}
 use borrow.Author.Needs.{needs}
 use borrow.Author.Tests.{not-true, not-false}
-use Rattle.mirroring.proofs.Loops.{mapped-length, Counting, counting-none, counting-skip, counting-more, counting-room, Filling, filling-none, filling-skip, filling-more, filling-length, filled}
+use Rattle.places.proofs.Loops.{mapped-length, Counting, counting-none, counting-skip, counting-more, counting-room, Filling, filling-none, filling-skip, filling-more, filling-length, filled}
 use Rattle.files.specs.File.{noFile, sourceOf}
 use Rattle.recovery.specs.Record.{isWanted, numberOf}
 use Rattle.recovery.proofs.Listings.{short-numbers, short-sources, both-filled}

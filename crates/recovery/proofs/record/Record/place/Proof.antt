@@ -4,8 +4,8 @@ use Prim.Native.Nat.{_-_}
 use native.Mathlib.Omega.{arith}
 use lib.ListN.{length}
 use borrow.Author.Needs.{needs}
-use Rattle.mirroring.proofs.Loops.{mapped-length, Searching, searching, hit, miss, over}
-use Rattle.mirroring.specs.Places.{first, placeOr}
+use Rattle.places.proofs.Loops.{mapped-length, Searching, searching, hit, miss, over}
+use Rattle.places.specs.Places.{first, placeOr}
 use Rattle.files.specs.File.{noFile, isFile}
 use Rattle.recovery.specs.Record.{placeIn}
 use Rattle.recovery.proofs.record.Record.place.Statement.{statement}

@@ -1,0 +1,41 @@
+-- MODEL. A file's eight places for intents, in this order: one place; tests; changes.
+use mathlib.Core.List.{List}
+use mathlib.Core.Bool.{Bool, true, false, not, cond}
+use Prim.Native.Nat.{ℕ}
+use lib.ListN.{getD, replicate}
+use lib.Dec.{eqb}
+use Rattle.intents.specs.declared.Intent.{Intent}
+
+abbrev pub noIntent : Intent
+noIntent = record { client = 0; taken = false; reclaimed = false }
+
+abbrev pub intentOf : ℕ → Intent
+intentOf c = record { client = c; taken = true; reclaimed = false }
+
+abbrev pub noIntents : List Intent
+noIntents = replicate 8 noIntent
+
+-- ---- tests
+abbrev pub isIntent : ℕ → Intent → Bool
+isIntent c x = cond (x .taken) (eqb (x .client) c) false
+
+abbrev pub isFree : Intent → Bool
+isFree x = not (x .taken)
+
+abbrev pub isKept : Intent → Bool
+isKept x = cond (x .taken) (x .reclaimed) false
+
+-- the free places are last
+abbrev pub firstTaken : List Intent → Bool
+firstTaken xs = getD xs 0 noIntent .taken
+
+-- ---- changes
+abbrev pub withReclaimed : Bool → Intent → Intent
+withReclaimed b x = record { client = x .client; taken = x .taken; reclaimed = b }
+
+-- every place of the client is changed, so that nothing hangs on there being one only
+abbrev pub reclaimedIf : ℕ → Intent → Intent
+reclaimedIf c x = withReclaimed (cond (isIntent c x) true (x .reclaimed)) x
+
+abbrev pub unreclaimedIntent : Intent → Intent
+unreclaimedIntent x = withReclaimed false x

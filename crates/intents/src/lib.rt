@@ -1,0 +1,263 @@
+// A file's write intents (paper 01, "The recovery record"): one a client, at most 8, and the free places last. First one place, then the eight.
+use places::Found;
+ghost use mathlib.Core.Path.{_≡_};
+ghost use mathlib.Core.List.{map};
+ghost use Prim.Native.Nat.{_<_};
+ghost use mathlib.Core.Bool.{cond};
+ghost use lib.ListN.{getD, set, replicate};
+ghost use Rattle.places.specs.Lists.{chosen, fill};
+ghost use Rattle.places.specs.Places.{first, isFound, leftOut};
+ghost use Rattle.intents.specs.Intents.{noIntent, intentOf, isIntent, isFree, isKept, reclaimedIf, unreclaimedIntent, firstTaken};
+
+// A place for an intent: its client, whether the place is taken, and whether the client has reclaimed since the latest restart.
+#[repr(C)]
+pub struct Intent {
+    pub client: u64,
+    pub taken: bool,
+    pub reclaimed: bool,
+}
+
+impl Intent {
+    // A free place.
+    pub fn none() -> Intent
+        ensures { λ r. ⌜ r ≡ noIntent ⌝ }
+    {
+        Intent {
+            client: 0,
+            taken: false,
+            reclaimed: false,
+        }
+    }
+
+    // A client's new intent.
+    pub fn new(client: u64) -> Intent
+        ensures { λ r. ⌜ r ≡ intentOf client ⌝ }
+    {
+        Intent {
+            client: client,
+            taken: true,
+            reclaimed: false,
+        }
+    }
+
+    // The first of two places, or the second; by its fields, so that the compiler copies no padding.
+    fn chosen(first: bool, x: Intent, y: Intent) -> Intent
+        ensures { λ r. ⌜ r ≡ cond first x y ⌝ }
+    {
+        if first {
+            Intent {
+                client: x.client,
+                taken: x.taken,
+                reclaimed: x.reclaimed,
+            }
+        } else {
+            Intent {
+                client: y.client,
+                taken: y.taken,
+                reclaimed: y.reclaimed,
+            }
+        }
+    }
+
+    // Whether it is the client's.
+    pub(crate) fn is(self, client: u64) -> bool
+        ensures { λ r. ⌜ r ≡ isIntent client self ⌝ }
+    {
+        if self.taken {
+            self.client == client
+        } else {
+            false
+        }
+    }
+
+    // Whether the place is free.
+    pub(crate) fn free(self) -> bool
+        ensures { λ r. ⌜ r ≡ isFree self ⌝ }
+    {
+        !self.taken
+    }
+
+    // Whether it stays at the end of grace.
+    pub(crate) fn stays(self) -> bool
+        ensures { λ r. ⌜ r ≡ isKept self ⌝ }
+    {
+        if self.taken { self.reclaimed } else { false }
+    }
+
+    // The place once the client has reclaimed.
+    pub(crate) fn reclaim(mut self, client: u64) -> Intent
+        ensures { λ r. ⌜ r ≡ reclaimedIf client self ⌝ }
+    {
+        let hit = self.is(client);
+        if hit {
+            self.reclaimed = true;
+            return self;
+        }
+        self
+    }
+
+    // The place after a restart.
+    pub(crate) fn forget_reclaim(mut self) -> Intent
+        ensures { λ r. ⌜ r ≡ unreclaimedIntent self ⌝ }
+    {
+        self.reclaimed = false;
+        self
+    }
+}
+
+// The place of the client's intent.
+pub fn holding(intents: [Intent; 8], client: u64) -> Found
+    ensures { λ r. ⌜ r ≡ first (isIntent client) intents ⌝ }
+{
+    let mut i: usize = 0;
+    while i < 8 {
+        let x = intents[i];
+        let hit = x.is(client);
+        if hit {
+            return Found::At(i);
+        }
+        i = i + 1;
+    }
+    Found::Nothing
+}
+
+// Whether the client has an intent.
+pub fn held(intents: [Intent; 8], client: u64) -> bool
+    ensures { λ r. ⌜ r ≡ isFound (first (isIntent client) intents) ⌝ }
+{
+    match holding(intents, client) {
+        Found::At(_) => true,
+        Found::Nothing => false,
+    }
+}
+
+// The first free place.
+pub fn room(intents: [Intent; 8]) -> Found
+    ensures { λ r. ⌜ r ≡ first isFree intents ⌝ }
+{
+    let mut i: usize = 0;
+    while i < 8 {
+        let x = intents[i];
+        let hit = x.free();
+        if hit {
+            return Found::At(i);
+        }
+        i = i + 1;
+    }
+    Found::Nothing
+}
+
+// Whether an intent is open: the free places are last, so the first place says it.
+pub fn busy(intents: [Intent; 8]) -> bool
+    ensures { λ r. ⌜ r ≡ firstTaken intents ⌝ }
+{
+    let x = intents[0];
+    x.taken
+}
+
+// The intents without that at `at`: those after it move down one place.
+pub fn without(intents: [Intent; 8], at: usize) -> [Intent; 8]
+    ensures { λ r. ⌜ r ≡ leftOut noIntent at intents ⌝ }
+{
+    let mut xs = intents;
+    let mut i: usize = 0;
+    while i < 7 {
+        let x = xs[i];
+        let y = xs[i + 1];
+        let z = Intent::chosen(at <= i, y, x);
+        xs[i] = z;
+        i = i + 1;
+    }
+    let x = xs[7];
+    let none = Intent::none();
+    let last = Intent::chosen(at <= 7, none, x);
+    xs[7] = last;
+    xs
+}
+
+// The intents with `x` at `at`; each place is written by its own number, which the compiler can keep in registers.
+pub fn placed(intents: [Intent; 8], at: usize, x: Intent) -> [Intent; 8]
+    ensures { λ r. ⌜ r ≡ set intents at x ⌝ }
+{
+    let mut xs = intents;
+    let mut i: usize = 0;
+    while i < 8 {
+        let y = xs[i];
+        let z = Intent::chosen(i == at, x, y);
+        xs[i] = z;
+        i = i + 1;
+    }
+    xs
+}
+
+// Whether the client of the intent at `at` has reclaimed.
+pub fn came(intents: [Intent; 8], at: usize) -> bool
+    ensures { λ r. ⌜ r ≡ getD intents at noIntent .reclaimed ⌝ }
+{
+    let mut b = false;
+    let mut i: usize = 0;
+    while i < 8 {
+        let x = intents[i];
+        b = either(i == at, x.reclaimed, b);
+        i = i + 1;
+    }
+    b
+}
+
+// The first of two answers, or the second.
+fn either(first: bool, x: bool, y: bool) -> bool
+    ensures { λ r. ⌜ r ≡ cond first x y ⌝ }
+{
+    if first { x } else { y }
+}
+
+// The intents that stay at the end of grace, in their order, from the first place on.
+pub fn staying(intents: [Intent; 8]) -> [Intent; 8]
+    ensures { λ r. ⌜ r ≡ fill (chosen isKept intents) (replicate 8 noIntent) ⌝ }
+{
+    let none = Intent::none();
+    let mut xs = [none; 8];
+    let mut k: usize = 0;
+    let mut i: usize = 0;
+    while i < 8 {
+        let y = intents[i];
+        let hit = y.stays();
+        i = i + 1;
+        if !hit {
+            continue;
+        }
+        xs[k] = y;
+        k = k + 1;
+    }
+    xs
+}
+
+// The intents once the client has reclaimed.
+pub fn reclaimed(intents: [Intent; 8], client: u64) -> [Intent; 8]
+    ensures { λ r. ⌜ r ≡ map (reclaimedIf client) intents ⌝ }
+{
+    let mut xs = intents;
+    let mut i: usize = 0;
+    while i < 8 {
+        let x = xs[i];
+        let y = x.reclaim(client);
+        xs[i] = y;
+        i = i + 1;
+    }
+    xs
+}
+
+// The intents after a restart.
+pub fn unreclaimed(intents: [Intent; 8]) -> [Intent; 8]
+    ensures { λ r. ⌜ r ≡ map unreclaimedIntent intents ⌝ }
+{
+    let mut xs = intents;
+    let mut i: usize = 0;
+    while i < 8 {
+        let x = xs[i];
+        let y = x.forget_reclaim();
+        xs[i] = y;
+        i = i + 1;
+    }
+    xs
+}

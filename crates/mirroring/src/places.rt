@@ -1,5 +1,0 @@
-// What a search of an array answers.
-pub enum Found {
-    At(usize),
-    Nothing,
-}
