@@ -5,7 +5,7 @@ use mathlib.Core.Bool.{Bool, true, false, not, cond}
 use Prim.Native.Nat.{ℕ}
 use lib.ListN.{getD, set, replicate}
 use lib.Dec.{eqb}
-use Rattle.wire.specs.Report.{Report, reportOf}
+use Rattle.reports.specs.Report.{Report, reportOf}
 use Rattle.wire.specs.Request.{requestOf, bodyOf}
 use Rattle.wire.specs.declared.request.Request.{Request}
 use Rattle.wire.specs.declared.request.Request.the-variants as request

@@ -9,7 +9,7 @@ use places::Found;
 use wire::request::Request;
 ghost use mathlib.Core.Path.{_≡_};
 ghost use Prim.Native.Nat.{_<_};
-ghost use Rattle.wire.specs.Report.{reportOf};
+ghost use Rattle.reports.specs.Report.{reportOf};
 ghost use Rattle.files.specs.File.{noFile, blankFile, fileOf, isFile, isVacant, openedFile, reclaimedFile, closedFile, repairedFile, forgettable, restartedFile, endedFile, isListed, isReady, sourceOf, unreclaimedBar, heededFile, reportHeard, phaseOf, returnedHeard, returnedFile};
 
 // The wide fields stand first. A place of the record is a file's if `used`.

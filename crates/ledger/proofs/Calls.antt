@@ -9,7 +9,7 @@ use lib.ListN.{getD, set, length, length-set, length-map}
 use lib.Seq.{set-getD}
 use lib.Dec.{eqb, leb, ltb}
 use borrow.Author.Tests.{eqb-false, le-leb, lt-leb, leb-true, leb-false, ltb-true, ltb-false}
-use Rattle.wire.specs.Device.{Device}
+use Rattle.reports.specs.Device.{Device}
 use Rattle.places.specs.Lists.{any, chosen, none, discard, amend, Above, Rising}
 use Rattle.places.specs.Places.{first, placeOr, leftOut}
 use Rattle.mirroring.specs.Devices.{mirrorsIn, badMirrors}

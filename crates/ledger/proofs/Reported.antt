@@ -6,8 +6,8 @@ use Prim.Native.Nat.{ℕ, _<_}
 use native.Mathlib.Omega.{arith}
 use lib.ListN.{length, length-set}
 use lib.Dec.{eqb}
-use Rattle.wire.specs.Device.{Device}
-use Rattle.wire.specs.Report.{DeviceError, over}
+use Rattle.reports.specs.Device.{Device}
+use Rattle.reports.specs.Report.{DeviceError, over}
 use Rattle.places.specs.Lists.{any, with}
 use Rattle.places.specs.Places.{first}
 use Rattle.mirroring.specs.Devices.{deviceOf, isMirror, placeOf}

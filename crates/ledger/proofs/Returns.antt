@@ -7,7 +7,7 @@ use Prim.Native.Nat.{ℕ, _<_}
 use native.Mathlib.Omega.{arith}
 use lib.Dec.{eqb, leb}
 use borrow.Author.Tests.{eqb-true, ne-eqb}
-use Rattle.wire.specs.Report.{DeviceError, Report, Whole, Malformed, Statistics, reportOf, over, outcome}
+use Rattle.reports.specs.Report.{DeviceError, Report, Whole, Malformed, Statistics, reportOf, over, outcome}
 use Rattle.wire.specs.Request.{requestOf, bodyOf}
 use Rattle.wire.specs.Reply.{replyIn}
 use Rattle.wire.specs.declared.request.Request.{Request}

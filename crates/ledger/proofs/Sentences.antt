@@ -9,7 +9,7 @@ use native.Mathlib.Decide.{ℕ-discrete}
 use lib.ListN.{length}
 use lib.Dec.{eqb, ltb}
 use borrow.Author.Tests.{eqb-true, eq-eqb, ne-eqb, ltb-true, ltb-false}
-use Rattle.wire.specs.Device.{Device}
+use Rattle.reports.specs.Device.{Device}
 use Rattle.places.specs.Lists.{any, chosen, has, firstOr, Above, Rising}
 use Rattle.places.proofs.Slots.{All}
 use Rattle.places.proofs.Sets.{true-false}

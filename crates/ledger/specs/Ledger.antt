@@ -6,8 +6,8 @@ use mathlib.Core.Bool.{Bool, true, false, not, cond}
 use Prim.Native.Nat.{ℕ, suc}
 use lib.ListN.{length}
 use lib.Dec.{eqb, leb, ltb}
-use Rattle.wire.specs.Device.{Device}
-use Rattle.wire.specs.Report.{DeviceError, Report, Whole, Malformed, Statistics, reportOf}
+use Rattle.reports.specs.Device.{Device}
+use Rattle.reports.specs.Report.{DeviceError, Report, Whole, Malformed, Statistics, reportOf}
 use Rattle.wire.specs.Request.{requestOf, bodyOf}
 use Rattle.wire.specs.Reply.{replyIn}
 use Rattle.wire.specs.declared.request.Request.{Request}

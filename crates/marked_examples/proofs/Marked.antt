@@ -3,9 +3,9 @@ use mathlib.Core.Path.{refl}
 use Rattle.xdr.specs.Be.{beNat, beBytes}
 use Rattle.extents.specs.Extents.{listFrom, tooFar, outOfOrder, clash, anyOf, refusal, verdict}
 use Rattle.layouts.specs.Layout.{checkBody}
-use Rattle.wire.specs.Reader.{sameBytes, number, opaque, boolean, bounded, inTurn}
+use Rattle.reports.specs.Reader.{sameBytes, number, opaque, boolean, bounded, inTurn}
 use Rattle.wire.specs.Reply.{replyBytes, replyIn}
-use Rattle.wire.specs.Report.{deviceError, ioerr, layoutreturn, joined, reportOf, over, outcome}
+use Rattle.reports.specs.Report.{deviceError, ioerr, layoutreturn, joined, reportOf, over, outcome}
 use Rattle.wire.specs.Request.{fileReturn, returnOf, arguments, refusalOf, isAnonymous, unless, requestOf, bodyOf}
 use Rattle.mirroring.specs.Blame.{toldOf, heardOf}
 use Rattle.mirroring.specs.Devices.{devicesIn, mirrorsIn, isMirror, placeOf, twice, badMirrors}

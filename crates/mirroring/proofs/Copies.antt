@@ -11,7 +11,7 @@ use lib.Seq.{getD-set-same, getD-set-other}
 use borrow.Author.Tests.{eq-eqb, ne-eqb}
 use Rattle.places.specs.Lists.{any, has, with, fill}
 use Rattle.places.specs.Places.{bump, first, placeOr}
-use Rattle.wire.specs.Device.{Device}
+use Rattle.reports.specs.Device.{Device}
 use Rattle.mirroring.specs.Devices.{sameDevice, isMirror, placeOf}
 use Rattle.mirroring.specs.Mirrors.{noMirror, noMirrors, isDevice, isGood, unblamed, blamedIf, accused, mirrorOf, placedMirrors, sourceIn}
 use Rattle.mirroring.specs.declared.mirrors.Mirror.{Mirror}

@@ -13,7 +13,7 @@ use borrow.Author.Tests.{eqb-true, eqb-false, leb-true, leb-false, eq-eqb, ne-eq
 use Rattle.xdr.specs.Be.{beNat}
 use Rattle.places.specs.Lists.{any, none, fill}
 use Rattle.places.specs.Places.{first}
-use Rattle.wire.specs.Device.{Device, halves}
+use Rattle.reports.specs.Device.{Device, halves}
 use Rattle.mirroring.specs.Devices.{sameDevice, devicesIn, mirrorsIn, isMirror, twice, badMirrors}
 use Rattle.mirroring.specs.Mirrors.{noMirror, newMirror, mirrorOf, isAt, isDevice, wholeList, refusedList, placedMirrors, enrolledOf}
 use Rattle.mirroring.specs.declared.mirrors.Mirror.{Mirror}

@@ -2,9 +2,9 @@
 use mathlib.Core.Path.{_≡_, sym, ap, _∙_}
 use mathlib.Core.List.{List}
 use Prim.Native.Nat.{ℕ}
-use Rattle.wire.specs.Device.{Device}
-use Rattle.wire.specs.Report.{DeviceError}
-use Rattle.wire.proofs.Reports.{Given}
+use Rattle.reports.specs.Device.{Device}
+use Rattle.reports.specs.Report.{DeviceError}
+use Rattle.reports.proofs.Reports.{Given}
 use Rattle.mirroring.specs.Devices.{deviceOf}
 use Rattle.mirroring.specs.Blame.{toldOf, told}
 use Rattle.mirroring.specs.declared.mirrors.Mirror.{Mirror}

@@ -4,7 +4,7 @@ use mathlib.Core.Bool.{Bool, true, false, cond}
 use Prim.Native.Nat.{ℕ}
 use lib.ListN.{set, replicate}
 use lib.Dec.{eqb}
-use Rattle.wire.specs.Report.{DeviceError, Report, outcome}
+use Rattle.reports.specs.Report.{DeviceError, Report, outcome}
 use Rattle.places.specs.Places.{first}
 use Rattle.mirroring.specs.Devices.{deviceOf}
 use Rattle.mirroring.specs.Mirrors.{isAt}

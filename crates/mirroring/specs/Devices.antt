@@ -5,8 +5,8 @@ use mathlib.Core.Bool.{Bool, true, false, not, cond}
 use Prim.Native.Nat.{ℕ, zero, suc, _/_, _%_}
 use lib.ListN.{length, drop}
 use lib.Dec.{eqb, ltb}
-use Rattle.wire.specs.Device.{Device, halves}
-use Rattle.wire.specs.Report.{DeviceError}
+use Rattle.reports.specs.Device.{Device, halves}
+use Rattle.reports.specs.Report.{DeviceError}
 use Rattle.places.specs.Lists.{any, none}
 
 abbrev pub sameDevice : Device → Device → Bool

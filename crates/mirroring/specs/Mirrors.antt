@@ -6,7 +6,7 @@ use lib.ListN.{replicate}
 use lib.Dec.{eqb, leb}
 use Rattle.places.specs.Lists.{fill}
 use Rattle.places.specs.Places.{first, placeOr}
-use Rattle.wire.specs.Device.{Device}
+use Rattle.reports.specs.Device.{Device}
 use Rattle.mirroring.specs.Devices.{mirrorsIn, badMirrors}
 use Rattle.mirroring.specs.declared.mirrors.Mirror.{Mirror}
 use Rattle.mirroring.specs.declared.enrol.Enrolled.{Enrolled}

@@ -2,12 +2,12 @@
 use crate::mirrors::Mirror;
 use crate::mirrors::place;
 use places::Found;
-use wire::report::Entry;
+use reports::report::Entry;
 ghost use mathlib.Core.Path.{_≡_};
 ghost use mathlib.Core.Bool.{Bool, true, cond};
 ghost use Prim.Native.Nat.{_<_};
 ghost use lib.ListN.{set};
-ghost use Rattle.wire.specs.Report.{reportOf};
+ghost use Rattle.reports.specs.Report.{reportOf};
 ghost use Rattle.mirroring.specs.Blame.{heardNothing, toldOf, heardOf};
 
 // What has been heard so far: the status; whether a device was named that is no mirror; whether a device error of a mirror had a status other
@@ -79,9 +79,9 @@ pub fn listen(mirrors: [Mirror; 4], body: &[u8]) -> Heard
     ensures { λ r. ⌜ r ≡ heardOf mirrors (reportOf (now (body .entry))) ⌝ }
 {
     let mut h = Heard::nothing(0);
-    let mut c = wire::report::start(body);
+    let mut c = reports::report::start(body);
     loop {
-        match wire::report::step(body, c) {
+        match reports::report::step(body, c) {
             Entry::Device {
                 record: _,
                 high,

@@ -1,11 +1,6 @@
--- LAYOUTRETURN. Readers: fields read one after another. Devices: device ids. Requests, RequestModel: the request. Reports, ReportModel: the report.
--- Replies: the reply. RequestExamples, ReportExamples: computed examples.
-pub mod Readers
-pub mod Devices
+-- LAYOUTRETURN. Requests, RequestModel: the request. Handed: C's walk of a report. Replies: the reply. RequestExamples: computed examples.
 pub mod Requests
 pub mod RequestModel
 pub mod RequestExamples
-pub mod Reports
-pub mod ReportModel
-pub mod ReportExamples
+pub mod Handed
 pub mod Replies

@@ -5,11 +5,11 @@ use mathlib.Core.Bool.{true, false}
 use Prim.Native.Nat.{ℕ}
 use lib.ListN.{length}
 use Rattle.xdr.specs.Be.{beNat}
-use Rattle.wire.specs.Reader.{sameBytes, number, opaque, boolean, bounded}
+use Rattle.reports.specs.Reader.{sameBytes, number, opaque, boolean, bounded}
 use Rattle.wire.specs.Request.{fileReturn, returnOf, arguments, refusalOf, isAnonymous, unless, requestOf, bodyOf}
 use Rattle.wire.specs.declared.request.Request.{Request}
 use Rattle.wire.specs.declared.request.Request.the-variants.{Refused, Bulk, File}
-use Rattle.wire.proofs.ReportExamples.{blank, one}
+use Rattle.reports.proofs.ReportExamples.{blank, one}
 
 abbrev word : ℕ → List ℕ
 word n = 0 ∷ 0 ∷ 0 ∷ n ∷ []

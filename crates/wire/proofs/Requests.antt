@@ -12,14 +12,14 @@ use lib.ListN.{length, take, drop, getD, replicate, length-drop}
 use lib.Seq.{drop-cons, drop-length, take-all}
 use lib.Dec.{ltb, leb, eqb}
 use Rattle.xdr.specs.Be.{beNat}
-use Rattle.wire.specs.Reader.{sameBytes, zeros, padding, Got}
+use Rattle.reports.specs.Reader.{sameBytes, zeros, padding, Got}
 use Rattle.wire.specs.Request.{Arguments, ofFile, refusalOf, unless, arguments, requestOf, bodyOf}
 use Rattle.wire.specs.RequestSteps.{fileForm, formOf, anonymousIn, judgedIn, answerIn, requestIn}
 use Rattle.wire.specs.declared.request.Form.{Form}
 use Rattle.wire.specs.declared.request.Form.the-variants as form
 use Rattle.wire.specs.declared.request.Request.{Request}
 use Rattle.wire.specs.declared.request.Request.the-variants.{Refused, Bulk, File}
-use Rattle.wire.proofs.Readers.{by-test}
+use Rattle.reports.proofs.Readers.{by-test}
 use Rattle.wire.proofs.RequestModel.{as-tested, body-lies}
 
 -- ---- equal bytes

@@ -1,8 +1,5 @@
--- LAYOUTRETURN: Reader (fields read one after another), Device, Request, Report, Reply; RequestSteps and ReportSteps are models of the code.
-pub mod Reader
-pub mod Device
+-- LAYOUTRETURN: Request, Reply; RequestSteps is a model of the code. Handed: what C is handed of a report.
 pub mod Request
 pub mod RequestSteps
-pub mod Report
-pub mod ReportSteps
+pub mod Handed
 pub mod Reply

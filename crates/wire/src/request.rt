@@ -3,7 +3,7 @@
 ghost use mathlib.Core.Path.{_≡_};
 ghost use Prim.Native.Nat.{_≤_};
 ghost use lib.ListN.{length};
-ghost use Rattle.wire.specs.Reader.{sameBytes, padding};
+ghost use Rattle.reports.specs.Reader.{sameBytes, padding};
 ghost use Rattle.wire.specs.Request.{refusalOf, unless, requestOf, numberOf, kindOf, bodyAt, bodyLength};
 ghost use Rattle.wire.specs.RequestSteps.{fileForm, formOf, anonymousIn, judgedIn};
 

@@ -1,12 +1,12 @@
--- The walk is a fold over the device errors of the report, by the laws of `wire` for any fold.
+-- The walk is a fold over the device errors of the report, by the laws of `reports` for any fold.
 use mathlib.Core.Path.{_≡_, sym, _∙_}
 use Prim.Native.Nat.{_-_}
 use native.Mathlib.Omega.{arith}
 use lib.ListN.{length}
 use borrow.Author.Needs.{needs}
-use Rattle.wire.specs.Report.{reportOf, outcome}
-use Rattle.wire.specs.ReportSteps.{reportFrom}
-use Rattle.wire.proofs.Reports.{device-forward, device-given, record-forward, fold-begins, fold-device, fold-record, fold-end, fold-statistics, fold-malformed}
+use Rattle.reports.specs.Report.{reportOf, outcome}
+use Rattle.reports.specs.ReportSteps.{reportFrom}
+use Rattle.reports.proofs.Reports.{device-forward, device-given, record-forward, fold-begins, fold-device, fold-record, fold-end, fold-statistics, fold-malformed}
 use Rattle.mirroring.proofs.Hearing.{told-given}
 use Rattle.mirroring.specs.Blame.{heardNothing, told, heardOf}
 use Rattle.mirroring.proofs.blame.listen.Statement.{statement}

@@ -1,6 +1,6 @@
 -- By computing which cursor three numbers are.
 use borrow.Author.Tests.{eq-eqb, ne-eqb}
-use Rattle.wire.specs.ReportSteps.{resumedAt}
+use Rattle.wire.specs.Handed.{resumedAt}
 use native.Mathlib.Omega.{arith}
 use borrow.Author.Needs.{needs}
 use Rattle.wire.proofs.report.resumed.Statement.{statement}

@@ -1,6 +1,7 @@
 -- Rests on the laws of the first device error from a cursor on.
 use mathlib.Core.Path.{sym, _∙_}
-use Rattle.wire.proofs.Reports.{next-forward, handed-is}
+use Rattle.reports.proofs.Reports.{next-forward}
+use Rattle.wire.proofs.Handed.{handed-is}
 use native.Mathlib.Omega.{arith}
 use borrow.Author.Needs.{needs}
 use Rattle.wire.proofs.report.sc_report_next.Statement.{statement}

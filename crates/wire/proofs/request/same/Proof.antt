@@ -2,7 +2,7 @@
 use Prim.Native.Nat.{_≤_, _-_}
 use mathlib.Core.Path.{_≡_, refl, sym, _∙_}
 use lib.ListN.{length, drop}
-use Rattle.wire.specs.Reader.{sameBytes}
+use Rattle.reports.specs.Reader.{sameBytes}
 use Rattle.wire.proofs.Requests.{other-length, differs, agrees, all-agree}
 use native.Mathlib.Omega.{arith}
 use borrow.Author.Needs.{needs}

@@ -1,9 +1,9 @@
 -- Rests on the laws of a step.
-use Rattle.wire.proofs.Reports.{no-device, stepped-by}
+use Rattle.reports.proofs.Reports.{no-device, stepped-by}
 use native.Mathlib.Omega.{arith}
 use borrow.Author.Needs.{needs}
-use Rattle.wire.proofs.report.step.Statement.{statement}
-use Rattle.wire.proofs.report.step.Tie as tie
+use Rattle.reports.proofs.report.step.Statement.{statement}
+use Rattle.reports.proofs.report.step.Tie as tie
 
 record-step-requires : tie.Need-record-step-requires
 record-step-requires c κs = search needs

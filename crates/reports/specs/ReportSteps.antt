@@ -4,20 +4,19 @@
 --     startOf, stepAt     what `start` and `step` answer
 --     nextAt              what `next` answers
 --     reportFrom          the report from a cursor on; `after` and `afterNext` say the same by what stands there and by what comes next
---     handed              what `sc_report_next` answers and leaves in the numbers that it is lent
 use Prim.Native.Nat.{ℕ, zero, suc, _+_, _-_}
 use mathlib.Core.List.{List, [], _∷_}
-use mathlib.Core.Bool.{Bool, true, false, cond}
+use mathlib.Core.Bool.{cond}
 use lib.ListN.{length, take, drop}
 use lib.Dec.{ltb, eqb}
 use Rattle.xdr.specs.Be.{beNat}
-use Rattle.wire.specs.Report as report
-use Rattle.wire.specs.Report.{Report, DeviceError}
-use Rattle.wire.specs.declared.report.Cursor.{Cursor}
-use Rattle.wire.specs.declared.report.Entry.{Entry}
-use Rattle.wire.specs.declared.report.Entry.the-variants.{Device, Record, End, Statistics, Malformed}
-use Rattle.wire.specs.declared.report.Found.{Found}
-use Rattle.wire.specs.declared.report.Found.the-variants.{Error, Done}
+use Rattle.reports.specs.Report as report
+use Rattle.reports.specs.Report.{Report, DeviceError}
+use Rattle.reports.specs.declared.report.Cursor.{Cursor}
+use Rattle.reports.specs.declared.report.Entry.{Entry}
+use Rattle.reports.specs.declared.report.Entry.the-variants.{Device, Record, End, Statistics, Malformed}
+use Rattle.reports.specs.declared.report.Found.{Found}
+use Rattle.reports.specs.declared.report.Found.the-variants.{Error, Done}
 
 -- ---- a report as it is walked
 abbrev pub naming : DeviceError → Report → Report
@@ -115,30 +114,3 @@ endOf k = cond (eqb k 0) (report.Whole []) (cond (eqb k 10004) report.Statistics
 abbrev pub afterNext : List ℕ → Found → Report
 afterNext s (Error i h l st next) = naming (errorIn i (drop (next .at - 24) s)) (reportFrom s next)
 afterNext s (Done k) = endOf k
-
--- ---- what C is handed: the answer, the cursor, and the place of the record, the place of the device's id in the body, and the status
-pub record Numbers : Type 0 where
-  pub answer : ℕ
-  pub at : ℕ
-  pub records : ℕ
-  pub devices : ℕ
-  pub place : ℕ
-  pub device : ℕ
-  pub status : ℕ
-
--- a cursor of three numbers; place 0 is the start
-unfoldable pub resumedAt : List ℕ → ℕ → ℕ → ℕ → Cursor
-resumedAt s at r d = cond (eqb at 0) (startOf s) (record { at = at; records = r; devices = d })
-
-abbrev pub numbersOf : ℕ → ℕ → ℕ → Found → Numbers
-numbersOf at r d (Error i h l st next) =
-    record { answer = 1; at = next .at; records = next .records; devices = next .devices; place = i; device = next .at - 24; status = st }
-numbersOf at r d (Done k) = record { answer = k; at = at; records = r; devices = d; place = 0; device = 0; status = 0 }
-
-unfoldable pub handed : List ℕ → ℕ → ℕ → ℕ → Numbers
-handed s at r d = numbersOf at r d (nextAt s (resumedAt s at r d))
-
--- the report from C's cursor on, by what C is handed
-abbrev pub afterHanded : List ℕ → Numbers → Bool → Report
-afterHanded s n true = naming (errorIn (n .place) (drop (n .device) s)) (reportFrom s (resumedAt s (n .at) (n .records) (n .devices)))
-afterHanded s n false = endOf (n .answer)

@@ -1,12 +1,12 @@
 -- Rests on the laws of a step at a device error.
 use Prim.Native.Nat.{ℕ, _-_}
 use mathlib.Core.Path.{sym, ap, _∙_}
-use Rattle.wire.specs.declared.report.Cursor.{Cursor}
-use Rattle.wire.proofs.Reports.{device-short, device-found, next-device, next-malformed}
+use Rattle.reports.specs.declared.report.Cursor.{Cursor}
+use Rattle.reports.proofs.Reports.{device-short, device-found, next-device, next-malformed}
 use native.Mathlib.Omega.{arith}
 use borrow.Author.Needs.{needs}
-use Rattle.wire.proofs.report.device_at.Statement.{statement}
-use Rattle.wire.proofs.report.device_at.Tie as tie
+use Rattle.reports.proofs.report.device_at.Statement.{statement}
+use Rattle.reports.proofs.report.device_at.Tie as tie
 
 left-requires : tie.Need-left-requires
 left-requires c κs = search needs

@@ -1,11 +1,11 @@
 -- By computing what the start of a report is.
 use borrow.Author.Tests.{lt-ltb, le-ltb}
 use lib.ListN.{length}
-use Rattle.wire.specs.ReportSteps.{startOf}
+use Rattle.reports.specs.ReportSteps.{startOf}
 use native.Mathlib.Omega.{arith}
 use borrow.Author.Needs.{needs}
-use Rattle.wire.proofs.report.start.Statement.{statement}
-use Rattle.wire.proofs.report.start.Tie as tie
+use Rattle.reports.proofs.report.start.Statement.{statement}
+use Rattle.reports.proofs.report.start.Tie as tie
 
 returns : tie.Need-returns
 unfolding startOf

@@ -1,9 +1,9 @@
 -- Rests on the laws of what follows the last record.
-use Rattle.wire.proofs.Reports.{last-short, statistics-found, end-found, spare-bytes}
+use Rattle.reports.proofs.Reports.{last-short, statistics-found, end-found, spare-bytes}
 use native.Mathlib.Omega.{arith}
 use borrow.Author.Needs.{needs}
-use Rattle.wire.proofs.report.last_status.Statement.{statement}
-use Rattle.wire.proofs.report.last_status.Tie as tie
+use Rattle.reports.proofs.report.last_status.Statement.{statement}
+use Rattle.reports.proofs.report.last_status.Tie as tie
 
 left-requires : tie.Need-left-requires
 left-requires c κs = search needs

@@ -2,13 +2,13 @@
 use Prim.Native.Nat.{_-_}
 use lib.ListN.{length}
 use mathlib.Core.Path.{_≡_, refl, sym, _∙_}
-use Rattle.wire.specs.ReportSteps.{nextAt}
-use Rattle.wire.specs.declared.report.Cursor.{Cursor}
-use Rattle.wire.proofs.Reports.{next-over, next-cut, next-on}
+use Rattle.reports.specs.ReportSteps.{nextAt}
+use Rattle.reports.specs.declared.report.Cursor.{Cursor}
+use Rattle.reports.proofs.Reports.{next-over, next-cut, next-on}
 use native.Mathlib.Omega.{arith}
 use borrow.Author.Needs.{needs}
-use Rattle.wire.proofs.report.next.Statement.{statement}
-use Rattle.wire.proofs.report.next.Tie as tie
+use Rattle.reports.proofs.report.next.Statement.{statement}
+use Rattle.reports.proofs.report.next.Tie as tie
 
 abbrev Inv-loop : tie.InvT-loop
 Inv-loop s at₀ records₀ devices₀ at records devices =

@@ -3,13 +3,13 @@ use Prim.Native.Nat.{_≤_, _-_}
 use mathlib.Core.Path.{_≡_, _∙_}
 use lib.ListN.{length, drop}
 use Rattle.xdr.specs.Be.{beNat}
-use Rattle.wire.specs.Report.{reportOf, statusOf}
-use Rattle.wire.specs.ReportSteps as steps
-use Rattle.wire.proofs.Reports.{status-short, status-begins, status-last, status-cut, status-over, status-on}
+use Rattle.reports.specs.Report.{reportOf, statusOf}
+use Rattle.reports.specs.ReportSteps as steps
+use Rattle.reports.proofs.Reports.{status-short, status-begins, status-last, status-cut, status-over, status-on}
 use native.Mathlib.Omega.{arith}
 use borrow.Author.Needs.{needs}
-use Rattle.wire.proofs.report.check.Statement.{statement}
-use Rattle.wire.proofs.report.check.Tie as tie
+use Rattle.reports.proofs.report.check.Statement.{statement}
+use Rattle.reports.proofs.report.check.Tie as tie
 
 abbrev Inv-loop : tie.InvT-loop
 Inv-loop s records₀ at₀ records at =

@@ -9,7 +9,7 @@ use lib.ListN.{length, take, drop, length-drop}
 use lib.Seq.{drop-drop}
 use lib.Dec.{ltb, leb, eqb}
 use Rattle.xdr.specs.Be.{beNat}
-use Rattle.wire.specs.Reader.{Read, Got, Bad, Reader, onward, _>>=_, give, only, number, opaque, boolean}
+use Rattle.reports.specs.Reader.{Read, Got, Bad, Reader, onward, _>>=_, give, only, number, opaque, boolean}
 
 -- ---- tests that say the same
 -- fewer bytes than v are left after w of them exactly where there are fewer than w + v

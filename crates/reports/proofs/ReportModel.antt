@@ -9,10 +9,10 @@ use lib.ListN.{length, take, drop, length-drop}
 use lib.Seq.{drop-drop}
 use lib.Dec.{ltb, eqb}
 use Rattle.xdr.specs.Be.{beNat}
-use Rattle.wire.specs.Reader.{Read, Got, Bad, Reader, onward, _>>=_, give, number, inTurn, counted}
-use Rattle.wire.specs.Report.{Report, Whole, Malformed, Statistics, DeviceError, Contents, deviceError, ioerr, layoutreturn, joined, judged, reportOf}
-use Rattle.wire.specs.ReportSteps.{naming, errorIn, statistics, devices, records}
-use Rattle.wire.proofs.Readers.{Leads, no-bytes, number-first, opaque-first, then, none-left}
+use Rattle.reports.specs.Reader.{Read, Got, Bad, Reader, onward, _>>=_, give, number, inTurn, counted}
+use Rattle.reports.specs.Report.{Report, Whole, Malformed, Statistics, DeviceError, Contents, deviceError, ioerr, layoutreturn, joined, judged, reportOf}
+use Rattle.reports.specs.ReportSteps.{naming, errorIn, statistics, devices, records}
+use Rattle.reports.proofs.Readers.{Leads, no-bytes, number-first, opaque-first, then, none-left}
 
 -- a device error is 24 bytes
 device-read : (i : ℕ) → Leads 24 (deviceError i) (λ s. give (errorIn i s))

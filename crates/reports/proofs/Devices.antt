@@ -7,7 +7,7 @@ use lib.ListN.{length, getD, take, drop, length-drop, take-append-drop}
 use lib.Seq.{getD-drop, take-all}
 use Rattle.xdr.specs.Be.{beNat}
 use Rattle.xdr.proofs.Be.{equal-numbers, number-within}
-use Rattle.wire.specs.Device.{Device, halves}
+use Rattle.reports.specs.Device.{Device, halves}
 
 -- the halves are those of the first sixteen bytes
 pub halves-taken : (s : List ℕ) → halves (take 16 s) ≡ halves s

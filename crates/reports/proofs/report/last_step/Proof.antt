@@ -1,9 +1,9 @@
 -- Rests on the laws of what follows the last record.
-use Rattle.wire.proofs.Reports.{ends-well, ends-counted, ends-badly}
+use Rattle.reports.proofs.Reports.{ends-well, ends-counted, ends-badly}
 use native.Mathlib.Omega.{arith}
 use borrow.Author.Needs.{needs}
-use Rattle.wire.proofs.report.last_step.Statement.{statement}
-use Rattle.wire.proofs.report.last_step.Tie as tie
+use Rattle.reports.proofs.report.last_step.Statement.{statement}
+use Rattle.reports.proofs.report.last_step.Tie as tie
 
 last-status-requires : tie.Need-last-status-requires
 last-status-requires c κs = search needs

@@ -4,8 +4,8 @@ use mathlib.Core.List.{List, [], _∷_, _++_, map}
 use Prim.Native.Nat.{ℕ}
 use lib.ListN.{replicate}
 use Rattle.xdr.specs.Be.{beNat}
-use Rattle.wire.specs.Reader.{number, opaque, inTurn}
-use Rattle.wire.specs.Report.{Report, Whole, Malformed, Statistics, deviceError, ioerr, layoutreturn, joined, reportOf}
+use Rattle.reports.specs.Reader.{number, opaque, inTurn}
+use Rattle.reports.specs.Report.{Report, Whole, Malformed, Statistics, deviceError, ioerr, layoutreturn, joined, reportOf}
 
 abbrev pub blank : ℕ → List ℕ
 blank n = replicate n 0

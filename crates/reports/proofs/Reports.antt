@@ -13,18 +13,18 @@ use lib.Seq.{drop-drop}
 use lib.Dec.{ltb, eqb}
 use borrow.Author.Tests.{lt-ltb, le-ltb, eq-eqb, ne-eqb, ltb-true, ltb-false, eqb-false}
 use Rattle.xdr.specs.Be.{beNat}
-use Rattle.wire.specs.Device.{halves}
-use Rattle.wire.specs.Report.{Report, DeviceError, reportOf, statusOf, over, outcome}
-use Rattle.wire.specs.Report as report
-use Rattle.wire.specs.ReportSteps.{naming, errorIn, statistics, devices, records, startOf, stepAt, ending, lastStep, recordStep, placeOf, deviceStep, nextBy, nextPast, nextAt, errorAt, reportFrom, after, afterNext, endOf, Numbers, resumedAt, numbersOf, handed, afterHanded}
-use Rattle.wire.specs.declared.report.Cursor.{Cursor}
-use Rattle.wire.specs.declared.report.Entry.{Entry}
-use Rattle.wire.specs.declared.report.Entry.the-variants.{Device, Record, End, Statistics, Malformed}
-use Rattle.wire.specs.declared.report.Found.{Found}
-use Rattle.wire.specs.declared.report.Found.the-variants.{Error, Done}
-use Rattle.wire.proofs.Devices.{halves-taken}
-use Rattle.wire.proofs.ReportModel.{as-walked}
-use Rattle.wire.proofs.Readers.{by-test}
+use Rattle.reports.specs.Device.{halves}
+use Rattle.reports.specs.Report.{Report, DeviceError, reportOf, statusOf, over, outcome}
+use Rattle.reports.specs.Report as report
+use Rattle.reports.specs.ReportSteps.{naming, errorIn, statistics, devices, records, startOf, stepAt, ending, lastStep, recordStep, placeOf, deviceStep, nextBy, nextPast, nextAt, errorAt, reportFrom, after, afterNext, endOf}
+use Rattle.reports.specs.declared.report.Cursor.{Cursor}
+use Rattle.reports.specs.declared.report.Entry.{Entry}
+use Rattle.reports.specs.declared.report.Entry.the-variants.{Device, Record, End, Statistics, Malformed}
+use Rattle.reports.specs.declared.report.Found.{Found}
+use Rattle.reports.specs.declared.report.Found.the-variants.{Error, Done}
+use Rattle.reports.proofs.Devices.{halves-taken}
+use Rattle.reports.proofs.ReportModel.{as-walked}
+use Rattle.reports.proofs.Readers.{by-test}
 
 -- ---- the law of a walk
 after-cond : (s : List ℕ) (c : Cursor) (b : Bool) (x y : Entry) → after s c (cond b x y) ≡ cond b (after s c x) (after s c y)
@@ -402,38 +402,8 @@ module _ (s : List ℕ) (c : Cursor) where
   pub next-given : {i h l st : ℕ} {next : Cursor} → nextAt s c ≡ Error i h l st next → Given (errorIn i (drop (next .at - 24) s)) i h l st
   next-given e = (rw e at (coming (suc (c .records)) s c (omega arith) .comes)) .1
 
-  next-done : {k : ℕ} → nextAt s c ≡ Done k → k ≡ 1 → ⊥
+  pub next-done : {k : ℕ} → nextAt s c ≡ Done k → k ≡ 1 → ⊥
   next-done e = rw e at (coming (suc (c .records)) s c (omega arith) .comes)
-
--- what C is handed, from the cursor that its numbers are
-pub handed-is : (s : List ℕ) (at r d : ℕ) {c : Cursor} {f g : Found} → c ≡ resumedAt s at r d → f ≡ nextAt s c → f ≡ g → handed s at r d ≡ numbersOf at r d g
-unfolding handed
-handed-is s at r d e h k = ap (numbersOf at r d) (ap (nextAt s) (sym e) ∙ sym h ∙ k)
-
--- C's walk: it begins with the whole report, and each call hands over the device error that the report from C's cursor on begins with
-pub handed-begins : (s : List ℕ) (r d : ℕ) → reportFrom s (resumedAt s 0 r d) ≡ reportOf s
-unfolding resumedAt
-handed-begins s r d = begins s
-
-resumes : (s : List ℕ) (c : Cursor) → 24 ≤ c .at → resumedAt s (c .at) (c .records) (c .devices) ≡ c
-unfolding resumedAt
-resumes s c h = rw (ne-eqb (c .at) 0 (λ z. omega arith))
-
-pub record HandedOver (s : List ℕ) (c : Cursor) (n : Numbers) : Type 0 where
-  pub walks : reportFrom s c ≡ afterHanded s n (eqb (n .answer) 1)
-  pub status : n .answer ≡ 1 → errorIn (n .place) (drop (n .device) s) .status ≡ n .status
-
-over-found : (s : List ℕ) (at r d : ℕ) (c : Cursor) (f : Found) → nextAt s c ≡ f → HandedOver s c (numbersOf at r d f)
-over-found s at r d c (Error i h l st next) e =
-    let g = next-forward s c e in
-    record { walks = next-walks s c ∙ rw (e, resumes s next (omega arith)); status = λ z. next-given s c e .status }
-over-found s at r d c (Done k) e =
-    let z : k ≡ 1 → ⊥ = next-done s c e in
-    record { walks = next-walks s c ∙ rw (e, ne-eqb k 1 z); status = λ y. absurd (z y) }
-
-pub handed-over : (s : List ℕ) (at r d : ℕ) → HandedOver s (resumedAt s at r d) (handed s at r d)
-unfolding handed
-handed-over s at r d = over-found s at r d (resumedAt s at r d) (nextAt s (resumedAt s at r d)) refl
 
 -- ---- the status, record by record: device errors are passed by their count
 named-status : (x : DeviceError) (p : Report) → statusOf (naming x p) ≡ statusOf p

@@ -1,9 +1,9 @@
 -- Rests on the laws of a step at a record.
-use Rattle.wire.proofs.Reports.{no-record, record-short, record-found}
+use Rattle.reports.proofs.Reports.{no-record, record-short, record-found}
 use native.Mathlib.Omega.{arith}
 use borrow.Author.Needs.{needs}
-use Rattle.wire.proofs.report.record_step.Statement.{statement}
-use Rattle.wire.proofs.report.record_step.Tie as tie
+use Rattle.reports.proofs.report.record_step.Statement.{statement}
+use Rattle.reports.proofs.report.record_step.Tie as tie
 
 last-step-requires : tie.Need-last-step-requires
 last-step-requires c κs = search needs

@@ -7,7 +7,7 @@ use mathlib.Core.List.{List, [], _∷_, _++_}
 use mathlib.Core.Bool.{cond}
 use lib.ListN.{length}
 use lib.Dec.{eqb}
-use Rattle.wire.specs.Reader.{Read, Got, Bad, Reader, _>>=_, give, number, opaque, counted}
+use Rattle.reports.specs.Reader.{Read, Got, Bad, Reader, _>>=_, give, number, opaque, counted}
 
 -- a device error: the place of its error record in the report, the device's sixteen bytes, and the status
 pub record DeviceError : Type 0 where
