@@ -56,18 +56,25 @@ module _ (a b : List ℕ) (i : ℕ) (ha : i < length a) (hb : i < length b) wher
   unfolding sameBytes
   one-more = rw (drop-cons a i 0 ha, drop-cons b i 0 hb, add-one)
 
-  pub differs : {t : Bool} → (getD a i 0 ≡ getD b i 0 → ⊥) → sameBytes (drop i a) (drop i b) ≡ t → false ≡ t
-  differs n h = ap (λ (x : Bool). x && sameBytes (drop (i + 1) a) (drop (i + 1) b)) (sym (ne-eqb (getD a i 0) (getD b i 0) n)) ∙ sym one-more ∙ h
+  -- `so` is whether the bytes before the place are the same, and z whether those up to it are
+  pub byte-passed : {t : Bool} (so z : Bool) → z ≡ cond so (eqb (getD a i 0) (getD b i 0)) false → cond so (sameBytes (drop i a) (drop i b)) false ≡ t → cond z (sameBytes (drop (i + 1) a) (drop (i + 1) b)) false ≡ t
+  byte-passed so z e h = ap (λ (x : Bool). cond x (sameBytes (drop (i + 1) a) (drop (i + 1) b)) false) e ∙ by so (eqb (getD a i 0) (getD b i 0)) (sameBytes (drop (i + 1) a) (drop (i + 1) b)) ∙ ap (λ (x : Bool). cond so x false) (sym one-more) ∙ h
+    where
+      by : (so e r : Bool) → cond (cond so e false) r false ≡ cond so (e && r) false
+      by true true r = refl
+      by true false r = refl
+      by false e r = refl
 
-  pub agrees : {t : Bool} → getD a i 0 ≡ getD b i 0 → sameBytes (drop i a) (drop i b) ≡ t → sameBytes (drop (i + 1) a) (drop (i + 1) b) ≡ t
-  agrees n h = ap (λ (x : Bool). x && sameBytes (drop (i + 1) a) (drop (i + 1) b)) (sym (eq-eqb (getD a i 0) (getD b i 0) n)) ∙ sym one-more ∙ h
-
-pub all-agree : (a b : List ℕ) (i : ℕ) → i ≡ length a → i ≡ length b → {t : Bool} → sameBytes (drop i a) (drop i b) ≡ t → true ≡ t
+pub all-passed : (a b : List ℕ) (i : ℕ) → i ≡ length a → i ≡ length b → {t : Bool} (so : Bool) → cond so (sameBytes (drop i a) (drop i b)) false ≡ t → so ≡ t
 unfolding sameBytes
-all-agree a b i ha hb h =
+all-passed a b i ha hb so h =
     let p : drop i a ≡ [] = ap (λ (k : ℕ). drop k a) ha ∙ drop-length a in
     let q : drop i b ≡ [] = ap (λ (k : ℕ). drop k b) hb ∙ drop-length b in
-    rw (p, q) at h
+    by so ∙ rw (p, q) at h
+  where
+    by : (so : Bool) → so ≡ cond so true false
+    by true = refl
+    by false = refl
 
 pub some-zeros : (m n : ℕ) → take m (zeros (m + n)) ≡ zeros m
 some-zeros zero n = refl

@@ -1,38 +1,35 @@
--- The invariant: the bytes from the place on are the same exactly where all are. The measure is what is left of them.
+-- The invariant: all bytes are the same exactly where those before the place are, and those from it on. The measure is what is left of them.
 use Prim.Native.Nat.{_≤_, _-_}
-use mathlib.Core.Path.{_≡_, refl, sym, _∙_}
+use mathlib.Core.Path.{_≡_, refl}
+use mathlib.Core.Bool.{false, cond}
 use lib.ListN.{length, drop}
 use Rattle.reports.specs.Reader.{sameBytes}
-use Rattle.wire.proofs.Requests.{other-length, differs, agrees, all-agree}
+use Rattle.wire.proofs.Requests.{other-length, byte-passed, all-passed}
 use native.Mathlib.Omega.{arith}
 use borrow.Author.Needs.{needs}
 use Rattle.wire.proofs.request.same.Statement.{statement}
 use Rattle.wire.proofs.request.same.Tie as tie
 
 abbrev Inv-loop : tie.InvT-loop
-Inv-loop a b i₀ i = (length a ≡ length b) × (i ≤ length a) × (sameBytes (drop i a) (drop i b) ≡ sameBytes a b)
+Inv-loop a b so₀ i₀ so i = (length a ≡ length b) × (i ≤ length a) × (cond so (sameBytes (drop i a) (drop i b)) false ≡ sameBytes a b)
 
 abbrev μ-loop : tie.MeasureT-loop
-μ-loop a b i₀ i = length a - i
+μ-loop a b so₀ i₀ so i = length a - i
 
 returns : tie.Need-returns Inv-loop μ-loop
-returns c = other-length (c .before .args .a .now) (c .before .args .b .now) (c .if1 .taken)
+returns c = other-length (c .before .before .before .args .a .now) (c .before .before .before .args .b .now) (c .if1 .taken)
 
 loop-holds : tie.Need-loop-holds Inv-loop μ-loop
-loop-holds c =
-    (omega arith, omega arith, refl)
+loop-holds c = (omega arith, omega arith, refl)
 
-shared-slice-read-if2 : tie.Need-shared-slice-read-if2 Inv-loop μ-loop
-shared-slice-read-if2 c = omega arith
+shared-slice-read-both : tie.Need-shared-slice-read-both Inv-loop μ-loop
+shared-slice-read-both c = omega arith
 
-shared-slice-read-if2-2 : tie.Need-shared-slice-read-if2-2 Inv-loop μ-loop
-shared-slice-read-if2-2 c = omega arith
+shared-slice-read-both-2 : tie.Need-shared-slice-read-both-2 Inv-loop μ-loop
+shared-slice-read-both-2 c = omega arith
 
-returns-2 : tie.Need-returns-2 Inv-loop μ-loop
-returns-2 c =
-    let l = c .before .before .before .before .loop in
-    let p = c .before .before .before .before .before .before .args in
-    differs (p .a .now) (p .b .now) (l .i) (omega arith) (omega arith) (c .if2 .taken) (l .inv .2)
+both-requires : tie.Need-both-requires Inv-loop μ-loop
+both-requires c κs = search needs
 
 add-i : tie.Need-add-i Inv-loop μ-loop
 add-i c = omega arith
@@ -41,14 +38,12 @@ loop-less : tie.Need-loop-less Inv-loop μ-loop
 loop-less c = omega arith
 
 loop-again : tie.Need-loop-again Inv-loop μ-loop
-loop-again c =
-    let l = c .before .before .before .before .loop in
-    let p = c .before .before .before .before .before .before .args in
-    (omega arith, omega arith, agrees (p .a .now) (p .b .now) (l .i) (omega arith) (omega arith) (c .if2 .left) (l .inv .2))
+loop-again c = let l = c .before .before .before .before .loop in
+    let p = c .before .before .before .before .before .before .before .before .args in
+    (omega arith, omega arith, byte-passed (p .a .now) (p .b .now) (l .i) (omega arith) (omega arith) (l .so) _ (c .both .ensures) (l .inv .2))
 
-returns-3 : tie.Need-returns-3 Inv-loop μ-loop
-returns-3 c =
-    all-agree (c .before .before .before .args .a .now) (c .before .before .before .args .b .now) (c .before .loop .i) (omega arith) (omega arith) (c .before .loop .inv .2)
+returns-2 : tie.Need-returns-2 Inv-loop μ-loop
+returns-2 c = all-passed (c .before .before .before .before .before .args .a .now) (c .before .before .before .before .before .args .b .now) (c .before .loop .i) (omega arith) (omega arith) (c .before .loop .so) (c .before .loop .inv .2)
 
 pub same-spec : {M : Type 1} → statement M
 same-spec =
@@ -58,10 +53,10 @@ same-spec =
     μ-loop
     returns
     loop-holds
-    shared-slice-read-if2
-    shared-slice-read-if2-2
-    returns-2
+    shared-slice-read-both
+    shared-slice-read-both-2
+    both-requires
     add-i
     loop-less
     loop-again
-    returns-3)
+    returns-2)
