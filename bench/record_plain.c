@@ -99,7 +99,6 @@ uint32_t CALL(record_reclaim)(struct plain_record *r, uint64_t file, uint64_t cl
     if (i == NULL)
         return 10034;
     i->reclaimed = true;
-    f->recovered = true;
     return 0;
 }
 
@@ -150,11 +149,11 @@ uint32_t CALL(record_end_grace)(struct plain_record *r)
         return 10033;
     for (struct plain_file *f = r->files; f < r->files + r->count; f++) {
         uint8_t kept = 0;
-        if (f->intent_count != 0 && !f->recovered)
-            f->marked = true;
         for (size_t i = 0; i < f->intent_count; i++)
             if (f->intents[i].reclaimed)
                 f->intents[kept++] = f->intents[i];
+        if (kept < f->intent_count)
+            f->marked = true;
         f->intent_count = kept;
     }
     r->grace = false;
@@ -164,7 +163,6 @@ uint32_t CALL(record_end_grace)(struct plain_record *r)
 uint32_t CALL(record_restart)(struct plain_record *r)
 {
     for (struct plain_file *f = r->files; f < r->files + r->count; f++) {
-        f->recovered = false;
         for (size_t i = 0; i < f->intent_count; i++)
             f->intents[i].reclaimed = false;
     }

@@ -16,7 +16,7 @@ struct plain_file {
     uint8_t mirrors[4][16];
     struct plain_intent intents[8];
     uint8_t mirror_count, intent_count, blamed;
-    bool recovered, marked;
+    bool marked;
 };
 
 /* The files stand by rising number. */

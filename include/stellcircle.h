@@ -130,8 +130,8 @@ uint32_t sc_record_repaired(struct sc_record *r, uint64_t file);
 /* The file goes, and its place is free. 10013: in grace; 70: no such file; 10008: it needs repair, or an intent is open. */
 uint32_t sc_record_forget(struct sc_record *r, uint64_t file);
 
-/* Grace ends: each file that has an intent and of which none was reclaimed since the latest restart needs repair; each intent not reclaimed
- * goes. 10033: not in grace. */
+/* Grace ends: each file that has any intent not reclaimed since the latest restart needs repair, and each such intent goes. An intent that
+ * was reclaimed and then closed no longer counts. 10033: not in grace. */
 uint32_t sc_record_end_grace(struct sc_record *r);
 
 /* The server restarted: in grace, and nobody has reclaimed. Files, intents, marks and blame stay. No refusal. */

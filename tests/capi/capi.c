@@ -61,10 +61,10 @@ static void layout(void)
     sc_record_fresh(&held.r);
     guards(1);
     const uint8_t *two = (const uint8_t *)&held.r;
-    /* a file: its number, four mirrors of two halves and two flags, eight intents of a client and two flags, three flags; then grace */
+    /* a file: its number, four mirrors of two halves and two flags, eight intents of a client and two flags, two flags; then grace */
     for (size_t f = 0; f < 64; f++) {
         size_t at = 240 * f;
-        int same = memcmp(one + at, two + at, 8) == 0 && memcmp(one + at + 232, two + at + 232, 3) == 0;
+        int same = memcmp(one + at, two + at, 8) == 0 && memcmp(one + at + 232, two + at + 232, 2) == 0;
         for (size_t m = 0; m < 4; m++)
             same = same && memcmp(one + at + 8 + 24 * m, two + at + 8 + 24 * m, 18) == 0;
         for (size_t i = 0; i < 8; i++)

@@ -40,7 +40,7 @@ impl Row {
     }
 
     fn end_of_grace(&mut self) {
-        if self.is_open() && self.reclaimed.is_empty() {
+        if !self.intents.is_subset(&self.reclaimed) {
             self.marked = true;
         }
         self.intents = self.intents.intersection(&self.reclaimed).copied().collect();

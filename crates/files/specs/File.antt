@@ -9,11 +9,11 @@ use Rattle.reports.specs.Report.{Report, reportOf}
 use Rattle.wire.specs.Request.{requestOf, bodyOf}
 use Rattle.wire.specs.declared.request.Request.{Request}
 use Rattle.wire.specs.declared.request.Request.the-variants as request
-use Rattle.places.specs.Lists.{chosen, fill}
+use Rattle.places.specs.Lists.{any, chosen, fill}
 use Rattle.places.specs.Places.{first, isFound, leftOut}
 use Rattle.mirroring.specs.Mirrors.{noMirrors, unblamed, accused, sourceIn}
 use Rattle.mirroring.specs.Blame.{heardNothing, heardOf}
-use Rattle.intents.specs.Intents.{noIntent, noIntents, intentOf, isIntent, isFree, isKept, firstTaken, reclaimedIf, unreclaimedIntent}
+use Rattle.intents.specs.Intents.{noIntent, noIntents, intentOf, isIntent, isFree, isKept, isLost, firstTaken, reclaimedIf, unreclaimedIntent}
 use Rattle.mirroring.specs.declared.mirrors.Mirror.{Mirror}
 use Rattle.intents.specs.declared.Intent.{Intent}
 use Rattle.mirroring.specs.declared.blame.Heard.{Heard}
@@ -25,25 +25,22 @@ use Rattle.places.specs.declared.Found.the-variants.{At, Nothing}
 -- ---- fields
 -- what a list has past its end
 abbrev pub noFile : File
-noFile = record { number = 0; mirrors = []; intents = []; used = false; recovered = false; marked = false }
+noFile = record { number = 0; mirrors = []; intents = []; used = false; marked = false }
 
 abbrev pub blankFile : File
-blankFile = record { number = 0; mirrors = noMirrors; intents = noIntents; used = false; recovered = false; marked = false }
+blankFile = record { number = 0; mirrors = noMirrors; intents = noIntents; used = false; marked = false }
 
 abbrev pub fileOf : ℕ → List Mirror → File
-fileOf n ms = record { number = n; mirrors = ms; intents = noIntents; used = true; recovered = false; marked = false }
+fileOf n ms = record { number = n; mirrors = ms; intents = noIntents; used = true; marked = false }
 
 abbrev pub withMirrors : List Mirror → File → File
-withMirrors ms f = record { number = f .number; mirrors = ms; intents = f .intents; used = f .used; recovered = f .recovered; marked = f .marked }
+withMirrors ms f = record { number = f .number; mirrors = ms; intents = f .intents; used = f .used; marked = f .marked }
 
 abbrev pub withIntents : List Intent → File → File
-withIntents xs f = record { number = f .number; mirrors = f .mirrors; intents = xs; used = f .used; recovered = f .recovered; marked = f .marked }
-
-abbrev pub withRecovered : Bool → File → File
-withRecovered b f = record { number = f .number; mirrors = f .mirrors; intents = f .intents; used = f .used; recovered = b; marked = f .marked }
+withIntents xs f = record { number = f .number; mirrors = f .mirrors; intents = xs; used = f .used; marked = f .marked }
 
 abbrev pub withMark : Bool → File → File
-withMark b f = record { number = f .number; mirrors = f .mirrors; intents = f .intents; used = f .used; recovered = f .recovered; marked = b }
+withMark b f = record { number = f .number; mirrors = f .mirrors; intents = f .intents; used = f .used; marked = b }
 
 -- ---- tests
 abbrev pub isFile : ℕ → File → Bool
@@ -77,7 +74,7 @@ openedFile n g c f = cond g (fileAnswered 10013 f) (ofFile n f (opens c f (first
 
 abbrev pub reclaims : ℕ → File → Found → FileAnswered
 reclaims c f Nothing = fileAnswered 10034 f
-reclaims c f (At i) = fileAnswered 0 (withRecovered true (withIntents (map (reclaimedIf c) (f .intents)) f))
+reclaims c f (At i) = fileAnswered 0 (withIntents (map (reclaimedIf c) (f .intents)) f)
 
 unfoldable pub reclaimedFile : ℕ → Bool → ℕ → File → FileAnswered
 reclaimedFile n g c f = cond g (ofFile n f (reclaims c f (first (isIntent c) (f .intents)))) (fileAnswered 10033 f)
@@ -149,11 +146,11 @@ returnedFile n g c s f = heeds f (returnedHeard n g c s f)
 
 -- ---- restart and the end of grace
 unfoldable pub restartedFile : File → File
-restartedFile f = withRecovered false (withIntents (map unreclaimedIntent (f .intents)) f)
+restartedFile f = withIntents (map unreclaimedIntent (f .intents)) f
 
 unfoldable pub endedFile : File → File
 endedFile f =
-    withMark (cond (unreclaimedBar (firstTaken (f .intents)) (f .recovered)) true (f .marked))
+    withMark (cond (any isLost (f .intents)) true (f .marked))
     (withIntents (fill (chosen isKept (f .intents)) noIntents) f)
 
 -- ---- the lists

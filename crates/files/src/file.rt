@@ -19,7 +19,6 @@ pub struct File {
     pub mirrors: [Mirror; 4],
     pub intents: [Intent; 8],
     pub used: bool,
-    pub recovered: bool,
     pub marked: bool,
 }
 
@@ -47,7 +46,6 @@ impl File {
             mirrors: ms,
             intents: xs,
             used: false,
-            recovered: false,
             marked: false,
         }
     }
@@ -63,7 +61,6 @@ impl File {
             mirrors: mirrors,
             intents: xs,
             used: true,
-            recovered: false,
             marked: false,
         }
     }
@@ -151,7 +148,6 @@ impl File {
         };
         let xs = intents::reclaimed(old, client);
         self.intents = xs;
-        self.recovered = true;
         FileAnswered {
             status: 0,
             file: self,
@@ -326,18 +322,16 @@ impl File {
         let old = self.intents;
         let xs = intents::unreclaimed(old);
         self.intents = xs;
-        self.recovered = false;
         self
     }
 
-    // The file after the end of grace: marked if it has an intent and is not recovered; intents that were not reclaimed are dropped.
+    // The file after the end of grace: marked if it has an intent that was not reclaimed; such intents are dropped.
     pub fn ended(mut self) -> File
         ensures { λ r. ⌜ r ≡ endedFile self ⌝ }
     {
         let old = self.intents;
-        let held = intents::busy(old);
+        let lost = intents::lost(old);
         let xs = intents::staying(old);
-        let lost = unreclaimed(held, self.recovered);
         self.intents = xs;
         if lost {
             self.marked = true;

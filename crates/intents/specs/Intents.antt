@@ -25,6 +25,9 @@ isFree x = not (x .taken)
 abbrev pub isKept : Intent → Bool
 isKept x = cond (x .taken) (x .reclaimed) false
 
+abbrev pub isLost : Intent → Bool
+isLost x = cond (x .taken) (not (x .reclaimed)) false
+
 -- the free places are last
 abbrev pub firstTaken : List Intent → Bool
 firstTaken xs = getD xs 0 noIntent .taken

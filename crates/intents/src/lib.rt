@@ -5,9 +5,9 @@ ghost use mathlib.Core.List.{map};
 ghost use Prim.Native.Nat.{_<_};
 ghost use mathlib.Core.Bool.{cond};
 ghost use lib.ListN.{getD, set, replicate};
-ghost use Rattle.places.specs.Lists.{chosen, fill};
+ghost use Rattle.places.specs.Lists.{any, chosen, fill};
 ghost use Rattle.places.specs.Places.{first, isFound, leftOut};
-ghost use Rattle.intents.specs.Intents.{noIntent, intentOf, isIntent, isFree, isKept, reclaimedIf, unreclaimedIntent, firstTaken};
+ghost use Rattle.intents.specs.Intents.{noIntent, intentOf, isIntent, isFree, isKept, isLost, reclaimedIf, unreclaimedIntent, firstTaken};
 
 // A place for an intent: its client, whether the place is taken, and whether the client has reclaimed since the latest restart.
 #[repr(C)]
@@ -82,6 +82,13 @@ impl Intent {
         ensures { λ r. ⌜ r ≡ isKept self ⌝ }
     {
         if self.taken { self.reclaimed } else { false }
+    }
+
+    // Whether it is an intent that was not reclaimed.
+    pub(crate) fn is_lost(self) -> bool
+        ensures { λ r. ⌜ r ≡ isLost self ⌝ }
+    {
+        if self.taken { !self.reclaimed } else { false }
     }
 
     // The place once the client has reclaimed.
@@ -209,6 +216,22 @@ fn either(first: bool, x: bool, y: bool) -> bool
     ensures { λ r. ⌜ r ≡ cond first x y ⌝ }
 {
     if first { x } else { y }
+}
+
+// Whether there is an intent that was not reclaimed since the latest restart.
+pub fn lost(intents: [Intent; 8]) -> bool
+    ensures { λ r. ⌜ r ≡ any isLost intents ⌝ }
+{
+    let mut i: usize = 0;
+    while i < 8 {
+        let x = intents[i];
+        let hit = x.is_lost();
+        if hit {
+            return true;
+        }
+        i = i + 1;
+    }
+    false
 }
 
 // The intents that stay at the end of grace, in their order, from the first place on.

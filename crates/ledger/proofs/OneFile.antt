@@ -2,7 +2,7 @@
 -- intents; open; reclaim; close; repaired; restart; the end of grace; a report; the source; a new file.
 use mathlib.Core.Path.{_≡_, refl, ap, sym, _∙_}
 use mathlib.Core.List.{List, [], _∷_}
-use mathlib.Core.Bool.{Bool, true, false, not, cond, Bool·not-not}
+use mathlib.Core.Bool.{Bool, true, false, not, cond}
 use Prim.Native.Nat.{ℕ, suc, _+_, _<_, _≤_}
 use native.Mathlib.Omega.{arith}
 use lib.ListN.{getD, length, length-set, length-map}
@@ -14,7 +14,7 @@ use Rattle.places.specs.Lists.{any, chosen, has, with, none}
 use Rattle.places.specs.Places.{bump, first, placeOr}
 use Rattle.mirroring.specs.Mirrors.{noMirror, isGood, placedMirrors, sourceIn}
 use Rattle.mirroring.specs.Blame.{heardNothing, told}
-use Rattle.intents.specs.Intents.{noIntent, noIntents, intentOf, isIntent, isFree, isKept, firstTaken, reclaimedIf, unreclaimedIntent}
+use Rattle.intents.specs.Intents.{noIntent, noIntents, intentOf, isIntent, isFree, isKept, isLost, firstTaken, reclaimedIf, unreclaimedIntent}
 use Rattle.files.specs.File as file
 use Rattle.files.specs.File.{fileOf, fileAnswered, takes, opens, reclaims, leaves, mendedFile, heeds, ofClient, restartedFile, endedFile, sourceOf}
 use Rattle.intents.specs.declared.Intent.{Intent}
@@ -22,11 +22,11 @@ use Rattle.mirroring.specs.declared.mirrors.Mirror.{Mirror}
 use Rattle.files.specs.declared.file.File.{File}
 use Rattle.places.specs.declared.Found.{Found}
 use Rattle.places.specs.declared.Found.the-variants.{At, Nothing}
-use Rattle.places.proofs.Slots.{All, Pairs, Slots, Focus, Room, slots-left, slots-fill, slots-chosen, focus, roomFor, pairs-as, all-replicate, fill-length, chosen-length, leftOut-length, missing, found, full, room}
-use Rattle.places.proofs.Sets.{true-false, has-with, none-with, with-old, with-new}
+use Rattle.places.proofs.Slots.{All, Pairs, Slots, Focus, Room, slots-left, slots-fill, slots-any, slots-chosen, focus, roomFor, pairs-as, all-replicate, fill-length, chosen-length, leftOut-length, missing, found, full, room}
+use Rattle.places.proofs.Sets.{true-false, has-with, with-old, with-new}
 use Rattle.mirroring.proofs.Copies.{MirrorIs, NoMirror, Copies, copies-unblamed, copies-new}
 use Rattle.files.proofs.Heeding.{nothing-heeded}
-use Rattle.ledger.specs.Ledger.{Row, newRow, source, sourceFrom, refused, openRules, intentRules, closeRules, repairedRules, opened, hasReclaimed, closed, mended, restarted, ended, reported}
+use Rattle.ledger.specs.Ledger.{Row, newRow, source, sourceFrom, refused, openRules, intentRules, closeRules, repairedRules, opened, hasReclaimed, closed, mended, restarted, ended, reported, lost}
 use Rattle.ledger.proofs.Relation.{IntentIs, NoIntent, Intents, FileIs, with-intents, with-mark, with-copies, FileAgrees, branch}
 use Rattle.ledger.proofs.Reported.{file-after-report, status-stays}
 
@@ -95,7 +95,6 @@ reclaims-at {f} {w} c h (found i y t) = rw (t .at, t .there) (record {
       places = slots-left (reclaimedIf c) (reclaimed-intent (w .reclaimed) c) (λ x k. k) (h .intents .places);
       eight = length-map (f .intents) (reclaimedIf c) ∙ h .intents .eight;
     };
-    recovered = λ q. rw (none-with c (w .reclaimed));
     marked = h .marked;
   };
 })
@@ -128,7 +127,7 @@ file-repaired {g} {f} {w} h = branch (not (w .marked)) (ap not (h .marked)) (λ 
 
 -- ---- restart
 pub file-restarted : (g : Bool) (f : File) (w : Row) → FileIs g f w → FileIs true (restartedFile f) (restarted w)
-unfolding restartedFile has any none
+unfolding restartedFile has any
 file-restarted g f w h = record {
   used = h .used;
   number = h .number;
@@ -137,7 +136,6 @@ file-restarted g f w h = record {
     places = slots-left unreclaimedIntent (λ x c k. record { taken = k .taken; client = k .client; reclaimed = λ z. refl }) (λ x k. k) (h .intents .places);
     eight = length-map (f .intents) unreclaimedIntent ∙ h .intents .eight;
   };
-  recovered = λ z. refl;
   marked = h .marked;
 }
 
@@ -145,6 +143,9 @@ file-restarted g f w h = record {
 kept-intents : {f : File} {w : Row} → FileIs true f w
     → Pairs (IntentIs true (w .reclaimed)) (chosen isKept (f .intents)) (chosen (λ c. has c (w .reclaimed)) (w .intents))
 kept-intents {w} h = slots-chosen isKept (λ c. has c (w .reclaimed)) (λ x c k. rw (k .taken) (k .reclaimed refl)) (λ x k. rw k) (h .intents .places)
+
+lost-intents : {f : File} {w : Row} → FileIs true f w → any isLost (f .intents) ≡ lost w
+lost-intents {w} h = slots-any isLost (λ c. not (has c (w .reclaimed))) (λ x c k. rw (k .taken, k .reclaimed refl)) (λ x k. rw k) (h .intents .places)
 
 pub file-ended : (f : File) (w : Row) → FileIs true f w → FileIs false (endedFile f) (ended w)
 unfolding endedFile
@@ -157,8 +158,7 @@ file-ended f w h = record {
         (omega (arith, chosen-length isKept (f .intents), h .intents .eight));
     eight = fill-length (chosen isKept (f .intents)) noIntents;
   };
-  recovered = λ z. true-false (sym z);
-  marked = rw (some-taken h, h .recovered refl, Bool·not-not, h .marked);
+  marked = rw (lost-intents h, h .marked);
 }
 
 -- ---- a report
@@ -216,6 +216,5 @@ file-new n ds h = record {
   number = refl;
   copies = copies-new ds h;
   intents = record { places = Slots.rest (all-replicate 8 noIntent refl); eight = refl };
-  recovered = λ z. true-false (sym z);
   marked = refl;
 }

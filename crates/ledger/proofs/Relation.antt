@@ -2,11 +2,11 @@
 -- a file with one field changed; agreement.
 use mathlib.Core.Path.{_≡_, refl}
 use mathlib.Core.List.{List}
-use mathlib.Core.Bool.{Bool, true, false, not, cond}
+use mathlib.Core.Bool.{Bool, true, false, cond}
 use Prim.Native.Nat.{ℕ}
 use lib.ListN.{length}
 use lib.Dec.{eqb}
-use Rattle.places.specs.Lists.{has, none, Rising}
+use Rattle.places.specs.Lists.{has, Rising}
 use Rattle.files.specs.File as file
 use Rattle.intents.specs.declared.Intent.{Intent}
 use Rattle.mirroring.specs.declared.mirrors.Mirror.{Mirror}
@@ -37,7 +37,6 @@ pub record FileIs (g : Bool) (f : File) (w : Row) : Type 0 where
   pub number : f .number ≡ w .number
   pub copies : Copies (f .mirrors) (w .mirrors) (w .blamed)
   pub intents : Intents g (w .reclaimed) (f .intents) (w .intents)
-  pub recovered : g ≡ true → f .recovered ≡ not (none (w .reclaimed))
   pub marked : f .marked ≡ w .marked
 
 abbrev pub NoFile : File → Type 0
@@ -53,13 +52,13 @@ pub record Matches (r : Record) (l : Ledger) : Type 0 where
 -- ---- one field changed
 module _ {g : Bool} {f : File} {w : Row} (h : FileIs g f w) where
   pub with-intents : {xs : List Intent} {cs : List ℕ} → Intents g (w .reclaimed) xs cs → FileIs g (file.withIntents xs f) (withIntents cs w)
-  with-intents s = record { used = h .used; number = h .number; copies = h .copies; intents = s; recovered = h .recovered; marked = h .marked }
+  with-intents s = record { used = h .used; number = h .number; copies = h .copies; intents = s; marked = h .marked }
 
   pub with-mark : {a b : Bool} → a ≡ b → FileIs g (file.withMark a f) (withMark b w)
-  with-mark e = record { used = h .used; number = h .number; copies = h .copies; intents = h .intents; recovered = h .recovered; marked = e }
+  with-mark e = record { used = h .used; number = h .number; copies = h .copies; intents = h .intents; marked = e }
 
   pub with-copies : {ms : List Mirror} {bs : List ℕ} → Copies ms (w .mirrors) bs → FileIs g (file.withMirrors ms f) (withBlame bs w)
-  with-copies s = record { used = h .used; number = h .number; copies = s; intents = h .intents; recovered = h .recovered; marked = h .marked }
+  with-copies s = record { used = h .used; number = h .number; copies = s; intents = h .intents; marked = h .marked }
 
 -- ---- an answer agrees: the status is t, and what is left goes with l′ where t is 0 and with l otherwise
 pub record Agrees {X S L : Type 0} (M : S → L → Type 0) (st : X → ℕ) (af : X → S) (x : X) (l l′ : L) (t : ℕ) : Type 0 where

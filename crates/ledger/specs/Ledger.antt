@@ -85,9 +85,9 @@ isOpen w = not (none (w .intents))
 abbrev pub reclaimedBy : ℕ → Row → Bool
 reclaimedBy c w = has c (w .reclaimed)
 
--- whether the end of grace marks the file: there is an intent, and nobody has reclaimed
+-- whether the end of grace marks the file: there is an intent whose client has not reclaimed
 abbrev pub lost : Row → Bool
-lost w = cond (isOpen w) (none (w .reclaimed)) false
+lost w = any (λ c. not (reclaimedBy c w)) (w .intents)
 
 -- the lowest place not blamed, if the list's first is k, or 255
 unfoldable pub sourceFrom : ℕ → List Device → List ℕ → ℕ

@@ -57,17 +57,6 @@ pub has-with : (c d : ℕ) (xs : List ℕ) → has d (with c xs) ≡ cond (eqb d
 unfolding with
 has-with c d xs = with-by c d xs (has c xs) refl (eqb d c) refl
 
-none-by : (c : ℕ) (xs : List ℕ) (b : Bool) → has c xs ≡ b → none (cond b xs (xs ++ c ∷ [])) ≡ false
-unfolding has any none
-none-by c [] true e = true-false (sym e)
-none-by c (x ∷ xs) true e = refl
-none-by c [] false e = refl
-none-by c (x ∷ xs) false e = refl
-
-pub none-with : (c : ℕ) (xs : List ℕ) → none (with c xs) ≡ false
-unfolding with
-none-with c xs = none-by c xs (has c xs) refl
-
 pub any-none : {A : Type 0} (xs : List A) → any (λ x. true) xs ≡ not (none xs)
 unfolding any none
 any-none [] = refl
