@@ -1,4 +1,4 @@
-//! The marked examples K1 to K15 (01, "Marked examples"), each as the lines that a desk would send and the lines that come back.
+//! The marked examples K1 to K15 (01, "Marked examples") and those of the tickets (02), each as the lines that a desk would send and the lines that come back.
 
 use crate::{run_line, Desk};
 
@@ -99,6 +99,26 @@ fn k12_the_client_reports_a_mirror() {
 #[test]
 fn k13_the_client_reports_an_unknown_device() {
     assert_eq!(last(&[&registered(), "open 7 1", "restart", "reclaim 7 1", &report(C, 5), "end", "resilver 1 1"]), "0 1 7:0");
+}
+
+/// Ticket 2: one client's word does not stand for another's, and it keeps its own intent.
+#[test]
+fn one_of_two_clients_comes_back() {
+    let history = [&registered(), "open 7 1", "open 7 2", "restart", "reclaim 7 1", "end"];
+    let and = |more: &[&str]| last(&[&history, more].concat());
+    assert_eq!(and(&["resilver 1 1"]), "0 1 7:0");
+    assert_eq!(and(&["offered 1 1"]), "0 0");
+    assert_eq!(and(&["close 7 2"]), "10025");
+    assert_eq!(and(&["close 7 1", "offered 1 1"]), "0 1 7:0");
+}
+
+/// Ticket 2: an intent reclaimed and then closed no longer counts, whoever else reclaims.
+#[test]
+fn reclaimed_and_closed() {
+    let history = [&registered(), "open 7 1", "open 7 2", "restart", "reclaim 7 1", "close 7 1"];
+    let and = |more: &[&str]| last(&[&history, more].concat());
+    assert_eq!(and(&["end", "resilver 1 1"]), "0 1 7:0");
+    assert_eq!(and(&["reclaim 7 2", "end", "resilver 1 1"]), "0 0");
 }
 
 #[test]

@@ -39,11 +39,13 @@ impl Row {
         place.map_or(NO_SOURCE, |place| place as u8)
     }
 
+    /// Ticket 2: any intent that its client has not reclaimed marks the file, and goes.
     fn end_of_grace(&mut self) {
-        if !self.intents.is_subset(&self.reclaimed) {
-            self.marked = true;
+        let lost: Vec<u64> = self.intents.difference(&self.reclaimed).copied().collect();
+        self.marked |= !lost.is_empty();
+        for client in lost {
+            self.intents.remove(&client);
         }
-        self.intents = self.intents.intersection(&self.reclaimed).copied().collect();
     }
 
     /// Step 7 of LAYOUTRETURN.

@@ -25,6 +25,7 @@ isFree x = not (x .taken)
 abbrev pub isKept : Intent → Bool
 isKept x = cond (x .taken) (x .reclaimed) false
 
+-- one that was not reclaimed (02, Ticket 2)
 abbrev pub isLost : Intent → Bool
 isLost x = cond (x .taken) (not (x .reclaimed)) false
 

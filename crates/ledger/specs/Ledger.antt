@@ -85,7 +85,7 @@ isOpen w = not (none (w .intents))
 abbrev pub reclaimedBy : ℕ → Row → Bool
 reclaimedBy c w = has c (w .reclaimed)
 
--- whether the end of grace marks the file: there is an intent whose client has not reclaimed
+-- whether the end of grace marks the file (02, Ticket 2): there is an intent whose client has not reclaimed
 abbrev pub lost : Row → Bool
 lost w = any (λ c. not (reclaimedBy c w)) (w .intents)
 

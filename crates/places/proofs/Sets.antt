@@ -1,7 +1,7 @@
 -- Lists of numbers as sets, and tests of lists.
 use mathlib.Core.Path.{_≡_, refl, sym, _∙_}
 use mathlib.Core.List.{List, [], _∷_, _++_}
-use mathlib.Core.Bool.{Bool, cond, true, false, not}
+use mathlib.Core.Bool.{Bool, cond, true, false}
 use Prim.Native.Nat.{ℕ, zero, suc}
 use lib.ListN.{getD}
 use native.Mathlib.Omega.{arith}
@@ -11,7 +11,7 @@ use borrow.Author.Tests.{eqb-true, eq-eqb, ne-eqb}
 use Rattle.places.specs.Places.{bump, first}
 use Rattle.places.specs.declared.Found.{Found}
 use Rattle.places.specs.declared.Found.the-variants.{At, Nothing}
-use Rattle.places.specs.Lists.{any, has, with, none}
+use Rattle.places.specs.Lists.{any, has, with}
 
 pub true-false : {A : Type 0} → true ≡ false → A
 true-false e = let z : _≡_ {A = ℕ} 0 1 = cc in absurd (omega arith)
@@ -56,11 +56,6 @@ with-by c d xs false e false h = any-append (λ x. eqb x d) xs (c ∷ []) ∙ rw
 pub has-with : (c d : ℕ) (xs : List ℕ) → has d (with c xs) ≡ cond (eqb d c) true (has d xs)
 unfolding with
 has-with c d xs = with-by c d xs (has c xs) refl (eqb d c) refl
-
-pub any-none : {A : Type 0} (xs : List A) → any (λ x. true) xs ≡ not (none xs)
-unfolding any none
-any-none [] = refl
-any-none (x ∷ xs) = refl
 
 pub with-old : (c : ℕ) (xs : List ℕ) → has c xs ≡ true → with c xs ≡ xs
 unfolding with

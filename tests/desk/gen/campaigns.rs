@@ -182,6 +182,52 @@ impl<W: Write> Campaigns<W> {
         Ok(())
     }
 
+    /// Up to eight clients hold each file, and all but one, or none, or some of them reclaim it; a few close it again before grace ends.
+    fn returning(&mut self) -> Done {
+        let clients = 2 + self.r.size(7);
+        let pool = self.pool(3, clients, 4);
+        self.call("fresh")?;
+        for file in &pool.files {
+            self.register(&pool, *file)?;
+            for client in &pool.clients {
+                self.call(&format!("open {file} {client}"))?;
+            }
+        }
+        for _ in 0..4 {
+            self.call("restart")?;
+            for file in &pool.files {
+                self.reclaims_of(&pool.clients, *file)?;
+            }
+            self.call("end")?;
+            self.listings(3)?;
+            for file in &pool.files {
+                self.call(&format!("repaired {file}"))?;
+                let client = self.r.pick(&pool.clients);
+                self.call(&format!("open {file} {client}"))?;
+            }
+        }
+        Ok(())
+    }
+
+    /// The clients reclaim a file but for those who stay away: nobody, one, or each by chance.
+    fn reclaims_of(&mut self, clients: &[u64], file: u64) -> Done {
+        let (kind, one) = (self.r.below(3), self.r.pick(clients));
+        for client in clients {
+            let away = match kind {
+                0 => false,
+                1 => *client == one,
+                _ => self.r.percent(40),
+            };
+            if !away {
+                self.call(&format!("reclaim {file} {client}"))?;
+            }
+            if self.r.percent(20) {
+                self.call(&format!("close {file} {client}"))?;
+            }
+        }
+        Ok(())
+    }
+
     /// A full table: 64 files and more, forgotten and registered again, opened, lost, listed and repaired.
     fn table(&mut self) -> Done {
         let pool = self.pool(67, 3, 5);
@@ -342,7 +388,7 @@ impl<W: Write> Campaigns<W> {
     // ---- The run ----
 
     pub fn run(mut self, calls: u64) -> Done {
-        const KINDS: [(u64, u32); 8] = [(30, 0), (12, 1), (10, 2), (6, 3), (50, 4), (10, 5), (18, 6), (10, 7)];
+        const KINDS: [(u64, u32); 9] = [(30, 0), (12, 1), (10, 2), (6, 3), (50, 4), (10, 5), (18, 6), (10, 7), (24, 8)];
         self.limits()?;
         while self.calls < calls {
             match self.r.weighted(&KINDS) {
@@ -353,7 +399,8 @@ impl<W: Write> Campaigns<W> {
                 4 => self.reports()?,
                 5 => self.epochs()?,
                 6 => self.layouts()?,
-                _ => self.lines()?,
+                7 => self.lines()?,
+                _ => self.returning()?,
             }
         }
         self.out.flush()
