@@ -34,10 +34,10 @@ is-file g n f w h = rw (h .used, h .number)
 is-no-file : (n : ℕ) (f : File) → NoFile f → isFile n f ≡ false
 is-no-file n f h = rw h
 
-abbrev AtFile : ℕ → Record → Ledger → Type 0
+abbrev pub AtFile : ℕ → Record → Ledger → Type 0
 AtFile n r l = Focus (FileIs (l .grace)) NoFile (isFile n) (isRow n) (r .files) (l .rows)
 
-at-file : {r : Record} {l : Ledger} (n : ℕ) → Matches r l → AtFile n r l
+pub at-file : {r : Record} {l : Ledger} (n : ℕ) → Matches r l → AtFile n r l
 at-file {r} {l} n h = focus (isFile n) (isRow n) (is-file (l .grace) n) (is-no-file n) (h .rows)
 
 -- a change that keeps numbers
@@ -55,18 +55,18 @@ map-numbers g k [] = refl
 map-numbers g k (w ∷ ws) = rw (k w, map-numbers g k ws)
 
 -- where there is no such file, the last place is another's
-not-there : (r : Record) (n : ℕ) → first (isFile n) (r .files) ≡ Nothing → isFile n (fileAt n r) ≡ false
+pub not-there : (r : Record) (n : ℕ) → first (isFile n) (r .files) ≡ Nothing → isFile n (fileAt n r) ≡ false
 not-there r n e = none-at (isFile n) noFile refl (r .files) (placeIn n r) (first-nothing (isFile n) (r .files) e)
 
 -- where there is one, the place is its place
-abbrev There : ℕ → Record → Ledger → ℕ → Row → Type 0
+abbrev pub There : ℕ → Record → Ledger → ℕ → Row → Type 0
 There n r l i w = Hit (FileIs (l .grace)) NoFile (isFile n) (isRow n) (r .files) (l .rows) i w
 
-here : (n : ℕ) (r : Record) (l : Ledger) (i : ℕ) (w : Row) → There n r l i w → placeIn n r ≡ i
+pub here : (n : ℕ) (r : Record) (l : Ledger) (i : ℕ) (w : Row) → There n r l i w → placeIn n r ≡ i
 unfolding placeIn
 here n r l i w z = ap (placeOr 63) (z .at)
 
-it-is : (n : ℕ) (r : Record) (l : Ledger) (i : ℕ) (w : Row) → There n r l i w → isFile n (getD (r .files) i noFile) ≡ true
+pub it-is : (n : ℕ) (r : Record) (l : Ledger) (i : ℕ) (w : Row) → There n r l i w → isFile n (getD (r .files) i noFile) ≡ true
 it-is n r l i w z = is-file (l .grace) n (getD (r .files) i noFile) w (z .pair noFile) ∙ z .passes
 
 -- ---- a call on one file: h is its code, g and t what the ledger makes of the row

@@ -23,9 +23,9 @@ use Rattle.ledger.proofs.Returns.{handing, ReturnAgrees, return-agrees}
 use Rattle.ledger.proofs.Sentences.{one-list}
 
 -- ---- a step agrees: its answer is t, and the record that it leaves goes with the ledger that is fed the call and t
-record StepIs (s : Step) (l : Ledger) (x : Call) (t : Answer) : Type 0 where
-  answer : s .answer ≡ t
-  after : Matches (s .after) (feed l x t)
+pub record StepIs (s : Step) (l : Ledger) (x : Call) (t : Answer) : Type 0 where
+  pub answer : s .answer ≡ t
+  pub after : Matches (s .after) (feed l x t)
 
 by-status : (a : Answered) (l : Ledger) (x : Call) (t : ℕ) → RecordAgrees a l (apply l x) t → StepIs (stepOf a) l x (said t)
 unfolding feed
@@ -37,7 +37,7 @@ unfolding feed
 by-nothing a r l x e m = record { answer = refl; after = rw e m }
 
 -- ---- the lists
-lend-changes-nothing : (ns ss a b : List ℕ) → accepted (lend ns ss a b) ≡ false
+pub lend-changes-nothing : (ns ss a b : List ℕ) → accepted (lend ns ss a b) ≡ false
 unfolding lend
 lend-changes-nothing ns ss a b = by (leb (length ns) (length a)) (leb (length ns) (length b))
   where
@@ -73,7 +73,7 @@ return-by r l n c s d false e m =
     rw (e, ← z .answer) (by-return _ l (layoutReturn n c s d) (z .code) d (z .agrees))
 
 -- ---- each call
-step-agrees : (r : Record) (l : Ledger) (x : Call) → Matches r l → StepIs (step r x) l x (judge l x)
+pub step-agrees : (r : Record) (l : Ledger) (x : Call) → Matches r l → StepIs (step r x) l x (judge l x)
 unfolding step judge apply
 step-agrees r l (register n s) m = by-status _ l (register n s) _ (register-agrees m n s)
 step-agrees r l (opening n c) m = by-status _ l (opening n c) _ (open-agrees m n c)
@@ -95,12 +95,12 @@ all-answered (x ∷ xs) r l m =
     let s = step-agrees r l x m in
     ap₂ {C = List Answer} (λ a given. a ∷ given) (s .answer) (all-answered xs (step r x .after) (feed l x (step r x .answer)) (rw (s .answer) (s .after)))
 
-after-all : (calls : List Call) (r : Record) (l : Ledger) → Matches r l → Matches (recordAfter r calls) (ledgerAfter l calls (answers r calls))
+pub after-all : (calls : List Call) (r : Record) (l : Ledger) → Matches r l → Matches (recordAfter r calls) (ledgerAfter l calls (answers r calls))
 unfolding answers recordAfter ledgerAfter
 after-all [] r l m = m
 after-all (x ∷ xs) r l m = let s = step-agrees r l x m in after-all xs (step r x .after) (feed l x (step r x .answer)) (rw (s .answer) (s .after))
 
-fresh-matches : Matches fresh noRows
+pub fresh-matches : Matches fresh noRows
 fresh-matches = record { grace = refl; long = refl; rows = Slots.rest (all-replicate 64 blankFile refl); rising = tt }
 
 pub history : Demand3

@@ -5,3 +5,7 @@ mod Calls
 mod Returns
 pub mod Sentences
 pub mod History
+mod Fed
+mod Within
+mod Worse
+pub mod RestartTwice

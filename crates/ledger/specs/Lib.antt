@@ -2,3 +2,4 @@ pub mod Ledger
 pub mod Lists
 pub mod History
 pub mod Demand3
+pub mod RestartTwice

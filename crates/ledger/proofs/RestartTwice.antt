@@ -1,0 +1,322 @@
+-- REQUEST 14 is proved here: `restart-twice : RestartTwice`. Two ledgers go side by side from the one more restart on, and every call up to the end keeps their
+-- rows related (Worse.antt). In this order: a call on both; the calls up to the end; the end; two histories; the record's list; the record's blame.
+use mathlib.Core.Path.{_≡_, refl, ap, sym, _∙_}
+use mathlib.Core.List.{List, [], _∷_, _++_, map}
+use mathlib.Core.Bool.{Bool, true, false, not, cond}
+use Prim.Native.Nat.{ℕ, _≤_}
+use native.Mathlib.Omega.{arith}
+use lib.ListN.{getD, length, take, replicate, length-map, List·getD-eq-default}
+use lib.Dec.{eqb, ltb}
+use borrow.Author.Tests.{ne-eqb, le-leb, ltb-true, ltb-false}
+use Rattle.reports.specs.Report.{Report, Whole, Malformed, Statistics, reportOf}
+use Rattle.wire.specs.Request.{requestOf, bodyOf}
+use Rattle.wire.specs.declared.request.Request.{Request}
+use Rattle.wire.specs.declared.request.Request.the-variants as request
+use Rattle.wire.proofs.Requests.{refused-number}
+use Rattle.places.specs.Lists.{any, has, amend, firstOr, fill}
+use Rattle.places.proofs.Slots.{All, Pairs, Slots, chosen-length, missing, found}
+use Rattle.places.proofs.Sets.{true-false, first-no, rest-no}
+use Rattle.mirroring.specs.Mirrors.{noMirror}
+use Rattle.mirroring.specs.declared.mirrors.Mirror.{Mirror}
+use Rattle.files.specs.File.{noFile}
+use Rattle.recovery.specs.Calls.{Call, register, opening, reclaim, close, repaired, forget, endGrace, restart, layoutReturn, resilver, offered, replied, lend}
+use Rattle.recovery.specs.Record.{fresh, endOf}
+use Rattle.recovery.specs.declared.record.Record.{Record}
+use Rattle.ledger.specs.Ledger.{Row, Ledger, noRows, isRow, newRow, registered, rowOf, numbers, isMarked, needRepair, refused, intentRules, reportRules, closeRules, repairedRules, lost, hasReclaimed, closed, mended, restarted, ended, reported, errorsOf, onRow, judge, judgeRequest, apply, accepted, feed}
+use Rattle.ledger.specs.Lists.{rowPasses}
+use Rattle.ledger.specs.History.{step, recordAfter}
+use Rattle.ledger.specs.Demand3.{ledgerOf}
+use Rattle.ledger.specs.RestartTwice.{inGraceThrough, filesOf, resilverFiles, isBlamed, RestartTwice}
+use Rattle.ledger.proofs.Relation.{Matches}
+use Rattle.ledger.proofs.Calls.{AtFile, at-file, not-there, here, it-is}
+use Rattle.ledger.proofs.History.{step-agrees, lend-changes-nothing, fresh-matches, after-all, history}
+use Rattle.ledger.proofs.Fed.{fed, fed-ledger, fed-append, Sound, sound-fed}
+use Rattle.ledger.proofs.Within.{any-within}
+use Rattle.ledger.proofs.Worse.{Worse, nothing-in, after-restart, heeded, Kept, reclaim-kept, close-kept, repaired-kept, report-kept, restart-kept}
+
+-- ---- a call on two ledgers in grace
+abbrev inGrace : List Row → Ledger
+inGrace ws = record { grace = true; rows = ws }
+
+record Side (l l′ : Ledger) : Type 0 where
+  grace : l .grace ≡ true
+  grace′ : l′ .grace ≡ true
+  rows : Pairs Worse (l .rows) (l′ .rows)
+
+side : {ws vs : List Row} → Pairs Worse ws vs → Side (inGrace ws) (inGrace vs)
+side s = record { grace = refl; grace′ = refl; rows = s }
+
+pairs-amend : (n : ℕ) (g : Row → Row) → ((w v : Row) → Worse w v → Worse (g w) (g v)) → {ws vs : List Row} → Pairs Worse ws vs → Pairs Worse (amend (isRow n) g ws) (amend (isRow n) g vs)
+unfolding amend
+pairs-amend n g k Pairs.pairs-nil = Pairs.pairs-nil
+pairs-amend n g k (Pairs.pairs-cons {x = w} {y = v} {xs = ws} {ys = vs} h s) = by (isRow n w) (isRow n v) (ap (λ m. eqb m n) (h .number)) (pairs-amend n g k s)
+  where
+    by : (a b : Bool) → b ≡ a → Pairs Worse (amend (isRow n) g ws) (amend (isRow n) g vs) → Pairs Worse (cond a (g w ∷ ws) (w ∷ amend (isRow n) g ws)) (cond b (g v ∷ vs) (v ∷ amend (isRow n) g vs))
+    by true true e t = Pairs.pairs-cons (k w v h) s
+    by false false e t = Pairs.pairs-cons h t
+    by true false e t = true-false (sym e)
+    by false true e t = true-false e
+
+pairs-both : {R S : Row → Row → Type 0} (g : Row → Row) → ((w v : Row) → R w v → S (g w) (g v)) → {ws vs : List Row} → Pairs R ws vs → Pairs S (map g ws) (map g vs)
+pairs-both g k Pairs.pairs-nil = Pairs.pairs-nil
+pairs-both g k (Pairs.pairs-cons {x = w} {y = v} h s) = Pairs.pairs-cons (k w v h) (pairs-both g k s)
+
+-- a call on one file changes its row alone, as the row says
+module _ (n : ℕ) (t : Row → ℕ) (g : Row → Row) (d : Row) where
+  abbrev statusIn : List Row → ℕ
+  statusIn ws = cond (not (any (isRow n) ws)) 70 (t (firstOr (isRow n) d ws))
+
+  heeded-item : (b : Bool) (w : Row) (xs ys zs : List Row) → cond b xs ys ≡ zs → cond b (w ∷ xs) (w ∷ ys) ≡ w ∷ zs
+  heeded-item true w xs ys zs e = ap {B = List Row} (λ s. w ∷ s) e
+  heeded-item false w xs ys zs e = ap {B = List Row} (λ s. w ∷ s) e
+
+  heeded-rows : (ws : List Row) → cond (eqb (statusIn ws) 0) (amend (isRow n) g ws) ws ≡ amend (isRow n) (heeded t g) ws
+  unfolding amend any firstOr
+  heeded-rows [] = refl
+  heeded-rows (w ∷ ws) = by (isRow n w) (heeded-item (eqb (statusIn ws) 0) w (amend (isRow n) g ws) ws (amend (isRow n) (heeded t g) ws) (heeded-rows ws))
+    where
+      here : (b : Bool) → cond b (g w ∷ ws) (w ∷ ws) ≡ cond b (g w) w ∷ ws
+      here true = refl
+      here false = refl
+
+      by : (a : Bool) → cond (eqb (statusIn ws) 0) (w ∷ amend (isRow n) g ws) (w ∷ ws) ≡ w ∷ amend (isRow n) (heeded t g) ws
+          → cond (eqb (cond (not (cond a true (any (isRow n) ws))) 70 (t (cond a w (firstOr (isRow n) d ws)))) 0) (cond a (g w ∷ ws) (w ∷ amend (isRow n) g ws)) (w ∷ ws) ≡ cond a (heeded t g w ∷ ws) (w ∷ amend (isRow n) (heeded t g) ws)
+      by true e = here (eqb (t w) 0)
+      by false e = e
+
+  heeded-ledger : (ws : List Row) → cond (eqb (statusIn ws) 0) (inGrace (amend (isRow n) g ws)) (inGrace ws) ≡ inGrace (amend (isRow n) (heeded t g) ws)
+  heeded-ledger ws = by (eqb (statusIn ws) 0) ∙ ap inGrace (heeded-rows ws)
+    where
+      by : (b : Bool) → cond b (inGrace (amend (isRow n) g ws)) (inGrace ws) ≡ inGrace (cond b (amend (isRow n) g ws) ws)
+      by true = refl
+      by false = refl
+
+one-file : (n : ℕ) (t : Row → ℕ) (g : Row → Row) → Kept t g → {ws vs : List Row} → Pairs Worse ws vs
+    → Side (cond (eqb (statusIn n t g (newRow n []) ws) 0) (inGrace (amend (isRow n) g ws)) (inGrace ws)) (cond (eqb (statusIn n t g (newRow n []) vs) 0) (inGrace (amend (isRow n) g vs)) (inGrace vs))
+one-file n t g k {ws} {vs} s = rw (heeded-ledger n t g (newRow n []) ws, heeded-ledger n t g (newRow n []) vs) (side (pairs-amend n (heeded t g) k s))
+
+-- LAYOUTRETURN: only a report of the all-zero stateid, whole, is accepted in grace
+return-side : (n c : ℕ) (s d : List ℕ) (q : Request) → requestOf s ≡ q → {ws vs : List Row} → Pairs Worse ws vs
+    → Side (feed (inGrace ws) (layoutReturn n c s d) (judgeRequest (inGrace ws) n c s d q)) (feed (inGrace vs) (layoutReturn n c s d) (judgeRequest (inGrace vs) n c s d q))
+unfolding feed apply registered rowOf
+return-side n c s d (request.Refused k) e h = rw (ne-eqb k 0 (refused-number s e)) (side h)
+return-side n c s d request.Bulk e h = side h
+return-side n c s d (request.File false k) e h = side h
+return-side n c s d (request.File true k) e {ws} {vs} h = by (reportOf (bodyOf s))
+  where
+    by : (p : Report)
+        → Side (cond (eqb (refused (reportRules (inGrace ws) n c p)) 0) (onRow (inGrace ws) n (reported (errorsOf p))) (inGrace ws)) (cond (eqb (refused (reportRules (inGrace vs) n c p)) 0) (onRow (inGrace vs) n (reported (errorsOf p))) (inGrace vs))
+    by Malformed = side h
+    by Statistics = side h
+    by (Whole xs) = one-file n (λ w. refused (intentRules c w)) (reported xs) (report-kept c xs) h
+
+step-side : (x : Call) {ws vs : List Row} → (x ≡ endGrace → ⊥) → Pairs Worse ws vs → Side (feed (inGrace ws) x (judge (inGrace ws) x)) (feed (inGrace vs) x (judge (inGrace vs) x))
+unfolding feed judge apply registered rowOf
+step-side (register n s) k h = side h
+step-side (opening n c) k h = side h
+step-side (reclaim n c) k h = one-file n (λ w. refused (intentRules c w)) (hasReclaimed c) (reclaim-kept c) h
+step-side (close n c) k h = one-file n (λ w. refused (closeRules true c w)) (closed c) (close-kept c) h
+step-side (repaired n) k h = one-file n (λ w. refused (repairedRules w)) mended repaired-kept h
+step-side (forget n) k h = side h
+step-side endGrace k h = absurd (k refl)
+step-side restart k h = side (pairs-both restarted restart-kept h)
+step-side (layoutReturn n c s d) {ws} {vs} k h = by (ltb (length d) 24)
+  where
+    by : (b : Bool) → Side (feed (inGrace ws) (layoutReturn n c s d) (cond b (replied 28 d) (judgeRequest (inGrace ws) n c s d (requestOf s)))) (feed (inGrace vs) (layoutReturn n c s d) (cond b (replied 28 d) (judgeRequest (inGrace vs) n c s d (requestOf s))))
+    by true = side h
+    by false = return-side n c s d (requestOf s) refl h
+step-side (resilver a b) {ws} {vs} k h = rw (lend-changes-nothing _ _ a b, lend-changes-nothing _ _ a b) (side h)
+step-side (offered a b) {ws} {vs} k h = rw (lend-changes-nothing _ _ a b, lend-changes-nothing _ _ a b) (side h)
+
+-- ---- the calls up to the end
+ledger-is : (l : Ledger) → l .grace ≡ true → l ≡ inGrace (l .rows)
+ledger-is l e = ap (λ g. record { grace = g; rows = l .rows }) e
+
+next-side : (x : Call) {l l′ : Ledger} → (x ≡ endGrace → ⊥) → Side l l′ → Side (feed l x (judge l x)) (feed l′ x (judge l′ x))
+next-side x {l} {l′} k h = rw (ledger-is l (h .grace), ledger-is l′ (h .grace′)) (step-side x k (h .rows))
+
+-- a record out of grace ends the period
+over-at-once : (r : Record) (xs : List Call) → r .grace ≡ false → inGraceThrough r xs ≡ true → ⊥
+unfolding inGraceThrough
+over-at-once r [] e h = true-false (sym h ∙ e)
+over-at-once r (x ∷ xs) e h = true-false (sym (rw e at h))
+
+still-in : (r : Record) (xs : List Call) → inGraceThrough r xs ≡ true → r .grace ≡ true
+still-in r xs h = by (r .grace) refl
+  where
+    by : (b : Bool) → r .grace ≡ b → b ≡ true
+    by true e = refl
+    by false e = absurd (over-at-once r xs e h)
+
+rest-through : (r : Record) (x : Call) (xs : List Call) → inGraceThrough r (x ∷ xs) ≡ true → inGraceThrough (step r x .after) xs ≡ true
+unfolding inGraceThrough
+rest-through r x xs h = by (r .grace) h
+  where
+    by : (b : Bool) → cond b (inGraceThrough (step r x .after) xs) false ≡ true → inGraceThrough (step r x .after) xs ≡ true
+    by true e = e
+    by false e = true-false (sym e)
+
+after-end : (r : Record) → r .grace ≡ true → step r endGrace .after .grace ≡ false
+unfolding step endOf
+after-end r e = rw e
+
+no-end : (r : Record) (x : Call) (xs : List Call) → inGraceThrough r (x ∷ xs) ≡ true → x ≡ endGrace → ⊥
+no-end r x xs h e = over-at-once (step r endGrace .after) xs (after-end r (still-in r (x ∷ xs) h)) (rw e at (rest-through r x xs h))
+
+through-side : (during : List Call) (r : Record) (l l′ : Ledger) → Matches r l → inGraceThrough r during ≡ true → Side l l′ → Side (fed l during) (fed l′ during)
+unfolding fed
+through-side [] r l l′ m g h = h
+through-side (x ∷ xs) r l l′ m g h = through-side xs (step r x .after) (feed l x (judge l x)) (feed l′ x (judge l′ x)) (step-agrees r l x m .after) (rest-through r x xs g) (next-side x (no-end r x xs g) h)
+
+-- ---- the end: what is left of the relation
+record AtLeast (w v : Row) : Type 0 where
+  number : v .number ≡ w .number
+  mirrors : v .mirrors ≡ w .mirrors
+  marked : w .marked ≡ true → v .marked ≡ true
+  blamed : (i : ℕ) → has i (w .blamed) ≡ true → has i (v .blamed) ≡ true
+
+lost-too : (w v : Row) → Worse w v → lost w ≡ true → lost v ≡ true
+lost-too w v h e = any-within (λ c. not (has c (w .reclaimed))) (λ c. not (has c (v .reclaimed))) (λ c k q. by (has c (v .reclaimed)) (h .reclaims c k) q) (h .intents) e
+  where
+    by : {a : Bool} (b : Bool) → (b ≡ true → a ≡ true) → not a ≡ true → not b ≡ true
+    by true f q = true-false (sym (rw (f refl) at q))
+    by false f q = refl
+
+ended-kept : (w v : Row) → Worse w v → AtLeast (ended w) (ended v)
+ended-kept w v h = record { number = h .number; mirrors = h .mirrors; marked = λ e. by (lost w) (lost v) (lost-too w v h) e; blamed = h .blamed }
+  where
+    by : (a b : Bool) → (a ≡ true → b ≡ true) → cond a true (w .marked) ≡ true → cond b true (v .marked) ≡ true
+    by a true f e = refl
+    by true false f e = true-false (sym (f refl))
+    by false false f e = h .marked e
+
+-- the row of a file in either ledger
+record SameFile (n : ℕ) (l l′ : Ledger) : Type 0 where
+  there : registered n l′ ≡ registered n l
+  row : AtLeast (rowOf n l) (rowOf n l′)
+
+module _ (n : ℕ) where
+  any-row : {ws vs : List Row} → Pairs AtLeast ws vs → any (isRow n) vs ≡ any (isRow n) ws
+  unfolding any
+  any-row Pairs.pairs-nil = refl
+  any-row (Pairs.pairs-cons h s) = rw (h .number, any-row s)
+
+  first-row : {ws vs : List Row} (d : Row) → Pairs AtLeast ws vs → AtLeast (firstOr (isRow n) d ws) (firstOr (isRow n) d vs)
+  unfolding firstOr
+  first-row d Pairs.pairs-nil = record { number = refl; mirrors = refl; marked = λ e. e; blamed = λ i e. e }
+  first-row d (Pairs.pairs-cons {x = w} {y = v} {xs = ws} {ys = vs} h s) = by (isRow n w) (isRow n v) (ap (λ m. eqb m n) (h .number)) (first-row d s)
+    where
+      by : (a b : Bool) → b ≡ a → AtLeast (firstOr (isRow n) d ws) (firstOr (isRow n) d vs) → AtLeast (cond a w (firstOr (isRow n) d ws)) (cond b v (firstOr (isRow n) d vs))
+      by true true e t = h
+      by false false e t = t
+      by true false e t = true-false (sym e)
+      by false true e t = true-false e
+
+  ended-rows : {ws vs : List Row} → Pairs Worse ws vs → SameFile n (fed (inGrace ws) (endGrace ∷ [])) (fed (inGrace vs) (endGrace ∷ []))
+  unfolding fed feed judge apply registered rowOf
+  ended-rows s = let t = pairs-both ended ended-kept s in record { there = any-row t; row = first-row (newRow n []) t }
+
+  ended-side : {l l′ : Ledger} → Side l l′ → SameFile n (fed l (endGrace ∷ [])) (fed l′ (endGrace ∷ []))
+  ended-side {l} {l′} h = rw (ledger-is l (h .grace), ledger-is l′ (h .grace′)) (ended-rows (h .rows))
+
+-- ---- two histories
+restarts : {ws : List Row} → All Sound ws → Pairs Worse ws (map restarted ws)
+restarts All.all-nil = Pairs.pairs-nil
+restarts (All.all-cons {x = w} h t) = Pairs.pairs-cons (after-restart w h) (restarts t)
+
+restart-side : (l : Ledger) → l .grace ≡ true → All Sound (l .rows) → Side l (feed l restart (judge l restart))
+unfolding feed judge apply
+restart-side l e h = record { grace = e; grace′ = refl; rows = restarts h }
+
+module _ (before during : List Call) (g : inGraceThrough (recordAfter fresh before) during ≡ true) (n : ℕ) where
+  abbrev so-far : Ledger
+  so-far = fed noRows before
+
+  matched : Matches (recordAfter fresh before) so-far
+  matched = rw (fed-ledger before) at (after-all before fresh noRows fresh-matches)
+
+  sides : Side (fed so-far during) (fed (feed so-far restart (judge so-far restart)) during)
+  sides =
+      through-side during (recordAfter fresh before) so-far (feed so-far restart (judge so-far restart)) matched g
+      (restart-side so-far (sym (matched .grace) ∙ still-in (recordAfter fresh before) during g) (sound-fed before noRows All.all-nil))
+
+  once-is : ledgerOf (before ++ during ++ endGrace ∷ []) ≡ fed (fed so-far during) (endGrace ∷ [])
+  once-is = fed-ledger (before ++ during ++ endGrace ∷ []) ∙ fed-append (before ++ during) (endGrace ∷ []) noRows ∙ ap (λ l. fed l (endGrace ∷ [])) (fed-append before during noRows)
+
+  twice-is : ledgerOf (before ++ restart ∷ during ++ endGrace ∷ []) ≡ fed (fed (feed so-far restart (judge so-far restart)) during) (endGrace ∷ [])
+  unfolding fed
+  twice-is = fed-ledger (before ++ restart ∷ during ++ endGrace ∷ []) ∙ fed-append (before ++ restart ∷ during) (endGrace ∷ []) noRows ∙ ap (λ l. fed l (endGrace ∷ [])) (fed-append before (restart ∷ during) noRows)
+
+  same-file : SameFile n (ledgerOf (before ++ during ++ endGrace ∷ [])) (ledgerOf (before ++ restart ∷ during ++ endGrace ∷ []))
+  same-file = rw (once-is, twice-is) (ended-side n sides)
+
+-- ---- the record's list: room for 64 is enough
+slots-length : {A B : Type 0} {R : A → B → Type 0} {F : A → Type 0} {xs : List A} {ys : List B} → Slots R F xs ys → length ys ≤ length xs
+slots-length (Slots.rest h) = omega arith
+slots-length (Slots.item r s) = omega (arith, slots-length s)
+
+take-fill : (ns a : List ℕ) → length ns ≤ length a → take (length ns) (fill ns a) ≡ ns
+unfolding fill
+take-fill [] a h = refl
+take-fill (n ∷ ns) [] h = absurd (omega arith)
+take-fill (n ∷ ns) (x ∷ xs) h = ap {B = List ℕ} (λ s. n ∷ s) (take-fill ns xs (omega arith))
+
+few-files : (calls : List Call) → length (numbers (needRepair (ledgerOf calls))) ≤ 64
+few-files calls =
+    let m = after-all calls fresh noRows fresh-matches in
+    let l = ledgerOf calls in
+    omega (arith, length-map (needRepair l) (λ (w : Row). w .number), chosen-length isMarked (l .rows), slots-length (m .rows), m .long)
+
+listed-files : (ns ss a b : List ℕ) → length ns ≤ length a → length ns ≤ length b → filesOf (lend ns ss a b) ≡ ns
+unfolding lend
+listed-files ns ss a b h k = rw (le-leb (length ns) (length a) h, le-leb (length ns) (length b) k) (take-fill ns a h)
+
+resilver-files : (calls : List Call) → resilverFiles calls ≡ numbers (needRepair (ledgerOf calls))
+unfolding judge
+resilver-files calls = ap filesOf (history calls .resilvers (replicate 64 0) (replicate 64 0)) ∙ listed-files (numbers (needRepair (ledgerOf calls))) _ (replicate 64 0) (replicate 64 0) (few-files calls) (few-files calls)
+
+is-listed : (calls : List Call) (n : ℕ) → has n (resilverFiles calls) ≡ rowPasses isMarked n (ledgerOf calls)
+is-listed calls n = ap (has n) (resilver-files calls) ∙ history calls .marked .is .exactly n
+
+both-true : (b : Bool) {p q : Bool} → (p ≡ true → q ≡ true) → cond b p false ≡ true → cond b q false ≡ true
+both-true true f e = f e
+both-true false f e = e
+
+passes-too : (n : ℕ) (l l′ : Ledger) → SameFile n l l′ → rowPasses isMarked n l ≡ true → rowPasses isMarked n l′ ≡ true
+passes-too n l l′ h e = rw (h .there) (both-true (registered n l) (h .row .marked) e)
+
+-- ---- the record's blame is the row's
+no-row : (p : Row → Bool) (d : Row) (ws : List Row) → any p ws ≡ false → firstOr p d ws ≡ d
+unfolding any firstOr
+no-row p d [] e = refl
+no-row p d (w ∷ ws) e = rw (first-no (p w) (any p ws) e) (no-row p d ws (rest-no (p w) (any p ws) e))
+
+-- i is one of the four places, or none is blamed there
+module _ (r : Record) (l : Ledger) (n i : ℕ) where
+  blame-by : AtFile n r l → (b : Bool) → ltb i 4 ≡ b → isBlamed n i r ≡ cond b (has i (rowOf n l .blamed)) false
+  unfolding rowOf
+  blame-by (missing a e) b k = rw (not-there r n a, no-row (isRow n) (newRow n []) (l .rows) e, nothing-in i) (by b)
+    where
+      by : (b : Bool) → false ≡ cond b false false
+      by true = refl
+      by false = refl
+  blame-by (found j w z) true k =
+      let f = z .pair noFile in
+      rw (here n r l j w z, it-is n r l j w z, z .the (newRow n [])) (f .copies .blame i (omega (arith, ltb-true i 4 k, f .copies .four)))
+  blame-by (found j w z) false k =
+      let f = z .pair noFile in
+      rw (here n r l j w z, it-is n r l j w z) (ap (λ (m : Mirror). m .blamed) (List·getD-eq-default (getD (r .files) j noFile .mirrors) noMirror (omega (arith, ltb-false i 4 k, f .copies .four))))
+
+blame-is : (calls : List Call) (n i : ℕ) → isBlamed n i (recordAfter fresh calls) ≡ cond (ltb i 4) (has i (rowOf n (ledgerOf calls) .blamed)) false
+blame-is calls n i = blame-by (recordAfter fresh calls) (ledgerOf calls) n i (at-file n (after-all calls fresh noRows fresh-matches)) (ltb i 4) refl
+
+pub restart-twice : RestartTwice
+restart-twice before during g =
+    let once = before ++ during ++ endGrace ∷ [] in
+    let twice = before ++ restart ∷ during ++ endGrace ∷ [] in
+    record {
+      listed = λ n e. is-listed twice n ∙ passes-too n (ledgerOf once) (ledgerOf twice) (same-file before during g n) (sym (is-listed once n) ∙ e);
+      blamed = λ n i e. same-file before during g n .row .blamed i e;
+      held = λ n i e. blame-is twice n i ∙ both-true (ltb i 4) (same-file before during g n .row .blamed i) (sym (blame-is once n i) ∙ e);
+      mirrors = λ n. same-file before during g n .row .mirrors;
+    }

@@ -1,0 +1,222 @@
+-- Two rows of one file, the second of a ledger with one more restart inside a grace period: the relation `Worse`, and that each call in grace keeps it. In this
+-- order: the relation; reclaim; close; repaired; a report; restart.
+use mathlib.Core.Path.{_≡_, refl, ap, sym, _∙_}
+use mathlib.Core.List.{List, [], _∷_}
+use mathlib.Core.Bool.{Bool, true, false, not, cond}
+use Prim.Native.Nat.{ℕ}
+use lib.Dec.{eqb}
+use borrow.Author.Tests.{eqb-true}
+use Rattle.reports.specs.Report.{DeviceError}
+use Rattle.places.specs.Lists.{any, has, with, none, discard}
+use Rattle.places.proofs.Sets.{true-false, has-with, any-same}
+use Rattle.mirroring.specs.Devices.{deviceOf, isMirror, placeOf}
+use Rattle.ledger.specs.Ledger.{Row, refused, intentRules, closeRules, repairedRules, hasReclaimed, closed, mended, restarted, isFault, isStranger, blame, reported, withMark, withBlame, withIntents}
+use Rattle.ledger.proofs.Fed.{Sound, as-was}
+use Rattle.ledger.proofs.Within.{Within, within-self, or-true, has-within, none-within, within-less, within-discard, within-but}
+
+-- ---- THE RELATION of a row w and that of the same file in the ledger with one more restart, v: it has more intents, fewer of w's are reclaimed, and it
+-- has the mark and the blame that w has
+pub record Worse (w v : Row) : Type 0 where
+  pub number : v .number ≡ w .number
+  pub mirrors : v .mirrors ≡ w .mirrors
+  pub intents : Within (w .intents) (v .intents)
+  pub reclaims : (c : ℕ) → has c (w .intents) ≡ true → has c (v .reclaimed) ≡ true → has c (w .reclaimed) ≡ true
+  pub marked : w .marked ≡ true → v .marked ≡ true
+  pub blamed : (i : ℕ) → has i (w .blamed) ≡ true → has i (v .blamed) ≡ true
+  pub sound : Sound w
+
+pub nothing-in : (n : ℕ) → has n [] ≡ false
+unfolding has any
+nothing-in n = refl
+
+-- the restart itself
+pub after-restart : (w : Row) → Sound w → Worse w (restarted w)
+after-restart w h = record {
+  number = refl;
+  mirrors = refl;
+  intents = within-self (w .intents);
+  reclaims = λ c e k. true-false (sym k ∙ nothing-in c);
+  marked = λ e. e;
+  blamed = λ i e. e;
+  sound = h;
+}
+
+-- ---- what a call in grace does to its file's row: t is its status, g the change
+abbrev pub heeded : (Row → ℕ) → (Row → Row) → Row → Row
+heeded t g w = cond (eqb (t w) 0) (g w) w
+
+-- the change keeps the relation, whichever of the two calls is accepted
+abbrev pub Kept : (Row → ℕ) → (Row → Row) → Type 0
+Kept t g = (w v : Row) → Worse w v → Worse (heeded t g w) (heeded t g v)
+
+-- reclaim
+pub reclaim-kept : (c : ℕ) → Kept (λ w. refused (intentRules c w)) (hasReclaimed c)
+reclaim-kept c w v h = by (has c (w .intents)) (has c (v .intents)) refl refl
+  where
+    other : (d : ℕ) (a b : Bool) → eqb d c ≡ a → has c (w .intents) ≡ b → has d (w .intents) ≡ true → cond a true (has d (v .reclaimed)) ≡ true → has d (cond b (with c (w .reclaimed)) (w .reclaimed)) ≡ true
+    other d true true e k p q = has-with c d (w .reclaimed) ∙ rw e
+    other d true false e k p q = true-false (sym p ∙ ap (λ z. has z (w .intents)) (eqb-true d c e) ∙ k)
+    other d false true e k p q = has-with c d (w .reclaimed) ∙ rw e (h .reclaims d p q)
+    other d false false e k p q = h .reclaims d p q
+
+    by : (a b : Bool) → has c (w .intents) ≡ a → has c (v .intents) ≡ b
+        → Worse (cond (eqb (cond (not a) 10034 0) 0) (hasReclaimed c w) w) (cond (eqb (cond (not b) 10034 0) 0) (hasReclaimed c v) v)
+    by true true e k = record {
+      number = h .number;
+      mirrors = h .mirrors;
+      intents = h .intents;
+      reclaims = λ d p q. other d (eqb d c) true refl e p (sym (has-with c d (v .reclaimed)) ∙ q);
+      marked = h .marked;
+      blamed = h .blamed;
+      sound = as-was refl refl (h .sound);
+    }
+    by true false e k = true-false (sym (has-within c (h .intents) e) ∙ k)
+    by false true e k = record {
+      number = h .number;
+      mirrors = h .mirrors;
+      intents = h .intents;
+      reclaims = λ d p q. other d (eqb d c) false refl e p (sym (has-with c d (v .reclaimed)) ∙ q);
+      marked = h .marked;
+      blamed = h .blamed;
+      sound = h .sound;
+    }
+    by false false e k = h
+
+-- close: a and b are whether the client has an intent and has reclaimed
+abbrev closing : Bool → Bool → ℕ
+closing a b = cond (not a) 10025 (cond (not b) 10025 0)
+
+pub close-kept : (c : ℕ) → Kept (λ w. refused (closeRules true c w)) (closed c)
+unfolding has
+close-kept c w v h = by (has c (w .intents)) (has c (w .reclaimed)) (has c (v .intents)) (has c (v .reclaimed)) refl refl refl refl
+  where
+    fewer : {xs ys : List ℕ} → Within xs ys → ((d : ℕ) → has d xs ≡ true → has d (w .intents) ≡ true) → Worse (withIntents xs w) (withIntents ys v)
+    fewer s f = record { number = h .number; mirrors = h .mirrors; intents = s; reclaims = λ d p q. h .reclaims d (f d p) q; marked = h .marked; blamed = h .blamed; sound = as-was refl refl (h .sound) }
+
+    less : (d : ℕ) → has d (discard (λ x. eqb x c) (w .intents)) ≡ true → has d (w .intents) ≡ true
+    less d e = has-within d (within-less (λ x. eqb x c) (within-self (w .intents))) e
+
+    by : (a b a′ b′ : Bool) → has c (w .intents) ≡ a → has c (w .reclaimed) ≡ b → has c (v .intents) ≡ a′ → has c (v .reclaimed) ≡ b′
+        → Worse (cond (eqb (closing a b) 0) (closed c w) w) (cond (eqb (closing a′ b′) 0) (closed c v) v)
+    by true true true true p q r s = fewer (within-discard (λ x. eqb x c) (h .intents)) less
+    by true true true false p q r s = fewer (within-less (λ x. eqb x c) (h .intents)) less
+    by true true false b′ p q r s = fewer (within-less (λ x. eqb x c) (h .intents)) less
+    by true false true true p q r s = true-false (sym (h .reclaims c p s) ∙ q)
+    by true false true false p q r s = h
+    by true false false b′ p q r s = h
+    by false b true true p q r s = fewer (within-but (λ x. eqb x c) p (h .intents)) (λ d e. e)
+    by false b true false p q r s = h
+    by false b false b′ p q r s = h
+
+-- repaired: a and b are whether the file is marked and has no intent
+abbrev mending : Bool → Bool → ℕ
+mending a b = cond (not a) 22 (cond (not b) 10008 0)
+
+pub repaired-kept : Kept (λ w. refused (repairedRules w)) mended
+repaired-kept w v h = by (w .marked) (none (w .intents)) (v .marked) (none (v .intents)) refl refl refl refl
+  where
+    by : (a b a′ b′ : Bool) → w .marked ≡ a → none (w .intents) ≡ b → v .marked ≡ a′ → none (v .intents) ≡ b′
+        → Worse (cond (eqb (mending a b) 0) (mended w) w) (cond (eqb (mending a′ b′) 0) (mended v) v)
+    by true true true true p q r s = record { number = h .number; mirrors = h .mirrors; intents = h .intents; reclaims = h .reclaims; marked = λ e. e; blamed = λ i e. e; sound = record { no-blame = λ e. refl } }
+    by true true true false p q r s = clean v h
+      where
+        clean : (u : Row) → Worse w u → Worse (mended w) u
+        clean u k = record { number = k .number; mirrors = k .mirrors; intents = k .intents; reclaims = k .reclaims; marked = λ e. true-false (sym e); blamed = λ i e. true-false (sym e ∙ nothing-in i); sound = record { no-blame = λ e. refl } }
+    by true true false b′ p q r s = true-false (sym (h .marked p) ∙ r)
+    by true false true true p q r s = true-false (sym (none-within (h .intents) s) ∙ q)
+    by true false true false p q r s = h
+    by true false false b′ p q r s = h
+    by false b true true p q r s = record {
+      number = h .number;
+      mirrors = h .mirrors;
+      intents = h .intents;
+      reclaims = h .reclaims;
+      marked = λ e. true-false (sym e ∙ p);
+      blamed = λ i e. true-false (sym e ∙ ap (has i) (h .sound .no-blame p) ∙ nothing-in i);
+      sound = h .sound;
+    }
+    by false b true false p q r s = h
+    by false b false b′ p q r s = h
+
+-- a report: j and k are a device's place in either row
+one-blamed : (i j k : ℕ) → k ≡ j → (b : Bool) (xs ys : List ℕ) → ((p : ℕ) → has p xs ≡ true → has p ys ≡ true) → has i (cond b (with j xs) xs) ≡ true → has i (cond b (with k ys) ys) ≡ true
+one-blamed i j k q true xs ys f e = has-with k i ys ∙ rw q (by (eqb i j) (sym (has-with j i xs) ∙ e))
+  where
+    by : (b : Bool) → cond b true (has i xs) ≡ true → cond b true (has i ys) ≡ true
+    by true h = refl
+    by false h = f i h
+one-blamed i j k q false xs ys f e = f i e
+
+-- the same report blames more where more was blamed, and takes no blame away
+blame-more : (w v : Row) → v .mirrors ≡ w .mirrors → (zs : List DeviceError) (xs ys : List ℕ) → ((p : ℕ) → has p xs ≡ true → has p ys ≡ true) → (i : ℕ) → has i (blame w zs xs) ≡ true → has i (blame v zs ys) ≡ true
+unfolding blame
+blame-more w v m [] xs ys f i e = f i e
+blame-more w v m (z ∷ zs) xs ys f i e = blame-more w v m zs _ _ (λ p h. one-blamed p _ _ (ap (placeOf (deviceOf z)) m) (isFault z) xs ys f h) i e
+
+blame-stays : (v : Row) (zs : List DeviceError) (ys : List ℕ) (i : ℕ) → has i ys ≡ true → has i (blame v zs ys) ≡ true
+unfolding blame
+blame-stays v [] ys i e = e
+blame-stays v (z ∷ zs) ys i e = blame-stays v zs _ i (by (isFault z))
+  where
+    by : (b : Bool) → has i (cond b (with (placeOf (deviceOf z) (v .mirrors)) ys) ys) ≡ true
+    by true = has-with _ i ys ∙ or-true (eqb i (placeOf (deviceOf z) (v .mirrors))) (has i ys) e
+    by false = e
+
+module _ {w v : Row} (h : Worse w v) (xs : List DeviceError) where
+  both-reported : (a a′ b : Bool) → a′ ≡ a
+      → Worse (cond a (withMark true w) (cond b (withMark true (withBlame (blame w xs (w .blamed)) w)) w)) (cond a′ (withMark true v) (cond b (withMark true (withBlame (blame v xs (v .blamed)) v)) v))
+  both-reported true true b e = record {
+    number = h .number;
+    mirrors = h .mirrors;
+    intents = h .intents;
+    reclaims = h .reclaims;
+    marked = λ q. q;
+    blamed = h .blamed;
+    sound = record { no-blame = λ q. true-false q };
+  }
+  both-reported false false true e = record {
+    number = h .number;
+    mirrors = h .mirrors;
+    intents = h .intents;
+    reclaims = h .reclaims;
+    marked = λ q. q;
+    blamed = λ i q. blame-more w v (h .mirrors) xs (w .blamed) (v .blamed) (h .blamed) i q;
+    sound = record { no-blame = λ q. true-false q };
+  }
+  both-reported false false false e = h
+  both-reported true false b e = true-false (sym e)
+  both-reported false true b e = true-false e
+
+  one-reported : (a b : Bool) → Worse w (cond a (withMark true v) (cond b (withMark true (withBlame (blame v xs (v .blamed)) v)) v))
+  one-reported true b = record { number = h .number; mirrors = h .mirrors; intents = h .intents; reclaims = h .reclaims; marked = λ q. refl; blamed = h .blamed; sound = h .sound }
+  one-reported false true = record {
+    number = h .number;
+    mirrors = h .mirrors;
+    intents = h .intents;
+    reclaims = h .reclaims;
+    marked = λ q. refl;
+    blamed = λ i q. blame-stays v xs (v .blamed) i (h .blamed i q);
+    sound = h .sound;
+  }
+  one-reported false false = h
+
+pub report-kept : (c : ℕ) (xs : List DeviceError) → Kept (λ w. refused (intentRules c w)) (reported xs)
+report-kept c xs w v h = by (has c (w .intents)) (has c (v .intents)) refl refl
+  where
+    by : (a b : Bool) → has c (w .intents) ≡ a → has c (v .intents) ≡ b
+        → Worse (cond (eqb (cond (not a) 10034 0) 0) (reported xs w) w) (cond (eqb (cond (not b) 10034 0) 0) (reported xs v) v)
+    by true true e k = both-reported h xs (any (isStranger w) xs) (any (isStranger v) xs) (any isFault xs) (any-same (isStranger v) (isStranger w) (λ x. ap (λ ms. not (isMirror (deviceOf x) ms)) (h .mirrors)) xs)
+    by true false e k = true-false (sym (has-within c (h .intents) e) ∙ k)
+    by false true e k = one-reported h xs (any (isStranger v) xs) (any isFault xs)
+    by false false e k = h
+
+pub restart-kept : (w v : Row) → Worse w v → Worse (restarted w) (restarted v)
+restart-kept w v h = record {
+  number = h .number;
+  mirrors = h .mirrors;
+  intents = h .intents;
+  reclaims = λ c e k. k;
+  marked = h .marked;
+  blamed = h .blamed;
+  sound = as-was refl refl (h .sound);
+}

@@ -1,0 +1,54 @@
+-- DEFINITION. Restarting twice (request 14): one more restart inside a grace period takes no file off the list at its end, and clears no blame. Proved in
+-- proofs/RestartTwice.antt.
+use mathlib.Core.Path.{_≡_}
+use mathlib.Core.List.{List, [], _∷_, _++_}
+use mathlib.Core.Bool.{Bool, true, false, cond}
+use Prim.Native.Nat.{ℕ}
+use lib.ListN.{getD, take, replicate}
+use Rattle.places.specs.Lists.{has}
+use Rattle.recovery.specs.Calls.{Call, endGrace, restart, Answer, said, replied, handedOn, listed}
+use Rattle.mirroring.specs.Mirrors.{noMirror}
+use Rattle.files.specs.File.{isFile}
+use Rattle.recovery.specs.Record.{fresh, fileAt, listingOf}
+use Rattle.recovery.specs.declared.record.Record.{Record}
+use Rattle.ledger.specs.Ledger.{Row, rowOf}
+use Rattle.ledger.specs.History.{step, recordAfter}
+use Rattle.ledger.specs.Demand3.{ledgerOf}
+
+-- whether a record is in grace, and so after each of some calls: they all lie in one grace period
+unfoldable pub inGraceThrough : Record → List Call → Bool
+inGraceThrough r [] = r .grace
+inGraceThrough r (x ∷ xs) = cond (r .grace) (inGraceThrough (step r x .after) xs) false
+
+-- the files of a listing: the places that it filled
+abbrev pub filesOf : Answer → List ℕ
+filesOf (said s) = []
+filesOf (replied s d) = []
+filesOf (handedOn d) = []
+filesOf (listed s count a b) = take count a
+
+-- the files that the record's resilver list gives after some calls; it is lent room for 64, and a record has no more
+abbrev pub resilverFiles : List Call → List ℕ
+resilverFiles calls = filesOf (listingOf false (recordAfter fresh calls) (replicate 64 0) (replicate 64 0))
+
+-- the row of a file after some calls
+abbrev pub rowAfter : ℕ → List Call → Row
+rowAfter n calls = rowOf n (ledgerOf calls)
+
+-- whether the record holds the mirror at a place of a file as blamed
+abbrev pub isBlamed : ℕ → ℕ → Record → Bool
+isBlamed n place r = cond (isFile n (fileAt n r)) (getD (fileAt n r .mirrors) place noMirror .blamed) false
+
+-- what is listed and who is blamed after the calls `once` is so after the calls `twice` too, by the ledger's rows and by what the
+-- record holds; a file's mirrors stand at the same places
+pub record StillThere (once twice : List Call) : Type 0 where
+  pub listed : (n : ℕ) → has n (resilverFiles once) ≡ true → has n (resilverFiles twice) ≡ true
+  pub blamed : (n place : ℕ) → has place (rowAfter n once .blamed) ≡ true → has place (rowAfter n twice .blamed) ≡ true
+  pub held : (n place : ℕ) → isBlamed n place (recordAfter fresh once) ≡ true → isBlamed n place (recordAfter fresh twice) ≡ true
+  pub mirrors : (n : ℕ) → rowAfter n twice .mirrors ≡ rowAfter n once .mirrors
+
+-- any history, with one more restart anywhere inside a grace period: it is in grace after `before`, and stays so through `during`, up to the end
+abbrev pub RestartTwice : Type 0
+RestartTwice =
+    (before during : List Call) → inGraceThrough (recordAfter fresh before) during ≡ true
+    → StillThere (before ++ during ++ endGrace ∷ []) (before ++ restart ∷ during ++ endGrace ∷ [])
