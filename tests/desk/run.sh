@@ -69,7 +69,18 @@ for name in layout-bodies layoutreturn-damaged linux-layoutreturn ganesha-epochs
         fails "$name" "no script"
     fi
 done
+# pairs COUNT: so many histories with and without one more restart (Ticket 14), on both programs, and the two lists of each compared.
+pairs() {
+    "$work/gen" pairs 14 "$1" > "$work/script" || { fails "pairs" "no script"; return; }
+    both "pairs, once" "$work/script" || return
+    mv "$work/replay" "$work/once"
+    sed 's/^# once more$/restart/' "$work/script" > "$work/twice-script"
+    both "pairs, twice" "$work/twice-script" || return
+    python3 "$desk/pairs.py" "$work/script" "$work/once" "$work/replay" || fails "pairs" "a file or a blame is lost"
+}
+
 if rustc -O --edition 2021 -o "$work/gen" "$desk/gen/main.rs"; then
+    pairs 12000
     seed=1
     while [ "$seed" -le "$seeds" ]; do
         random "$seed"

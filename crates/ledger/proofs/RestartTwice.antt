@@ -1,5 +1,6 @@
--- REQUEST 14 is proved here: `restart-twice : RestartTwice`. Two ledgers go side by side from the one more restart on, and every call up to the end keeps their
--- rows related (Worse.antt). In this order: a call on both; the calls up to the end; the end; two histories; the record's list; the record's blame.
+-- Ticket 14 is proved here: `restart-twice : RestartTwice`, `reclaim-again : ReclaimAgain`. Two ledgers go side by side from the one more restart on, and every
+-- call up to the end keeps their rows related (Worse.antt). In this order: a call on both; the calls up to the end; the end; two histories; the record's list; the
+-- record's blame; the first theorem; a restart and the end at once; the second.
 use mathlib.Core.Path.{_≡_, refl, ap, sym, _∙_}
 use mathlib.Core.List.{List, [], _∷_, _++_, map}
 use mathlib.Core.Bool.{Bool, true, false, not, cond}
@@ -13,7 +14,7 @@ use Rattle.wire.specs.Request.{requestOf, bodyOf}
 use Rattle.wire.specs.declared.request.Request.{Request}
 use Rattle.wire.specs.declared.request.Request.the-variants as request
 use Rattle.wire.proofs.Requests.{refused-number}
-use Rattle.places.specs.Lists.{any, has, amend, firstOr, fill}
+use Rattle.places.specs.Lists.{any, has, none, amend, firstOr, fill}
 use Rattle.places.proofs.Slots.{All, Pairs, Slots, chosen-length, missing, found}
 use Rattle.places.proofs.Sets.{true-false, first-no, rest-no}
 use Rattle.mirroring.specs.Mirrors.{noMirror}
@@ -22,11 +23,11 @@ use Rattle.files.specs.File.{noFile}
 use Rattle.recovery.specs.Calls.{Call, register, opening, reclaim, close, repaired, forget, endGrace, restart, layoutReturn, resilver, offered, replied, lend}
 use Rattle.recovery.specs.Record.{fresh, endOf}
 use Rattle.recovery.specs.declared.record.Record.{Record}
-use Rattle.ledger.specs.Ledger.{Row, Ledger, noRows, isRow, newRow, registered, rowOf, numbers, isMarked, needRepair, refused, intentRules, reportRules, closeRules, repairedRules, lost, hasReclaimed, closed, mended, restarted, ended, reported, errorsOf, onRow, judge, judgeRequest, apply, accepted, feed}
+use Rattle.ledger.specs.Ledger.{Row, Ledger, noRows, isRow, newRow, registered, rowOf, isOpen, numbers, isMarked, needRepair, refused, intentRules, reportRules, closeRules, repairedRules, lost, hasReclaimed, closed, mended, restarted, ended, reported, errorsOf, onRow, judge, judgeRequest, apply, accepted, feed}
 use Rattle.ledger.specs.Lists.{rowPasses}
 use Rattle.ledger.specs.History.{step, recordAfter}
 use Rattle.ledger.specs.Demand3.{ledgerOf}
-use Rattle.ledger.specs.RestartTwice.{inGraceThrough, filesOf, resilverFiles, isBlamed, RestartTwice}
+use Rattle.ledger.specs.RestartTwice.{inGraceThrough, filesOf, resilverFiles, isBlamed, RestartTwice, ReclaimAgain}
 use Rattle.ledger.proofs.Relation.{Matches}
 use Rattle.ledger.proofs.Calls.{AtFile, at-file, not-there, here, it-is}
 use Rattle.ledger.proofs.History.{step-agrees, lend-changes-nothing, fresh-matches, after-all, history}
@@ -320,3 +321,34 @@ restart-twice before during g =
       held = λ n i e. blame-is twice n i ∙ both-true (ltb i 4) (same-file before during g n .row .blamed i) (sym (blame-is once n i) ∙ e);
       mirrors = λ n. same-file before during g n .row .mirrors;
     }
+
+-- ---- a restart and the end of grace at once
+no-reclaim : (cs : List ℕ) → not (none cs) ≡ true → any (λ c. not (has c [])) cs ≡ true
+unfolding none any has
+no-reclaim [] e = true-false (sym e)
+no-reclaim (c ∷ cs) e = refl
+
+forgotten : (n : ℕ) (ws : List Row) → isOpen (firstOr (isRow n) (newRow n []) ws) ≡ true
+    → cond (any (isRow n) (map ended (map restarted ws))) (firstOr (isRow n) (newRow n []) (map ended (map restarted ws)) .marked) false ≡ true
+unfolding any firstOr none
+forgotten n [] e = true-false (sym e)
+forgotten n (w ∷ ws) e = by (isRow n w) e (forgotten n ws)
+  where
+    rest : List Row
+    rest = map ended (map restarted ws)
+
+    by : (b : Bool) → isOpen (cond b w (firstOr (isRow n) (newRow n []) ws)) ≡ true
+        → (isOpen (firstOr (isRow n) (newRow n []) ws) ≡ true → cond (any (isRow n) rest) (firstOr (isRow n) (newRow n []) rest .marked) false ≡ true)
+        → cond (cond b true (any (isRow n) rest)) (cond b (ended (restarted w)) (firstOr (isRow n) (newRow n []) rest) .marked) false ≡ true
+    by true k f = rw (no-reclaim (w .intents) k)
+    by false k f = f k
+
+restarted-and-ended : (n : ℕ) (l : Ledger) → isOpen (rowOf n l) ≡ true → rowPasses isMarked n (fed l (restart ∷ endGrace ∷ [])) ≡ true
+unfolding fed feed judge apply registered rowOf
+restarted-and-ended n l e = forgotten n (l .rows) e
+
+pub reclaim-again : ReclaimAgain
+reclaim-again before n e =
+    let calls = before ++ restart ∷ endGrace ∷ [] in
+    is-listed calls n ∙ ap (rowPasses isMarked n) (fed-ledger calls ∙ fed-append before (restart ∷ endGrace ∷ []) noRows)
+    ∙ restarted-and-ended n (fed noRows before) (rw (fed-ledger before) at e)

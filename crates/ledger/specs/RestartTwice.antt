@@ -1,5 +1,5 @@
--- DEFINITION. Restarting twice (request 14): one more restart inside a grace period takes no file off the list at its end, and clears no blame. Proved in
--- proofs/RestartTwice.antt.
+-- DEFINITION. Restarting twice (02, Ticket 14): one more restart inside a grace period takes no file off the list at its end, and clears no blame; and no reclaim
+-- outlives a restart. Proved in proofs/RestartTwice.antt.
 use mathlib.Core.Path.{_≡_}
 use mathlib.Core.List.{List, [], _∷_, _++_}
 use mathlib.Core.Bool.{Bool, true, false, cond}
@@ -11,7 +11,7 @@ use Rattle.mirroring.specs.Mirrors.{noMirror}
 use Rattle.files.specs.File.{isFile}
 use Rattle.recovery.specs.Record.{fresh, fileAt, listingOf}
 use Rattle.recovery.specs.declared.record.Record.{Record}
-use Rattle.ledger.specs.Ledger.{Row, rowOf}
+use Rattle.ledger.specs.Ledger.{Row, rowOf, isOpen}
 use Rattle.ledger.specs.History.{step, recordAfter}
 use Rattle.ledger.specs.Demand3.{ledgerOf}
 
@@ -52,3 +52,7 @@ abbrev pub RestartTwice : Type 0
 RestartTwice =
     (before during : List Call) → inGraceThrough (recordAfter fresh before) during ≡ true
     → StillThere (before ++ during ++ endGrace ∷ []) (before ++ restart ∷ during ++ endGrace ∷ [])
+
+-- no reclaim outlives a restart: whoever had reclaimed, a file that has an intent is listed if grace ends before anybody reclaims again
+abbrev pub ReclaimAgain : Type 0
+ReclaimAgain = (before : List Call) (n : ℕ) → isOpen (rowAfter n before) ≡ true → has n (resilverFiles (before ++ restart ∷ endGrace ∷ [])) ≡ true

@@ -1,5 +1,5 @@
 //! Campaigns: short stories of calls, each aimed at an edge of the record, the epochs, the bodies or the lines.
-//! In this order: the writer of calls; calls on the record; campaigns on the record; campaigns on epochs, bodies and lines; the run.
+//! In this order: the writer of calls; calls on the record; campaigns on the record; campaigns on epochs, bodies and lines; the runs.
 
 use crate::bodies::layout_body;
 use crate::lines::{at_the_limits, dressed, spoilt};
@@ -21,6 +21,9 @@ struct Pool {
 }
 
 type Done = io::Result<()>;
+
+/// Where one more restart may go.
+const ONCE_MORE: &str = "# once more";
 
 /// How often each call of a walk is made.
 const WALK: [(u64, &str); 12] = [
@@ -132,18 +135,22 @@ impl<W: Write> Campaigns<W> {
         }
     }
 
-    /// A grace period: restart, reclaims, closes and reports, perhaps one more restart, and its end.
+    /// A call inside a grace period: a reclaim, a close, a list, a report, or now and then one more restart.
+    fn grace_step(&mut self, pool: &Pool) -> Done {
+        let (file, client) = (self.r.pick(&pool.files), self.r.pick(&pool.clients));
+        match self.r.below(10) {
+            0..=3 => self.call(&format!("reclaim {file} {client}")),
+            4 | 5 => self.call(&format!("close {file} {client}")),
+            6 => self.listing("resilver", 2),
+            7 if self.r.percent(20) => self.call("restart"),
+            _ => self.layoutreturn(pool, client, file),
+        }
+    }
+
     fn grace(&mut self, pool: &Pool) -> Done {
         self.call("restart")?;
         for _ in 0..self.r.below(2 * pool.files.len() as u64) {
-            let (file, client) = (self.r.pick(&pool.files), self.r.pick(&pool.clients));
-            match self.r.below(10) {
-                0..=3 => self.call(&format!("reclaim {file} {client}"))?,
-                4 | 5 => self.call(&format!("close {file} {client}"))?,
-                6 => self.listing("resilver", 2)?,
-                7 if self.r.percent(20) => self.call("restart")?,
-                _ => self.layoutreturn(pool, client, file)?,
-            }
+            self.grace_step(pool)?;
         }
         self.call("end")
     }
@@ -315,6 +322,44 @@ impl<W: Write> Campaigns<W> {
         Ok(())
     }
 
+    /// A history for Ticket 14: it ends with the end of a grace period and the resilver list, and the comment ONCE_MORE stands where one more restart
+    /// may go, anywhere in that period.
+    fn restartable(&mut self) -> Done {
+        let (files, clients, devices) = (1 + self.r.size(2), 1 + self.r.size(3), 3 + self.r.size(3));
+        let pool = self.pool(files, clients, devices);
+        self.raw(b"fresh")?;
+        for file in &pool.files {
+            let mirrors = hex(&pool.devices[..1 + self.r.size(3)].concat());
+            self.call(&format!("register {file} {mirrors}"))?;
+        }
+        self.open_all(&pool)?;
+        for _ in 0..self.r.below(12) {
+            self.walk_step(&pool)?;
+        }
+        self.raw(b"restart")?;
+        for _ in 0..self.r.below(6) {
+            self.restartable_step(&pool)?;
+        }
+        writeln!(self.out, "{ONCE_MORE}")?;
+        for _ in 0..self.r.below(9) {
+            self.restartable_step(&pool)?;
+        }
+        self.raw(b"end")?;
+        self.raw(b"resilver 64 64")
+    }
+
+    /// A call in grace that can change what the end of grace lists, restarts among them.
+    fn restartable_step(&mut self, pool: &Pool) -> Done {
+        let (file, client) = (self.r.pick(&pool.files), self.r.pick(&pool.clients));
+        match self.r.below(10) {
+            0..=3 => self.call(&format!("reclaim {file} {client}")),
+            4..=6 => self.call(&format!("close {file} {client}")),
+            7 => self.call(&format!("repaired {file}")),
+            8 => self.layoutreturn(pool, client, file),
+            _ => self.call("restart"),
+        }
+    }
+
     // ---- Campaigns on epochs, bodies and lines ----
 
     fn epochs(&mut self) -> Done {
@@ -385,7 +430,15 @@ impl<W: Write> Campaigns<W> {
         self.call("end")
     }
 
-    // ---- The run ----
+    // ---- The runs ----
+
+    /// So many histories for Ticket 14, each from `fresh` to its list.
+    pub fn run_pairs(mut self, pairs: u64) -> Done {
+        for _ in 0..pairs {
+            self.restartable()?;
+        }
+        self.out.flush()
+    }
 
     pub fn run(mut self, calls: u64) -> Done {
         const KINDS: [(u64, u32); 9] = [(30, 0), (12, 1), (10, 2), (6, 3), (50, 4), (10, 5), (18, 6), (10, 7), (24, 8)];
