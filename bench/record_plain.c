@@ -48,6 +48,12 @@ void CALL(record_fresh)(struct plain_record *r)
     memset(r, 0, sizeof *r);
 }
 
+void CALL(record_fresh_old)(struct plain_record *r)
+{
+    CALL(record_fresh)(r);
+    r->old = true;
+}
+
 uint32_t CALL(record_register)(struct plain_record *r, uint64_t file, const uint8_t *mirrors, size_t len)
 {
     if (r->grace)
@@ -223,6 +229,8 @@ static uint32_t returned(struct plain_record *r, uint64_t client, uint64_t file,
     if (type != 1)
         return (uint32_t)HANDED_ON;
     bool anonymous = memcmp(s + 32, zeros, 16) == 0;
+    if (anonymous && r->old)
+        return 10025;
     if (!r->grace)
         return anonymous ? 10033 : (uint32_t)HANDED_ON;
     if (!anonymous)

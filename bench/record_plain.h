@@ -23,11 +23,12 @@ struct plain_file {
 struct plain_record {
     struct plain_file files[64];
     size_t count;
-    bool grace;
+    bool grace, old;
 };
 
 #define RECORD_PLAIN(P) \
     void P##record_fresh(struct plain_record *); \
+    void P##record_fresh_old(struct plain_record *); \
     uint32_t P##record_register(struct plain_record *, uint64_t, const uint8_t *, size_t); \
     uint32_t P##record_open(struct plain_record *, uint64_t, uint64_t); \
     uint32_t P##record_reclaim(struct plain_record *, uint64_t, uint64_t); \

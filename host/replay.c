@@ -486,6 +486,19 @@ static bool run_fresh(const struct command *c, const struct word *argument)
     return true;
 }
 
+/* The same with a record of the edition that is named: `old` is the only one. */
+static bool run_fresh_edition(const struct command *c, const struct word *argument)
+{
+    (void)c;
+    if (!word_is(argument[0], "old"))
+        return false;
+    start_anew();
+    sc_record_fresh_old(record);
+    check_held();
+    puts("0");
+    return true;
+}
+
 /* ---- The table of commands: name, number of arguments, how it is run, and the call where several are run alike ---- */
 
 static const struct command commands[] = {
@@ -510,12 +523,13 @@ static const struct command commands[] = {
     {"may", 1, run_may, {NULL}},
     {"epochs", 0, run_epochs, {NULL}},
     {"fresh", 0, run_fresh, {NULL}},
+    {"fresh", 1, run_fresh_edition, {NULL}},
 };
 
-static const struct command *find_command(struct word name)
+static const struct command *find_command(struct word name, size_t arguments)
 {
     for (size_t i = 0; i < sizeof commands / sizeof commands[0]; i++)
-        if (word_is(name, commands[i].name))
+        if (word_is(name, commands[i].name) && commands[i].arguments == arguments)
             return &commands[i];
     return NULL;
 }
@@ -546,8 +560,8 @@ static bool read_line(FILE *in, struct line *line)
 /* Runs a line that has words; false where it can't be read. */
 static bool run_words(const struct word *words, size_t count)
 {
-    const struct command *c = find_command(words[0]);
-    return c != NULL && count == 1 + c->arguments && c->run(c, words + 1);
+    const struct command *c = find_command(words[0], count - 1);
+    return c != NULL && c->run(c, words + 1);
 }
 
 static void run_line(const struct line *line)

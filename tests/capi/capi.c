@@ -61,7 +61,7 @@ static void layout(void)
     sc_record_fresh(&held.r);
     guards(1);
     const uint8_t *two = (const uint8_t *)&held.r;
-    /* a file: its number, four mirrors of two halves and two flags, eight intents of a client and two flags, two flags; then grace */
+    /* a file: its number, four mirrors of two halves and two flags, eight intents of a client and two flags, two flags; then grace and the edition */
     for (size_t f = 0; f < 64; f++) {
         size_t at = 240 * f;
         int same = memcmp(one + at, two + at, 8) == 0 && memcmp(one + at + 232, two + at + 232, 2) == 0;
@@ -72,6 +72,9 @@ static void layout(void)
         expect(same, "a fresh file", f);
     }
     expect(one[15360] == 0 && two[15360] == 0, "fresh grace", 0);
+    expect(one[15361] == 0 && two[15361] == 0, "the edition", 0);
+    sc_record_fresh_old(&held.r);
+    expect(two[15360] == 0 && two[15361] == 1, "the old edition", 0);
     expect(sc_record_restart(&held.r) == 0 && two[15360] == 1, "grace after a restart", 0);
     expect(_Alignof(struct sc_record) == _Alignof(uint64_t) && sizeof(struct sc_record) == 15368, "the struct", 0);
 }
@@ -182,10 +185,10 @@ static void compare_returns(unsigned long n, uint64_t file, uint64_t client)
     expect(memcmp(reply[0], reply[1], sizeof reply[0]) == 0, "a reply", n);
 }
 
-static void random_calls(void)
+static void random_calls(int old)
 {
-    sc_record_fresh(&held.r);
-    plain_record_fresh(&plain);
+    (old ? sc_record_fresh_old : sc_record_fresh)(&held.r);
+    (old ? plain_record_fresh_old : plain_record_fresh)(&plain);
     for (unsigned long n = 0; n < CALLS; n++) {
         uint64_t file = 10 * below(70), client = below(CLIENTS);
         uint8_t mirrors[96];
@@ -217,7 +220,7 @@ static void random_calls(void)
         }
         guards(n);
     }
-    for (int i = 0; i < ANSWERS; i++)
+    for (int i = 0; !old && i < ANSWERS; i++)
         expect(seen[i] != 0, "an answer that never came up", answers[i]);
 }
 
@@ -229,7 +232,8 @@ int main(int argc, char **argv)
         memset(device[i], 0xa0 + i, 16);
     layout();
     examples();
-    random_calls();
+    random_calls(1);
+    random_calls(0);
     printf("capi: %d random calls beside plain C, the struct and K10 to K13: %lu differences\n", CALLS, differences);
     return differences != 0;
 }

@@ -21,7 +21,7 @@ ANSWERS = {
     "forget": "0 10013 70 10008",
     "end": "0 10033",
     "restart": "0",
-    "layoutreturn": "handed 0 28 10036 10062 10049 10013 10033 10004 70 10034",
+    "layoutreturn": "handed 0 28 10036 10062 10049 10025 10013 10033 10004 70 10034",
     "resilver": "0 28 source:0 source:1 source:2 source:3 source:255",
     "offered": "0 28 source:0 source:1 source:2 source:3 source:255",
     "layout": "extents refused:1 refused:2 refused:3 refused:4 refused:5 refused:6 refused:7",
@@ -34,6 +34,7 @@ ANSWERS = {
     "may": "yes no 22",
     "epochs": "shown",
     "fresh": "0",
+    "fresh old": "0",
     "can't be read": "?",
 }
 
@@ -61,7 +62,7 @@ def calls_of(script):
         if len(line.rstrip(b"\n")) > 262144:
             yield b"too long"
         elif words and not words[0].startswith(b"#"):
-            yield words[0]
+            yield b" ".join(words) if words[0] == b"fresh" else words[0]
 
 
 def count(script_path, output_path, counts):

@@ -15,7 +15,7 @@ def histories(script):
     counts = []
     for line in script:
         words = line.replace(b"\t", b" ").replace(b"\r", b" ").split()
-        if line.rstrip(b"\n") == b"fresh":
+        if line.rstrip(b"\n") in (b"fresh", b"fresh old"):
             counts.append(0)
         if words and not words[0].startswith(b"#"):
             counts[-1] += 1

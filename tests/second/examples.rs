@@ -101,6 +101,20 @@ fn k13_the_client_reports_an_unknown_device() {
     assert_eq!(last(&[&registered(), "open 7 1", "restart", "reclaim 7 1", &report(C, 5), "end", "resilver 1 1"]), "0 1 7:0");
 }
 
+/// Ticket 1: K10 to K13 in an old record. Its reports get 10025, and the list is as without them.
+#[test]
+fn an_old_record() {
+    let history = ["fresh old", &registered(), "open 7 1", "restart"];
+    let and = |more: &[&str]| last(&[&history, more].concat());
+    assert_eq!(and(&["end", "resilver 1 1"]), "0 1 7:0");
+    assert_eq!(and(&["reclaim 7 1", "end", "resilver 1 1"]), "0 0");
+    for device in [A, C] {
+        assert_eq!(and(&["reclaim 7 1", &report(device, 5)]), "10025 00002729");
+        assert_eq!(and(&["reclaim 7 1", &report(device, 5), "end", "resilver 1 1"]), "0 0");
+        assert_eq!(and(&["reclaim 7 1", "end", &report(device, 5)]), "10025 00002729");
+    }
+}
+
 /// Ticket 2: one client's word does not stand for another's, and it keeps its own intent.
 #[test]
 fn one_of_two_clients_comes_back() {

@@ -1,5 +1,6 @@
 //! LAYOUTRETURN requests (01, "LAYOUTRETURN"): reading a request and a report, and steps 1 to 5. Steps 6 and 7 are the ledger's.
 
+use crate::ledger::Edition;
 use crate::refuse_if;
 
 /// A device id.
@@ -27,6 +28,7 @@ const BADXDR: u32 = 10_036;
 const NOTSUPP: u32 = 10_004;
 const UNKNOWN_LAYOUTTYPE: u32 = 10_062;
 const BADIOMODE: u32 = 10_049;
+pub const BAD_STATEID: u32 = 10_025;
 pub const GRACE: u32 = 10_013;
 pub const NO_GRACE: u32 = 10_033;
 const BODY_LIMIT: usize = 4_096;
@@ -130,7 +132,7 @@ fn read_report(body: &[u8]) -> Result<Report, u32> {
 }
 
 /// Steps 1 to 5: the report that goes on to step 6, or the answer.
-pub fn judge(in_grace: bool, room: usize, request: &[u8]) -> Result<Report, Other> {
+pub fn judge(edition: Edition, in_grace: bool, room: usize, request: &[u8]) -> Result<Report, Other> {
     if room < 24 {
         return Err(Other::NoRoom);
     }
@@ -138,7 +140,9 @@ pub fn judge(in_grace: bool, room: usize, request: &[u8]) -> Result<Report, Othe
     refuse_if(request.layout_type != FLEX_FILES, UNKNOWN_LAYOUTTYPE)?;
     refuse_if(!(1..=3).contains(&request.iomode), BADIOMODE)?;
     let (stateid, body) = request.one_file.ok_or(Other::HandedOn)?;
-    match (in_grace, stateid == [0; 16]) {
+    let anonymous = stateid == [0; 16];
+    refuse_if(edition == Edition::Old && anonymous, BAD_STATEID)?;
+    match (in_grace, anonymous) {
         (true, false) => Err(GRACE.into()),
         (false, true) => Err(NO_GRACE.into()),
         (false, false) => Err(Other::HandedOn),

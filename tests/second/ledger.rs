@@ -1,7 +1,7 @@
 //! The recovery record as its ledger (01, "The recovery record" and "The ledger"): rows by file number, and the calls on them.
 //! Each call is refused with its number, and then changes nothing, or is accepted.
 
-use crate::layoutreturn::{self, Device, Other, Report, GRACE, NO_GRACE};
+use crate::layoutreturn::{self, Device, Other, Report, BAD_STATEID, GRACE, NO_GRACE};
 use crate::refuse_if;
 use std::collections::{BTreeMap, BTreeSet};
 
@@ -15,7 +15,6 @@ const INVAL: u32 = 22;
 const NOSPC: u32 = 28;
 const STALE: u32 = 70;
 const DELAY: u32 = 10_008;
-const BAD_STATEID: u32 = 10_025;
 const RECLAIM_BAD: u32 = 10_034;
 
 /// What is known of one registered file.
@@ -70,14 +69,22 @@ fn mirror_list(bytes: &[u8]) -> Option<Vec<Device>> {
     good.then_some(ids)
 }
 
+/// Ticket 1: whether a site's clients know RFC 9737. A ledger keeps the one that it starts with.
+#[derive(Clone, Copy, PartialEq)]
+pub enum Edition {
+    Current,
+    Old,
+}
+
 pub struct Ledger {
     rows: BTreeMap<u64, Row>,
     in_grace: bool,
+    edition: Edition,
 }
 
 impl Ledger {
-    pub fn fresh() -> Ledger {
-        Ledger { rows: BTreeMap::new(), in_grace: false }
+    pub fn fresh(edition: Edition) -> Ledger {
+        Ledger { rows: BTreeMap::new(), in_grace: false, edition }
     }
 
     fn row(&mut self, file: u64) -> Result<&mut Row, u32> {
@@ -159,7 +166,7 @@ impl Ledger {
     }
 
     pub fn layoutreturn(&mut self, client: u64, file: u64, room: usize, request: &[u8]) -> Result<(), Other> {
-        let report = layoutreturn::judge(self.in_grace, room, request)?;
+        let report = layoutreturn::judge(self.edition, self.in_grace, room, request)?;
         let row = self.row(file)?;
         refuse_if(!row.intents.contains(&client), RECLAIM_BAD)?;
         row.take(&report);

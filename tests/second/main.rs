@@ -12,7 +12,7 @@ mod examples;
 
 use epochs::Epochs;
 use layoutreturn::Other;
-use ledger::Ledger;
+use ledger::{Edition, Ledger};
 use std::io::{self, BufRead, Write};
 use words::{bytes, node, number, room, split, MAX_BODY, MAX_LINE, MAX_REQUEST};
 
@@ -33,7 +33,7 @@ struct Desk {
 
 impl Desk {
     fn fresh() -> Desk {
-        Desk { ledger: Ledger::fresh(), epochs: Epochs::fresh() }
+        Desk { ledger: Ledger::fresh(Edition::Current), epochs: Epochs::fresh() }
     }
 
     /// Runs one command and gives the line that it prints; `None` where the words can't be read, and then nothing changed.
@@ -60,6 +60,10 @@ impl Desk {
             ("layout", [b]) => Some(laid_out(&bytes(b, MAX_BODY)?)),
             ("fresh", []) => {
                 *self = Desk::fresh();
+                Some("0".to_string())
+            }
+            ("fresh", [b"old"]) => {
+                *self = Desk { ledger: Ledger::fresh(Edition::Old), epochs: Epochs::fresh() };
                 Some("0".to_string())
             }
             _ => self.run_on_epochs(name, &words[1..]),

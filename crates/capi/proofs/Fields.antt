@@ -1,4 +1,4 @@
--- The fields that a walk goes to: the files of a record and its flag, and a file's flag and number.
+-- The fields that a walk goes to: the files of a record and its two flags, and a file's flag and number.
 use mathlib.Core.Path.{refl}
 use native.Mathlib.Omega.{arith}
 use denote.Builtin.{u64, bool}
@@ -28,6 +28,9 @@ files = record {
 
 unfoldable pub grace : Kept T.the-type bool
 grace = record { k = 1; d = 15360; get = λ r. r .grace; found = refl; cut = λ M 𝓤 H A W q r a. look-at 𝓤 H A W q T.the-type T′.the-laws 1 15360 refl refl a r (T.struct .as-values r) refl }
+
+unfoldable pub old : Kept T.the-type bool
+old = record { k = 2; d = 15361; get = λ r. r .old; found = refl; cut = λ M 𝓤 H A W q r a. look-at 𝓤 H A W q T.the-type T′.the-laws 2 15361 refl refl a r (T.struct .as-values r) refl }
 
 unfoldable pub used : Kept F.the-type bool
 used = record { k = 3; d = 232; get = λ f. f .used; found = refl; cut = λ M 𝓤 H A W q f a. look-at 𝓤 H A W q F.the-type F′.the-laws 3 232 refl refl a f (F.struct .as-values f) refl }

@@ -11,12 +11,12 @@ use Rattle.files.specs.File.{returnedHeard, handedOnCode}
 use Rattle.mirroring.specs.declared.blame.Heard.{Heard}
 use Rattle.files.specs.declared.file.File.{File}
 
-unfoldable pub answeredHeard : ℕ → Bool → ℕ → List ℕ → List ℕ → File → Heard
-answeredHeard n g c s d f = cond (ltb (length d) 24) (heardNothing 28) (returnedHeard n g c s f)
+unfoldable pub answeredHeard : ℕ → Bool → Bool → ℕ → List ℕ → List ℕ → File → Heard
+answeredHeard n o g c s d f = cond (ltb (length d) 24) (heardNothing 28) (returnedHeard n o g c s f)
 
 -- nothing is written where it is handed on
 abbrev pub written : ℕ → List ℕ → List ℕ
 written status d = cond (eqb status handedOnCode) d (replyIn status d)
 
-unfoldable pub fileReply : ℕ → Bool → ℕ → List ℕ → List ℕ → File → List ℕ
-fileReply n g c s d f = cond (ltb (length d) 24) d (written (returnedHeard n g c s f .status) d)
+unfoldable pub fileReply : ℕ → Bool → Bool → ℕ → List ℕ → List ℕ → File → List ℕ
+fileReply n o g c s d f = cond (ltb (length d) 24) d (written (returnedHeard n o g c s f .status) d)

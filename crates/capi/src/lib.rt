@@ -8,7 +8,7 @@ use recovery::record::Record;
 ghost use mathlib.Core.Path.{_≡_};
 ghost use mathlib.Core.Bool.{true, false};
 ghost use Rattle.recovery.specs.Calls.{listed};
-ghost use Rattle.recovery.specs.Record.{fresh, registerOf, openOf, reclaimOf, closeOf, repairedOf, forgetOf, endOf, restartOf, listingOf, layoutreturnOf, replyAfter};
+ghost use Rattle.recovery.specs.Record.{freshAs, fresh, registerOf, openOf, reclaimOf, closeOf, repairedOf, forgetOf, endOf, restartOf, listingOf, layoutreturnOf, replyAfter};
 ghost use Prim.Native.Nat.{_<_};
 ghost use Rattle.capi.specs.Place.{isNumbered, soughtIn};
 ghost use Rattle.capi.specs.Returned.{answeredHeard, fileReply};
@@ -38,13 +38,21 @@ fn position(r: &Record, file: u64) -> usize
 // ---- By value.
 // LAYOUTRETURN on one file, but for the change, with its reply: a reply buffer under 24 bytes gets 28 before all else, and where it is handed on
 // none is written.
-fn heard(f: File, client: u64, grace: bool, number: u64, request: &[u8], reply: &mut [u8]) -> Heard
-    ensures { λ h. ⌜ (h ≡ answeredHeard number grace client (now (request .entry)) (now (reply .entry)) f) × (now (reply .exit) ≡ fileReply number grace client (now (request .entry)) (now (reply .entry)) f) ⌝ }
+fn heard(
+    f: File,
+    client: u64,
+    grace: bool,
+    old: bool,
+    number: u64,
+    request: &[u8],
+    reply: &mut [u8],
+) -> Heard
+    ensures { λ h. ⌜ (h ≡ answeredHeard number old grace client (now (request .entry)) (now (reply .entry)) f) × (now (reply .exit) ≡ fileReply number old grace client (now (request .entry)) (now (reply .entry)) f) ⌝ }
 {
     if reply.len() < 24 {
         return Heard::nothing(28);
     }
-    let h = f.heard(number, grace, client, request);
+    let h = f.heard(number, old, grace, client, request);
     if h.status == HANDED_ON {
         return h;
     }
@@ -84,6 +92,14 @@ pub extern "C" fn sc_record_fresh(r: &mut Record)
     ensures { λ _. ⌜ now (r .exit) ≡ fresh ⌝ }
 {
     *r = Record::fresh();
+}
+
+// The same, set up as old.
+#[no_mangle]
+pub extern "C" fn sc_record_fresh_old(r: &mut Record)
+    ensures { λ _. ⌜ now (r .exit) ≡ freshAs true ⌝ }
+{
+    *r = Record::fresh_old();
 }
 
 #[no_mangle]
@@ -175,7 +191,7 @@ pub extern "C" fn sc_record_layoutreturn(
         × (now (reply .exit) ≡ replyAfter file client (now (request .entry)) (now (reply .entry)) (now (r .entry))) ⌝ }
 {
     let i = position(r, file);
-    let s = heard(r.files[i], client, r.grace, file, request, reply);
+    let s = heard(r.files[i], client, r.grace, r.old, file, request, reply);
     r.files[i] = File::heed(r.files[i], s);
     s.status
 }

@@ -127,22 +127,22 @@ reportHeard n c p f = ifWhole (heardOf (f .mirrors) p) (ofIntent n c f (heardOf 
 abbrev pub handedOnCode : ℕ
 handedOnCode = 4294967295
 
--- step 4: 0 if the body is to be read
-abbrev pub phaseOf : Bool → Bool → ℕ
-phaseOf g true = cond g 0 10033
-phaseOf g false = cond g 10013 handedOnCode
+-- step 4: 0 if the body is to be read; o is whether the record is set up as old
+abbrev pub phaseOf : Bool → Bool → Bool → ℕ
+phaseOf o g true = cond o 10025 (cond g 0 10033)
+phaseOf o g false = cond g 10013 handedOnCode
 
-abbrev pub asksHeard : ℕ → Bool → ℕ → List ℕ → File → Request → Heard
-asksHeard n g c s f (request.Refused k) = heardNothing k
-asksHeard n g c s f request.Bulk = heardNothing handedOnCode
-asksHeard n g c s f (request.File a k) = cond (eqb (phaseOf g a) 0) (reportHeard n c (reportOf (bodyOf s)) f) (heardNothing (phaseOf g a))
+abbrev pub asksHeard : ℕ → Bool → Bool → ℕ → List ℕ → File → Request → Heard
+asksHeard n o g c s f (request.Refused k) = heardNothing k
+asksHeard n o g c s f request.Bulk = heardNothing handedOnCode
+asksHeard n o g c s f (request.File a k) = cond (eqb (phaseOf o g a) 0) (reportHeard n c (reportOf (bodyOf s)) f) (heardNothing (phaseOf o g a))
 
 -- steps 1 to 7
-unfoldable pub returnedHeard : ℕ → Bool → ℕ → List ℕ → File → Heard
-returnedHeard n g c s f = asksHeard n g c s f (requestOf s)
+unfoldable pub returnedHeard : ℕ → Bool → Bool → ℕ → List ℕ → File → Heard
+returnedHeard n o g c s f = asksHeard n o g c s f (requestOf s)
 
-unfoldable pub returnedFile : ℕ → Bool → ℕ → List ℕ → File → FileAnswered
-returnedFile n g c s f = heeds f (returnedHeard n g c s f)
+unfoldable pub returnedFile : ℕ → Bool → Bool → ℕ → List ℕ → File → FileAnswered
+returnedFile n o g c s f = heeds f (returnedHeard n o g c s f)
 
 -- ---- restart and the end of grace
 unfoldable pub restartedFile : File → File

@@ -267,14 +267,14 @@ impl File {
     }
 
     // Steps 1 to 7 of a LAYOUTRETURN, but for the change: what is heard; HANDED_ON where it is handed on.
-    pub fn heard(self, number: u64, grace: bool, client: u64, request: &[u8]) -> Heard
-        ensures { λ r. ⌜ r ≡ returnedHeard number grace client (now (request .entry)) self ⌝ }
+    pub fn heard(self, number: u64, old: bool, grace: bool, client: u64, request: &[u8]) -> Heard
+        ensures { λ r. ⌜ r ≡ returnedHeard number old grace client (now (request .entry)) self ⌝ }
     {
         match wire::request::read(request) {
             Request::Refused(k) => Heard::nothing(k),
             Request::Bulk => Heard::nothing(HANDED_ON),
             Request::File { anonymous, len } => {
-                let status = phase(grace, anonymous);
+                let status = phase(old, grace, anonymous);
                 if status != 0 {
                     return Heard::nothing(status);
                 }
@@ -304,10 +304,17 @@ impl File {
     }
 
     // Steps 1 to 7 of a LAYOUTRETURN; HANDED_ON where it is handed on.
-    pub fn layoutreturn(self, number: u64, grace: bool, client: u64, request: &[u8]) -> FileAnswered
-        ensures { λ r. ⌜ r ≡ returnedFile number grace client (now (request .entry)) self ⌝ }
+    pub fn layoutreturn(
+        self,
+        number: u64,
+        old: bool,
+        grace: bool,
+        client: u64,
+        request: &[u8],
+    ) -> FileAnswered
+        ensures { λ r. ⌜ r ≡ returnedFile number old grace client (now (request .entry)) self ⌝ }
     {
-        let h = self.heard(number, grace, client, request);
+        let h = self.heard(number, old, grace, client, request);
         let f = self.heed(h);
         FileAnswered {
             status: h.status,
@@ -376,11 +383,14 @@ fn unreclaimed(holds: bool, reclaimed: bool) -> bool
     if holds { !reclaimed } else { false }
 }
 
-// Step 4 of a LAYOUTRETURN: 0 if its body is to be read.
-fn phase(grace: bool, anonymous: bool) -> u32
-    ensures { λ r. ⌜ r ≡ phaseOf grace anonymous ⌝ }
+// Step 4 of a LAYOUTRETURN: 0 if its body is to be read; `old` is whether the record is set up as old.
+fn phase(old: bool, grace: bool, anonymous: bool) -> u32
+    ensures { λ r. ⌜ r ≡ phaseOf old grace anonymous ⌝ }
 {
     if anonymous {
+        if old {
+            return 10025;
+        }
         if grace { 0 } else { 10033 }
     } else {
         if grace { 10013 } else { HANDED_ON }

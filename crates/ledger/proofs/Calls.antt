@@ -85,12 +85,13 @@ module _ {r : Record} {l : Ledger} (n : ℕ) (h : File → FileAnswered) (g : Ro
   stored : (i : ℕ) (w : Row) (f : File) → There n r l i w → (b : Bool) → FileIs (l .grace) f (cond b (g w) w)
       → Matches (withFiles (set (r .files) i f) r) (cond b (onRow l n g) l)
   stored i w f z true k = record {
+    old = m .old;
     grace = m .grace;
     long = length-set (r .files) i f ∙ m .long;
     rows = z .put f g k;
     rising = rw (amend-numbers (isRow n) g same-number (l .rows)) (m .rising);
   }
-  stored i w f z false k = record { grace = m .grace; long = length-set (r .files) i f ∙ m .long; rows = z .keep f k; rising = m .rising }
+  stored i w f z false k = record { old = m .old; grace = m .grace; long = length-set (r .files) i f ∙ m .long; rows = z .keep f k; rising = m .rising }
 
   on-found : AtFile n r l → RecordAgrees (onPlace n h r) l (onRow l n g) (cond (not (registered n l)) 70 (t (rowOf n l)))
   unfolding registered rowOf
@@ -160,6 +161,7 @@ forgets-row n i w m z false true = record { same = refl; kept = m }
 forgets-row {r} {l} n i w m z false false = rw (here n r l i w z) (record {
   same = refl;
   kept = record {
+    old = m .old;
     grace = m .grace;
     long = leftOut-length blankFile i (r .files) ∙ m .long;
     rows = z .out blankFile refl;
@@ -290,6 +292,7 @@ unfolding registered
 register-new {r} {l} n ds q m z k = branch (leb 64 (length (l .rows))) (is-full m) (λ e. record { same = refl; kept = m }) (λ e. record {
   same = refl;
   kept = record {
+    old = m .old;
     grace = m .grace;
     long = enter-length (fileOf n (placedMirrors ds)) (r .files) ∙ m .long;
     rows = entered (rw z (file-new n ds q)) (m .rows) (omega (arith, leb-false 64 (length (l .rows)) e, m .long)) (m .rising);
@@ -324,7 +327,7 @@ unfolding restartedFile
 restarted-free f h = h
 
 abbrev endedRecord : Record → Record
-endedRecord r = record { files = map endedFile (r .files); grace = false }
+endedRecord r = record { files = map endedFile (r .files); grace = false; old = r .old }
 
 end-by : {r : Record} {l : Ledger} → Matches r l → (b : Bool) → l .grace ≡ b → RecordAgrees (endOf r) l (withGrace false (withRows (map ended (l .rows)) l)) (cond (not b) 10033 0)
 unfolding endOf
@@ -332,6 +335,7 @@ end-by {r} m false e = rw (ap (λ g. cond g (answered 0 (endedRecord r)) (answer
 end-by {r} {l} m true e = rw (ap (λ g. cond g (answered 0 (endedRecord r)) (answered 10033 r)) (m .grace ∙ e)) (record {
   same = refl;
   kept = record {
+    old = m .old;
     grace = refl;
     long = length-map (r .files) endedFile ∙ m .long;
     rows = slots-map {R = FileIs (l .grace)} endedFile ended (λ f w k. file-ended f w (rw e at k)) (λ f k. ended-free f k) (m .rows);
@@ -347,6 +351,7 @@ unfolding restartOf
 restart-agrees {r} {l} m = record {
   same = refl;
   kept = record {
+    old = m .old;
     grace = refl;
     long = length-map (r .files) restartedFile ∙ m .long;
     rows = slots-map restartedFile restarted (λ f w k. file-restarted (l .grace) f w k) (λ f k. restarted-free f k) (m .rows);

@@ -12,7 +12,7 @@ use Rattle.files.specs.File.{blankFile, handedOnCode, returnedHeard, returnedFi
 use Rattle.places.proofs.Slots.{Slots, all-replicate}
 use Rattle.recovery.specs.Calls.{Call, register, opening, reclaim, close, repaired, forget, endGrace, restart, layoutReturn, resilver, offered, Answer, said, replied, handedOn, listed, lend}
 use Rattle.ledger.specs.Ledger.{Ledger, noRows, judge, apply, accepted, feed, reply, isMarked, isOffered}
-use Rattle.recovery.specs.Record.{fresh, returning, writing, returnedOf, layoutreturnOf, replyAfter}
+use Rattle.recovery.specs.Record.{freshAs, returning, writing, returnedOf, layoutreturnOf, replyAfter}
 use Rattle.ledger.specs.History.{Step, stepOf, returnStep, step, answers, verdicts, recordAfter, ledgerAfter}
 use Rattle.ledger.specs.Demand3.{ledgerOf, Holds, Demand3}
 use Rattle.recovery.specs.declared.record.Record.{Record}
@@ -88,6 +88,20 @@ step-agrees r l (resilver a b) m = by-list _ r l (resilver a b) _ _ a b (resilve
 step-agrees r l (offered a b) m = by-list _ r l (offered a b) _ _ a b (offered-agrees m a b) m
 
 -- ---- any list of calls
+same-edition : (l : Ledger) (x : Call) → apply l x .old ≡ l .old
+unfolding apply
+same-edition l (register n s) = refl
+same-edition l (opening n c) = refl
+same-edition l (reclaim n c) = refl
+same-edition l (close n c) = refl
+same-edition l (repaired n) = refl
+same-edition l (forget n) = refl
+same-edition l endGrace = refl
+same-edition l restart = refl
+same-edition l (layoutReturn n c s d) = refl
+same-edition l (resilver a b) = refl
+same-edition l (offered a b) = refl
+
 all-answered : (calls : List Call) (r : Record) (l : Ledger) → Matches r l → answers r calls ≡ verdicts l calls (answers r calls)
 unfolding answers verdicts
 all-answered [] r l m = refl
@@ -100,17 +114,29 @@ unfolding answers recordAfter ledgerAfter
 after-all [] r l m = m
 after-all (x ∷ xs) r l m = let s = step-agrees r l x m in after-all xs (step r x .after) (feed l x (step r x .answer)) (rw (s .answer) (s .after))
 
-pub fresh-matches : Matches fresh noRows
-fresh-matches = record { grace = refl; long = refl; rows = Slots.rest (all-replicate 64 blankFile refl); rising = tt }
+pub fresh-matches : (old : Bool) → Matches (freshAs old) (noRows old)
+fresh-matches old = record { old = refl; grace = refl; long = refl; rows = Slots.rest (all-replicate 64 blankFile refl); rising = tt }
+
+-- no call changes the ledger's edition
+kept-edition : (calls : List Call) (l : Ledger) (given : List Answer) → ledgerAfter l calls given .old ≡ l .old
+unfolding ledgerAfter feed
+kept-edition [] l given = refl
+kept-edition (x ∷ xs) l [] = refl
+kept-edition (x ∷ xs) l (a ∷ given) = kept-edition xs (feed l x a) given ∙ by (accepted a)
+  where
+    by : (b : Bool) → cond b (apply l x) l .old ≡ l .old
+    by true = same-edition l x
+    by false = refl
 
 pub history : Demand3
 unfolding judge
-history calls =
-    let m = after-all calls fresh noRows fresh-matches in
+history old calls =
+    let m = after-all calls (freshAs old) (noRows old) (fresh-matches old) in
     record {
-      answered = all-answered calls fresh noRows fresh-matches;
+      answered = all-answered calls (freshAs old) (noRows old) (fresh-matches old);
       resilvers = λ a b. resilver-agrees m a b;
       offers = λ a b. offered-agrees m a b;
-      marked = one-list isMarked (ledgerOf calls) (m .rising);
-      idle = one-list isOffered (ledgerOf calls) (m .rising);
+      marked = one-list isMarked (ledgerOf old calls) (m .rising);
+      edition = m .old ∙ kept-edition calls (noRows old) (answers (freshAs old) calls);
+      idle = one-list isOffered (ledgerOf old calls) (m .rising);
     }

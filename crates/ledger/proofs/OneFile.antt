@@ -163,13 +163,13 @@ file-ended f w h = record {
 
 -- ---- a report
 reports-at : {g : Bool} {f : File} {w : Row} (c : ℕ) (xs : List DeviceError) → FileIs g f w → AtIntent c g f w
-    → FileAgrees g (heeds f (ofClient (over (told (f .mirrors)) (heardNothing 0) xs) (first (isIntent c) (f .intents)))) w (reported xs w) (refused (intentRules c w))
+    → FileAgrees g (heeds f (ofClient (over (told (f .mirrors)) (heardNothing 0) xs) (first (isIntent c) (f .intents)))) w (reported false xs w) (refused (intentRules c w))
 unfolding has
 reports-at {f} c xs h (missing a b) = rw (a, b, nothing-heeded 10034 f) (record { same = refl; kept = h })
 reports-at {f} c xs h (found i y t) = rw (t .at, t .there) (record { same = status-stays (f .mirrors) xs (heardNothing 0); kept = file-after-report xs h })
 
 pub file-reported : {g : Bool} {f : File} {w : Row} (c : ℕ) (xs : List DeviceError) → FileIs g f w
-    → FileAgrees g (heeds f (ofClient (over (told (f .mirrors)) (heardNothing 0) xs) (first (isIntent c) (f .intents)))) w (reported xs w) (refused (intentRules c w))
+    → FileAgrees g (heeds f (ofClient (over (told (f .mirrors)) (heardNothing 0) xs) (first (isIntent c) (f .intents)))) w (reported false xs w) (refused (intentRules c w))
 file-reported c xs h = reports-at c xs h (at-intent c h)
 
 -- ---- the source

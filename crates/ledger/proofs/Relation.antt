@@ -44,6 +44,7 @@ NoFile f = f .used ≡ false
 
 -- ---- THE RELATION
 pub record Matches (r : Record) (l : Ledger) : Type 0 where
+  pub old : r .old ≡ l .old
   pub grace : r .grace ≡ l .grace
   pub long : length (r .files) ≡ 64
   pub rows : Slots (FileIs (l .grace)) NoFile (r .files) (l .rows)

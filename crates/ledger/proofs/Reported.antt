@@ -103,7 +103,7 @@ module _ (ms : List Mirror) (w : Row) (s : Slots MirrorIs NoMirror ms (w .mirror
   heard-all (x ∷ xs) h bs b k = heard-item h x xs bs b (names w (deviceOf x)) refl k (λ cs c j. heard-all xs (told ms h x) cs c j)
 
 -- ---- a file that heard a whole report
-after-report : {g : Bool} {f : File} {w : Row} (h : Heard) (xs : List DeviceError) → FileIs g f w → Heeds (f .mirrors) h w xs (w .blamed) false → FileIs g (heededFile h f) (reported xs w)
+after-report : {g : Bool} {f : File} {w : Row} (h : Heard) (xs : List DeviceError) → FileIs g f w → Heeds (f .mirrors) h w xs (w .blamed) false → FileIs g (heededFile h f) (reported false xs w)
 unfolding heededFile
 after-report h xs k (named p q) = rw (p, q) (with-mark k refl)
 after-report {g} {f} {w} h xs k (mirrors-only p q) = rw (p, q .unknown) (by (any isFault xs) (q .failed))
@@ -114,7 +114,7 @@ after-report {g} {f} {w} h xs k (mirrors-only p q) = rw (p, q .unknown) (by (any
     by true e = rw e (with-mark (with-copies k (q .copies)) refl)
     by false e = rw e k
 
-pub file-after-report : {g : Bool} {f : File} {w : Row} (xs : List DeviceError) → FileIs g f w → FileIs g (heededFile (over (told (f .mirrors)) (heardNothing 0) xs) f) (reported xs w)
+pub file-after-report : {g : Bool} {f : File} {w : Row} (xs : List DeviceError) → FileIs g f w → FileIs g (heededFile (over (told (f .mirrors)) (heardNothing 0) xs) f) (reported false xs w)
 file-after-report {g} {f} {w} xs k =
     after-report _ xs k
     (heard-all (f .mirrors) w (k .copies .mirrors) xs (heardNothing 0) (w .blamed) false (record { copies = rw (none-accused 4 (f .mirrors)) (k .copies); flags = sym (k .copies .four); unknown = refl; failed = refl }))

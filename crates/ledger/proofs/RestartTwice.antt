@@ -1,7 +1,7 @@
 -- Ticket 14 is proved here: `restart-twice : RestartTwice`, `reclaim-again : ReclaimAgain`. Two ledgers go side by side from the one more restart on, and every
 -- call up to the end keeps their rows related (Worse.antt). In this order: a call on both; the calls up to the end; the end; two histories; the record's list; the
 -- record's blame; the first theorem; a restart and the end at once; the second.
-use mathlib.Core.Path.{_≡_, refl, ap, sym, _∙_}
+use mathlib.Core.Path.{_≡_, refl, ap, ap₂, sym, _∙_}
 use mathlib.Core.List.{List, [], _∷_, _++_, map}
 use mathlib.Core.Bool.{Bool, true, false, not, cond}
 use Prim.Native.Nat.{ℕ, _≤_}
@@ -21,7 +21,7 @@ use Rattle.mirroring.specs.Mirrors.{noMirror}
 use Rattle.mirroring.specs.declared.mirrors.Mirror.{Mirror}
 use Rattle.files.specs.File.{noFile}
 use Rattle.recovery.specs.Calls.{Call, register, opening, reclaim, close, repaired, forget, endGrace, restart, layoutReturn, resilver, offered, replied, lend}
-use Rattle.recovery.specs.Record.{fresh, endOf}
+use Rattle.recovery.specs.Record.{freshAs, endOf}
 use Rattle.recovery.specs.declared.record.Record.{Record}
 use Rattle.ledger.specs.Ledger.{Row, Ledger, noRows, isRow, newRow, registered, rowOf, isOpen, numbers, isMarked, needRepair, refused, intentRules, reportRules, closeRules, repairedRules, lost, hasReclaimed, closed, mended, restarted, ended, reported, errorsOf, onRow, judge, judgeRequest, apply, accepted, feed}
 use Rattle.ledger.specs.Lists.{rowPasses}
@@ -36,16 +36,17 @@ use Rattle.ledger.proofs.Within.{any-within}
 use Rattle.ledger.proofs.Worse.{Worse, nothing-in, after-restart, heeded, Kept, reclaim-kept, close-kept, repaired-kept, report-kept, restart-kept}
 
 -- ---- a call on two ledgers in grace
-abbrev inGrace : List Row → Ledger
-inGrace ws = record { grace = true; rows = ws }
+abbrev inGrace : Bool → List Row → Ledger
+inGrace o ws = record { old = o; grace = true; rows = ws }
 
 record Side (l l′ : Ledger) : Type 0 where
+  old : l′ .old ≡ l .old
   grace : l .grace ≡ true
   grace′ : l′ .grace ≡ true
   rows : Pairs Worse (l .rows) (l′ .rows)
 
-side : {ws vs : List Row} → Pairs Worse ws vs → Side (inGrace ws) (inGrace vs)
-side s = record { grace = refl; grace′ = refl; rows = s }
+side : {o : Bool} {ws vs : List Row} → Pairs Worse ws vs → Side (inGrace o ws) (inGrace o vs)
+side s = record { old = refl; grace = refl; grace′ = refl; rows = s }
 
 pairs-amend : (n : ℕ) (g : Row → Row) → ((w v : Row) → Worse w v → Worse (g w) (g v)) → {ws vs : List Row} → Pairs Worse ws vs → Pairs Worse (amend (isRow n) g ws) (amend (isRow n) g vs)
 unfolding amend
@@ -85,56 +86,57 @@ module _ (n : ℕ) (t : Row → ℕ) (g : Row → Row) (d : Row) where
       by true e = here (eqb (t w) 0)
       by false e = e
 
-  heeded-ledger : (ws : List Row) → cond (eqb (statusIn ws) 0) (inGrace (amend (isRow n) g ws)) (inGrace ws) ≡ inGrace (amend (isRow n) (heeded t g) ws)
-  heeded-ledger ws = by (eqb (statusIn ws) 0) ∙ ap inGrace (heeded-rows ws)
+  heeded-ledger : (o : Bool) (ws : List Row) → cond (eqb (statusIn ws) 0) (inGrace o (amend (isRow n) g ws)) (inGrace o ws) ≡ inGrace o (amend (isRow n) (heeded t g) ws)
+  heeded-ledger o ws = by (eqb (statusIn ws) 0) ∙ ap (inGrace o) (heeded-rows ws)
     where
-      by : (b : Bool) → cond b (inGrace (amend (isRow n) g ws)) (inGrace ws) ≡ inGrace (cond b (amend (isRow n) g ws) ws)
+      by : (b : Bool) → cond b (inGrace o (amend (isRow n) g ws)) (inGrace o ws) ≡ inGrace o (cond b (amend (isRow n) g ws) ws)
       by true = refl
       by false = refl
 
-one-file : (n : ℕ) (t : Row → ℕ) (g : Row → Row) → Kept t g → {ws vs : List Row} → Pairs Worse ws vs
-    → Side (cond (eqb (statusIn n t g (newRow n []) ws) 0) (inGrace (amend (isRow n) g ws)) (inGrace ws)) (cond (eqb (statusIn n t g (newRow n []) vs) 0) (inGrace (amend (isRow n) g vs)) (inGrace vs))
-one-file n t g k {ws} {vs} s = rw (heeded-ledger n t g (newRow n []) ws, heeded-ledger n t g (newRow n []) vs) (side (pairs-amend n (heeded t g) k s))
+one-file : (o : Bool) (n : ℕ) (t : Row → ℕ) (g : Row → Row) → Kept t g → {ws vs : List Row} → Pairs Worse ws vs
+    → Side (cond (eqb (statusIn n t g (newRow n []) ws) 0) (inGrace o (amend (isRow n) g ws)) (inGrace o ws)) (cond (eqb (statusIn n t g (newRow n []) vs) 0) (inGrace o (amend (isRow n) g vs)) (inGrace o vs))
+one-file o n t g k {ws} {vs} s = rw (heeded-ledger n t g (newRow n []) o ws, heeded-ledger n t g (newRow n []) o vs) (side (pairs-amend n (heeded t g) k s))
 
 -- LAYOUTRETURN: only a report of the all-zero stateid, whole, is accepted in grace
-return-side : (n c : ℕ) (s d : List ℕ) (q : Request) → requestOf s ≡ q → {ws vs : List Row} → Pairs Worse ws vs
-    → Side (feed (inGrace ws) (layoutReturn n c s d) (judgeRequest (inGrace ws) n c s d q)) (feed (inGrace vs) (layoutReturn n c s d) (judgeRequest (inGrace vs) n c s d q))
+return-side : (o : Bool) (n c : ℕ) (s d : List ℕ) (q : Request) → requestOf s ≡ q → {ws vs : List Row} → Pairs Worse ws vs
+    → Side (feed (inGrace o ws) (layoutReturn n c s d) (judgeRequest (inGrace o ws) n c s d q)) (feed (inGrace o vs) (layoutReturn n c s d) (judgeRequest (inGrace o vs) n c s d q))
 unfolding feed apply registered rowOf
-return-side n c s d (request.Refused k) e h = rw (ne-eqb k 0 (refused-number s e)) (side h)
-return-side n c s d request.Bulk e h = side h
-return-side n c s d (request.File false k) e h = side h
-return-side n c s d (request.File true k) e {ws} {vs} h = by (reportOf (bodyOf s))
+return-side o n c s d (request.Refused k) e h = rw (ne-eqb k 0 (refused-number s e)) (side h)
+return-side o n c s d request.Bulk e h = side h
+return-side o n c s d (request.File false k) e h = side h
+return-side true n c s d (request.File true k) e h = side h
+return-side false n c s d (request.File true k) e {ws} {vs} h = by (reportOf (bodyOf s))
   where
     by : (p : Report)
-        → Side (cond (eqb (refused (reportRules (inGrace ws) n c p)) 0) (onRow (inGrace ws) n (reported (errorsOf p))) (inGrace ws)) (cond (eqb (refused (reportRules (inGrace vs) n c p)) 0) (onRow (inGrace vs) n (reported (errorsOf p))) (inGrace vs))
+        → Side (cond (eqb (refused (reportRules (inGrace false ws) n c p)) 0) (onRow (inGrace false ws) n (reported false (errorsOf p))) (inGrace false ws)) (cond (eqb (refused (reportRules (inGrace false vs) n c p)) 0) (onRow (inGrace false vs) n (reported false (errorsOf p))) (inGrace false vs))
     by Malformed = side h
     by Statistics = side h
-    by (Whole xs) = one-file n (λ w. refused (intentRules c w)) (reported xs) (report-kept c xs) h
+    by (Whole xs) = one-file false n (λ w. refused (intentRules c w)) (reported false xs) (report-kept c xs) h
 
-step-side : (x : Call) {ws vs : List Row} → (x ≡ endGrace → ⊥) → Pairs Worse ws vs → Side (feed (inGrace ws) x (judge (inGrace ws) x)) (feed (inGrace vs) x (judge (inGrace vs) x))
+step-side : (o : Bool) (x : Call) {ws vs : List Row} → (x ≡ endGrace → ⊥) → Pairs Worse ws vs → Side (feed (inGrace o ws) x (judge (inGrace o ws) x)) (feed (inGrace o vs) x (judge (inGrace o vs) x))
 unfolding feed judge apply registered rowOf
-step-side (register n s) k h = side h
-step-side (opening n c) k h = side h
-step-side (reclaim n c) k h = one-file n (λ w. refused (intentRules c w)) (hasReclaimed c) (reclaim-kept c) h
-step-side (close n c) k h = one-file n (λ w. refused (closeRules true c w)) (closed c) (close-kept c) h
-step-side (repaired n) k h = one-file n (λ w. refused (repairedRules w)) mended repaired-kept h
-step-side (forget n) k h = side h
-step-side endGrace k h = absurd (k refl)
-step-side restart k h = side (pairs-both restarted restart-kept h)
-step-side (layoutReturn n c s d) {ws} {vs} k h = by (ltb (length d) 24)
+step-side o (register n s) k h = side h
+step-side o (opening n c) k h = side h
+step-side o (reclaim n c) k h = one-file o n (λ w. refused (intentRules c w)) (hasReclaimed c) (reclaim-kept c) h
+step-side o (close n c) k h = one-file o n (λ w. refused (closeRules true c w)) (closed c) (close-kept c) h
+step-side o (repaired n) k h = one-file o n (λ w. refused (repairedRules w)) mended repaired-kept h
+step-side o (forget n) k h = side h
+step-side o endGrace k h = absurd (k refl)
+step-side o restart k h = side (pairs-both restarted restart-kept h)
+step-side o (layoutReturn n c s d) {ws} {vs} k h = by (ltb (length d) 24)
   where
-    by : (b : Bool) → Side (feed (inGrace ws) (layoutReturn n c s d) (cond b (replied 28 d) (judgeRequest (inGrace ws) n c s d (requestOf s)))) (feed (inGrace vs) (layoutReturn n c s d) (cond b (replied 28 d) (judgeRequest (inGrace vs) n c s d (requestOf s))))
+    by : (b : Bool) → Side (feed (inGrace o ws) (layoutReturn n c s d) (cond b (replied 28 d) (judgeRequest (inGrace o ws) n c s d (requestOf s)))) (feed (inGrace o vs) (layoutReturn n c s d) (cond b (replied 28 d) (judgeRequest (inGrace o vs) n c s d (requestOf s))))
     by true = side h
-    by false = return-side n c s d (requestOf s) refl h
-step-side (resilver a b) {ws} {vs} k h = rw (lend-changes-nothing _ _ a b, lend-changes-nothing _ _ a b) (side h)
-step-side (offered a b) {ws} {vs} k h = rw (lend-changes-nothing _ _ a b, lend-changes-nothing _ _ a b) (side h)
+    by false = return-side o n c s d (requestOf s) refl h
+step-side o (resilver a b) {ws} {vs} k h = rw (lend-changes-nothing _ _ a b, lend-changes-nothing _ _ a b) (side h)
+step-side o (offered a b) {ws} {vs} k h = rw (lend-changes-nothing _ _ a b, lend-changes-nothing _ _ a b) (side h)
 
 -- ---- the calls up to the end
-ledger-is : (l : Ledger) → l .grace ≡ true → l ≡ inGrace (l .rows)
-ledger-is l e = ap (λ g. record { grace = g; rows = l .rows }) e
+ledger-is : (l : Ledger) {o : Bool} → l .old ≡ o → l .grace ≡ true → l ≡ inGrace o (l .rows)
+ledger-is l u e = ap₂ {C = Ledger} (λ o g. record { old = o; grace = g; rows = l .rows }) u e
 
 next-side : (x : Call) {l l′ : Ledger} → (x ≡ endGrace → ⊥) → Side l l′ → Side (feed l x (judge l x)) (feed l′ x (judge l′ x))
-next-side x {l} {l′} k h = rw (ledger-is l (h .grace), ledger-is l′ (h .grace′)) (step-side x k (h .rows))
+next-side x {l} {l′} k h = rw (ledger-is l refl (h .grace), ledger-is l′ (h .old) (h .grace′)) (step-side (l .old) x k (h .rows))
 
 -- a record out of grace ends the period
 over-at-once : (r : Record) (xs : List Call) → r .grace ≡ false → inGraceThrough r xs ≡ true → ⊥
@@ -213,12 +215,12 @@ module _ (n : ℕ) where
       by true false e t = true-false (sym e)
       by false true e t = true-false e
 
-  ended-rows : {ws vs : List Row} → Pairs Worse ws vs → SameFile n (fed (inGrace ws) (endGrace ∷ [])) (fed (inGrace vs) (endGrace ∷ []))
+  ended-rows : (o : Bool) {ws vs : List Row} → Pairs Worse ws vs → SameFile n (fed (inGrace o ws) (endGrace ∷ [])) (fed (inGrace o vs) (endGrace ∷ []))
   unfolding fed feed judge apply registered rowOf
-  ended-rows s = let t = pairs-both ended ended-kept s in record { there = any-row t; row = first-row (newRow n []) t }
+  ended-rows o s = let t = pairs-both ended ended-kept s in record { there = any-row t; row = first-row (newRow n []) t }
 
   ended-side : {l l′ : Ledger} → Side l l′ → SameFile n (fed l (endGrace ∷ [])) (fed l′ (endGrace ∷ []))
-  ended-side {l} {l′} h = rw (ledger-is l (h .grace), ledger-is l′ (h .grace′)) (ended-rows (h .rows))
+  ended-side {l} {l′} h = rw (ledger-is l refl (h .grace), ledger-is l′ (h .old) (h .grace′)) (ended-rows (l .old) (h .rows))
 
 -- ---- two histories
 restarts : {ws : List Row} → All Sound ws → Pairs Worse ws (map restarted ws)
@@ -227,28 +229,28 @@ restarts (All.all-cons {x = w} h t) = Pairs.pairs-cons (after-restart w h) (rest
 
 restart-side : (l : Ledger) → l .grace ≡ true → All Sound (l .rows) → Side l (feed l restart (judge l restart))
 unfolding feed judge apply
-restart-side l e h = record { grace = e; grace′ = refl; rows = restarts h }
+restart-side l e h = record { old = refl; grace = e; grace′ = refl; rows = restarts h }
 
-module _ (before during : List Call) (g : inGraceThrough (recordAfter fresh before) during ≡ true) (n : ℕ) where
+module _ (old : Bool) (before during : List Call) (g : inGraceThrough (recordAfter (freshAs old) before) during ≡ true) (n : ℕ) where
   abbrev so-far : Ledger
-  so-far = fed noRows before
+  so-far = fed (noRows old) before
 
-  matched : Matches (recordAfter fresh before) so-far
-  matched = rw (fed-ledger before) at (after-all before fresh noRows fresh-matches)
+  matched : Matches (recordAfter (freshAs old) before) so-far
+  matched = rw (fed-ledger old before) at (after-all before (freshAs old) (noRows old) (fresh-matches old))
 
   sides : Side (fed so-far during) (fed (feed so-far restart (judge so-far restart)) during)
   sides =
-      through-side during (recordAfter fresh before) so-far (feed so-far restart (judge so-far restart)) matched g
-      (restart-side so-far (sym (matched .grace) ∙ still-in (recordAfter fresh before) during g) (sound-fed before noRows All.all-nil))
+      through-side during (recordAfter (freshAs old) before) so-far (feed so-far restart (judge so-far restart)) matched g
+      (restart-side so-far (sym (matched .grace) ∙ still-in (recordAfter (freshAs old) before) during g) (sound-fed before (noRows old) All.all-nil))
 
-  once-is : ledgerOf (before ++ during ++ endGrace ∷ []) ≡ fed (fed so-far during) (endGrace ∷ [])
-  once-is = fed-ledger (before ++ during ++ endGrace ∷ []) ∙ fed-append (before ++ during) (endGrace ∷ []) noRows ∙ ap (λ l. fed l (endGrace ∷ [])) (fed-append before during noRows)
+  once-is : ledgerOf old (before ++ during ++ endGrace ∷ []) ≡ fed (fed so-far during) (endGrace ∷ [])
+  once-is = fed-ledger old (before ++ during ++ endGrace ∷ []) ∙ fed-append (before ++ during) (endGrace ∷ []) (noRows old) ∙ ap (λ l. fed l (endGrace ∷ [])) (fed-append before during (noRows old))
 
-  twice-is : ledgerOf (before ++ restart ∷ during ++ endGrace ∷ []) ≡ fed (fed (feed so-far restart (judge so-far restart)) during) (endGrace ∷ [])
+  twice-is : ledgerOf old (before ++ restart ∷ during ++ endGrace ∷ []) ≡ fed (fed (feed so-far restart (judge so-far restart)) during) (endGrace ∷ [])
   unfolding fed
-  twice-is = fed-ledger (before ++ restart ∷ during ++ endGrace ∷ []) ∙ fed-append (before ++ restart ∷ during) (endGrace ∷ []) noRows ∙ ap (λ l. fed l (endGrace ∷ [])) (fed-append before (restart ∷ during) noRows)
+  twice-is = fed-ledger old (before ++ restart ∷ during ++ endGrace ∷ []) ∙ fed-append (before ++ restart ∷ during) (endGrace ∷ []) (noRows old) ∙ ap (λ l. fed l (endGrace ∷ [])) (fed-append before (restart ∷ during) (noRows old))
 
-  same-file : SameFile n (ledgerOf (before ++ during ++ endGrace ∷ [])) (ledgerOf (before ++ restart ∷ during ++ endGrace ∷ []))
+  same-file : SameFile n (ledgerOf old (before ++ during ++ endGrace ∷ [])) (ledgerOf old (before ++ restart ∷ during ++ endGrace ∷ []))
   same-file = rw (once-is, twice-is) (ended-side n sides)
 
 -- ---- the record's list: room for 64 is enough
@@ -262,22 +264,22 @@ take-fill [] a h = refl
 take-fill (n ∷ ns) [] h = absurd (omega arith)
 take-fill (n ∷ ns) (x ∷ xs) h = ap {B = List ℕ} (λ s. n ∷ s) (take-fill ns xs (omega arith))
 
-few-files : (calls : List Call) → length (numbers (needRepair (ledgerOf calls))) ≤ 64
-few-files calls =
-    let m = after-all calls fresh noRows fresh-matches in
-    let l = ledgerOf calls in
+few-files : (old : Bool) (calls : List Call) → length (numbers (needRepair (ledgerOf old calls))) ≤ 64
+few-files old calls =
+    let m = after-all calls (freshAs old) (noRows old) (fresh-matches old) in
+    let l = ledgerOf old calls in
     omega (arith, length-map (needRepair l) (λ (w : Row). w .number), chosen-length isMarked (l .rows), slots-length (m .rows), m .long)
 
 listed-files : (ns ss a b : List ℕ) → length ns ≤ length a → length ns ≤ length b → filesOf (lend ns ss a b) ≡ ns
 unfolding lend
 listed-files ns ss a b h k = rw (le-leb (length ns) (length a) h, le-leb (length ns) (length b) k) (take-fill ns a h)
 
-resilver-files : (calls : List Call) → resilverFiles calls ≡ numbers (needRepair (ledgerOf calls))
+resilver-files : (old : Bool) (calls : List Call) → resilverFiles old calls ≡ numbers (needRepair (ledgerOf old calls))
 unfolding judge
-resilver-files calls = ap filesOf (history calls .resilvers (replicate 64 0) (replicate 64 0)) ∙ listed-files (numbers (needRepair (ledgerOf calls))) _ (replicate 64 0) (replicate 64 0) (few-files calls) (few-files calls)
+resilver-files old calls = ap filesOf (history old calls .resilvers (replicate 64 0) (replicate 64 0)) ∙ listed-files (numbers (needRepair (ledgerOf old calls))) _ (replicate 64 0) (replicate 64 0) (few-files old calls) (few-files old calls)
 
-is-listed : (calls : List Call) (n : ℕ) → has n (resilverFiles calls) ≡ rowPasses isMarked n (ledgerOf calls)
-is-listed calls n = ap (has n) (resilver-files calls) ∙ history calls .marked .is .exactly n
+is-listed : (old : Bool) (calls : List Call) (n : ℕ) → has n (resilverFiles old calls) ≡ rowPasses isMarked n (ledgerOf old calls)
+is-listed old calls n = ap (has n) (resilver-files old calls) ∙ history old calls .marked .is .exactly n
 
 both-true : (b : Bool) {p q : Bool} → (p ≡ true → q ≡ true) → cond b p false ≡ true → cond b q false ≡ true
 both-true true f e = f e
@@ -308,18 +310,18 @@ module _ (r : Record) (l : Ledger) (n i : ℕ) where
       let f = z .pair noFile in
       rw (here n r l j w z, it-is n r l j w z) (ap (λ (m : Mirror). m .blamed) (List·getD-eq-default (getD (r .files) j noFile .mirrors) noMirror (omega (arith, ltb-false i 4 k, f .copies .four))))
 
-blame-is : (calls : List Call) (n i : ℕ) → isBlamed n i (recordAfter fresh calls) ≡ cond (ltb i 4) (has i (rowOf n (ledgerOf calls) .blamed)) false
-blame-is calls n i = blame-by (recordAfter fresh calls) (ledgerOf calls) n i (at-file n (after-all calls fresh noRows fresh-matches)) (ltb i 4) refl
+blame-is : (old : Bool) (calls : List Call) (n i : ℕ) → isBlamed n i (recordAfter (freshAs old) calls) ≡ cond (ltb i 4) (has i (rowOf n (ledgerOf old calls) .blamed)) false
+blame-is old calls n i = blame-by (recordAfter (freshAs old) calls) (ledgerOf old calls) n i (at-file n (after-all calls (freshAs old) (noRows old) (fresh-matches old))) (ltb i 4) refl
 
 pub restart-twice : RestartTwice
-restart-twice before during g =
+restart-twice old before during g =
     let once = before ++ during ++ endGrace ∷ [] in
     let twice = before ++ restart ∷ during ++ endGrace ∷ [] in
     record {
-      listed = λ n e. is-listed twice n ∙ passes-too n (ledgerOf once) (ledgerOf twice) (same-file before during g n) (sym (is-listed once n) ∙ e);
-      blamed = λ n i e. same-file before during g n .row .blamed i e;
-      held = λ n i e. blame-is twice n i ∙ both-true (ltb i 4) (same-file before during g n .row .blamed i) (sym (blame-is once n i) ∙ e);
-      mirrors = λ n. same-file before during g n .row .mirrors;
+      listed = λ n e. is-listed old twice n ∙ passes-too n (ledgerOf old once) (ledgerOf old twice) (same-file old before during g n) (sym (is-listed old once n) ∙ e);
+      blamed = λ n i e. same-file old before during g n .row .blamed i e;
+      held = λ n i e. blame-is old twice n i ∙ both-true (ltb i 4) (same-file old before during g n .row .blamed i) (sym (blame-is old once n i) ∙ e);
+      mirrors = λ n. same-file old before during g n .row .mirrors;
     }
 
 -- ---- a restart and the end of grace at once
@@ -348,7 +350,7 @@ unfolding fed feed judge apply registered rowOf
 restarted-and-ended n l e = forgotten n (l .rows) e
 
 pub reclaim-again : ReclaimAgain
-reclaim-again before n e =
+reclaim-again old before n e =
     let calls = before ++ restart ∷ endGrace ∷ [] in
-    is-listed calls n ∙ ap (rowPasses isMarked n) (fed-ledger calls ∙ fed-append before (restart ∷ endGrace ∷ []) noRows)
-    ∙ restarted-and-ended n (fed noRows before) (rw (fed-ledger before) at e)
+    is-listed old calls n ∙ ap (rowPasses isMarked n) (fed-ledger old calls ∙ fed-append before (restart ∷ endGrace ∷ []) (noRows old))
+    ∙ restarted-and-ended n (fed (noRows old) before) (rw (fed-ledger old before) at e)

@@ -47,13 +47,14 @@ read-as s request.Bulk e = tt
 read-as s (request.File a n) e = tt
 
 -- ---- steps 5 to 7, in grace
-reported-number : (xs : List DeviceError) (w : Row) → reported xs w .number ≡ w .number
-reported-number xs w = by (any (isStranger w) xs) (any isFault xs)
+reported-number : (o : Bool) (xs : List DeviceError) (w : Row) → reported o xs w .number ≡ w .number
+reported-number o xs w = by o (any (isStranger w) xs) (any isFault xs)
   where
-    by : (a b : Bool) → cond a (withMark true w) (cond b (withMark true (withBlame (blame w xs (w .blamed)) w)) w) .number ≡ w .number
-    by true b = refl
-    by false true = refl
-    by false false = refl
+    by : (o a b : Bool) → cond o w (cond a (withMark true w) (cond b (withMark true (withBlame (blame w xs (w .blamed)) w)) w)) .number ≡ w .number
+    by true a b = refl
+    by false true b = refl
+    by false false true = refl
+    by false false false = refl
 
 reported-file : (n c : ℕ) (h : Heard) (f : File) → h .status ≡ 0 → heeds f (ifWhole h (ofIntent n c f h)) ≡ heeds f (ofIntent n c f h)
 reported-file n c h f e = ap (λ k. heeds f (cond (eqb k 0) (ofIntent n c f h) h)) e
@@ -61,43 +62,44 @@ reported-file n c h f e = ap (λ k. heeds f (cond (eqb k 0) (ofIntent n c f h) h
 abbrev reportsFile : ℕ → ℕ → Report → File → FileAnswered
 reportsFile n c p f = heeds f (reportHeard n c p f)
 
-report-agrees : {r : Record} {l : Ledger} (n c : ℕ) (p : Report) → Matches r l → RecordAgrees (onPlace n (reportsFile n c p) r) l (onRow l n (reported (errorsOf p))) (refused (reportRules l n c p))
+report-agrees : {r : Record} {l : Ledger} (n c : ℕ) (p : Report) → l .old ≡ false → Matches r l → RecordAgrees (onPlace n (reportsFile n c p) r) l (onRow l n (reported (l .old) (errorsOf p))) (refused (reportRules l n c p))
 unfolding reportHeard heardOf outcome
-report-agrees n c Malformed m = refused-any n (reportsFile n c Malformed) 10036 refl (nothing-heeded 10036) m
-report-agrees n c Statistics m = refused-any n (reportsFile n c Statistics) 10004 refl (nothing-heeded 10004) m
-report-agrees {r} {l} n c (Whole xs) m = on-file n (reportsFile n c (Whole xs)) (reported xs) (λ w. refused (intentRules c w)) (reported-number xs)
-    (λ f w i k. rw (reported-file n c (over (told (f .mirrors)) (heardNothing 0) xs) f (status-stays (f .mirrors) xs (heardNothing 0)), i) (file-reported c xs k))
+report-agrees n c Malformed q m = refused-any n (reportsFile n c Malformed) 10036 refl (nothing-heeded 10036) m
+report-agrees n c Statistics q m = refused-any n (reportsFile n c Statistics) 10004 refl (nothing-heeded 10004) m
+report-agrees {r} {l} n c (Whole xs) q m = on-file n (reportsFile n c (Whole xs)) (reported (l .old) xs) (λ w. refused (intentRules c w)) (reported-number (l .old) xs)
+    (λ f w i k. rw (reported-file n c (over (told (f .mirrors)) (heardNothing 0) xs) f (status-stays (f .mirrors) xs (heardNothing 0)), i, q) (file-reported c xs k))
     (λ f i. rw (reported-file n c (over (told (f .mirrors)) (heardNothing 0) xs) f (status-stays (f .mirrors) xs (heardNothing 0)), i) (nothing-heeded 70 f)) m
 
 -- ---- steps 1 to 7: the status that the ledger says, or the number that stands for "handed on"
 abbrev codeOf : Ledger → ℕ → ℕ → List ℕ → Request → ℕ
 codeOf l n c s (request.Refused k) = k
 codeOf l n c s request.Bulk = handedOnCode
-codeOf l n c s (request.File true k) = cond (not (l .grace)) 10033 (refused (reportRules l n c (reportOf (bodyOf s))))
+codeOf l n c s (request.File true k) = cond (l .old) 10025 (cond (not (l .grace)) 10033 (refused (reportRules l n c (reportOf (bodyOf s)))))
 codeOf l n c s (request.File false k) = cond (l .grace) 10013 handedOnCode
 
 module _ {r : Record} {l : Ledger} (m : Matches r l) (n c : ℕ) (s : List ℕ) where
-  abbrev asks : Bool → Request → File → FileAnswered
-  asks g q f = heeds f (asksHeard n g c s f q)
+  abbrev asks : Bool → Bool → Request → File → FileAnswered
+  asks o g q f = heeds f (asksHeard n o g c s f q)
 
   abbrev Asked : Request → ℕ → Type 0
-  Asked q t = RecordAgrees (onPlace n (asks (r .grace) q) r) l (onRow l n (reported (errorsOf (reportOf (bodyOf s))))) t
+  Asked q t = RecordAgrees (onPlace n (asks (r .old) (r .grace) q) r) l (onRow l n (reported (l .old) (errorsOf (reportOf (bodyOf s))))) t
 
-  at-phase : (q : Request) {t : ℕ} (b : Bool) → l .grace ≡ b → RecordAgrees (onPlace n (asks b q) r) l (onRow l n (reported (errorsOf (reportOf (bodyOf s))))) t → Asked q t
-  at-phase q b e h = rw (ap (λ g. onPlace n (asks g q) r) (m .grace ∙ e)) h
+  at-phase : (q : Request) {t : ℕ} (o b : Bool) → r .old ≡ o → l .grace ≡ b → RecordAgrees (onPlace n (asks o b q) r) l (onRow l n (reported (l .old) (errorsOf (reportOf (bodyOf s))))) t → Asked q t
+  at-phase q o b u e h = rw (ap (λ z. onPlace n (asks z (r .grace) q) r) u ∙ ap (λ g. onPlace n (asks o g q) r) (m .grace ∙ e)) h
 
   ordinary-by : (k : ℕ) (b : Bool) → l .grace ≡ b → Asked (request.File false k) (cond b 10013 handedOnCode)
-  ordinary-by k true e = at-phase (request.File false k) true e (refused-any n (asks true (request.File false k)) 10013 refl (nothing-heeded 10013) m)
-  ordinary-by k false e = at-phase (request.File false k) false e (refused-any n (asks false (request.File false k)) handedOnCode refl (nothing-heeded handedOnCode) m)
+  ordinary-by k true e = at-phase (request.File false k) (r .old) true refl e (refused-any n (asks (r .old) true (request.File false k)) 10013 refl (nothing-heeded 10013) m)
+  ordinary-by k false e = at-phase (request.File false k) (r .old) false refl e (refused-any n (asks (r .old) false (request.File false k)) handedOnCode refl (nothing-heeded handedOnCode) m)
 
-  anonymous-by : (k : ℕ) (b : Bool) → l .grace ≡ b → Asked (request.File true k) (cond (not b) 10033 (refused (reportRules l n c (reportOf (bodyOf s)))))
-  anonymous-by k false e = at-phase (request.File true k) false e (refused-any n (asks false (request.File true k)) 10033 refl (nothing-heeded 10033) m)
-  anonymous-by k true e = at-phase (request.File true k) true e (report-agrees n c (reportOf (bodyOf s)) m)
+  anonymous-by : (k : ℕ) (o b : Bool) → l .old ≡ o → l .grace ≡ b → Asked (request.File true k) (cond o 10025 (cond (not b) 10033 (refused (reportRules l n c (reportOf (bodyOf s))))))
+  anonymous-by k true b u e = at-phase (request.File true k) true (l .grace) (m .old ∙ u) refl (refused-any n (asks true (l .grace) (request.File true k)) 10025 refl (nothing-heeded 10025) m)
+  anonymous-by k false false u e = at-phase (request.File true k) false false (m .old ∙ u) e (refused-any n (asks false false (request.File true k)) 10033 refl (nothing-heeded 10033) m)
+  anonymous-by k false true u e = at-phase (request.File true k) false true (m .old ∙ u) e (report-agrees n c (reportOf (bodyOf s)) u m)
 
   asks-agrees : (q : Request) → Read-as q → Asked q (codeOf l n c s q)
-  asks-agrees (request.Refused k) h = refused-any n (asks (r .grace) (request.Refused k)) k (ne-eqb k 0 (h .nonzero)) (nothing-heeded k) m
-  asks-agrees request.Bulk h = refused-any n (asks (r .grace) request.Bulk) handedOnCode refl (nothing-heeded handedOnCode) m
-  asks-agrees (request.File true k) h = anonymous-by k (l .grace) refl
+  asks-agrees (request.Refused k) h = refused-any n (asks (r .old) (r .grace) (request.Refused k)) k (ne-eqb k 0 (h .nonzero)) (nothing-heeded k) m
+  asks-agrees request.Bulk h = refused-any n (asks (r .old) (r .grace) request.Bulk) handedOnCode refl (nothing-heeded handedOnCode) m
+  asks-agrees (request.File true k) h = anonymous-by k (l .old) (l .grace) refl refl
   asks-agrees (request.File false k) h = ordinary-by k (l .grace) refl
 
 -- ---- the answer
@@ -116,7 +118,7 @@ answer-is : (l : Ledger) (n c : ℕ) (s d : List ℕ) (q : Request) → Read-as 
 answer-is l n c s d (request.Refused k) h = rw (not-handed k (h .small))
 answer-is l n c s d request.Bulk h = refl
 answer-is l n c s d (request.File true k) h =
-    rw (not-handed _ (cond-below (not (l .grace)) 20000 10033 (refused (reportRules l n c (reportOf (bodyOf s)))) (omega arith) (rules-low l n c (reportOf (bodyOf s)))))
+    rw (not-handed _ (cond-below (l .old) 20000 10025 (cond (not (l .grace)) 10033 (refused (reportRules l n c (reportOf (bodyOf s))))) (omega arith) (cond-below (not (l .grace)) 20000 10033 (refused (reportRules l n c (reportOf (bodyOf s)))) (omega arith) (rules-low l n c (reportOf (bodyOf s))))))
 answer-is l n c s d (request.File false k) h = by (l .grace)
   where
     by : (b : Bool) → handing (cond b 10013 handedOnCode) d ≡ cond b (reply 10013 d) (handedOn d)
@@ -126,7 +128,7 @@ answer-is l n c s d (request.File false k) h = by (l .grace)
 -- a LAYOUTRETURN whose reply buffer is long enough: t is its status or that number
 pub record ReturnAgrees (r : Record) (l : Ledger) (n c : ℕ) (s d : List ℕ) : Type 0 where
   pub code : ℕ
-  pub agrees : RecordAgrees (onPlace n (λ f. heeds f (asksHeard n (r .grace) c s f (requestOf s))) r) l (onRow l n (reported (errorsOf (reportOf (bodyOf s))))) code
+  pub agrees : RecordAgrees (onPlace n (λ f. heeds f (asksHeard n (r .old) (r .grace) c s f (requestOf s))) r) l (onRow l n (reported (l .old) (errorsOf (reportOf (bodyOf s))))) code
   pub answer : handing code d ≡ judgeRequest l n c s d (requestOf s)
 
 pub return-agrees : {r : Record} {l : Ledger} → Matches r l → (n c : ℕ) (s d : List ℕ) → ReturnAgrees r l n c s d

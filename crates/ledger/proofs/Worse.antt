@@ -200,11 +200,11 @@ module _ {w v : Row} (h : Worse w v) (xs : List DeviceError) where
   }
   one-reported false false = h
 
-pub report-kept : (c : ℕ) (xs : List DeviceError) → Kept (λ w. refused (intentRules c w)) (reported xs)
+pub report-kept : (c : ℕ) (xs : List DeviceError) → Kept (λ w. refused (intentRules c w)) (reported false xs)
 report-kept c xs w v h = by (has c (w .intents)) (has c (v .intents)) refl refl
   where
     by : (a b : Bool) → has c (w .intents) ≡ a → has c (v .intents) ≡ b
-        → Worse (cond (eqb (cond (not a) 10034 0) 0) (reported xs w) w) (cond (eqb (cond (not b) 10034 0) 0) (reported xs v) v)
+        → Worse (cond (eqb (cond (not a) 10034 0) 0) (reported false xs w) w) (cond (eqb (cond (not b) 10034 0) 0) (reported false xs v) v)
     by true true e k = both-reported h xs (any (isStranger w) xs) (any (isStranger v) xs) (any isFault xs) (any-same (isStranger v) (isStranger w) (λ x. ap (λ ms. not (isMirror (deviceOf x) ms)) (h .mirrors)) xs)
     by true false e k = true-false (sym (has-within c (h .intents) e) ∙ k)
     by false true e k = one-reported h xs (any (isStranger v) xs) (any isFault xs)

@@ -42,20 +42,21 @@ withMark b w = record { number = w .number; mirrors = w .mirrors; intents = w .i
 abbrev pub withBlame : List ℕ → Row → Row
 withBlame bs w = record { number = w .number; mirrors = w .mirrors; intents = w .intents; reclaimed = w .reclaimed; marked = w .marked; blamed = bs }
 
--- the rows stand by rising number
+-- whether the record is set up as old (request 1), whether in grace, and the rows, which stand by rising number
 pub record Ledger : Type 0 where
+  pub old : Bool
   pub grace : Bool
   pub rows : List Row
 
--- without rows and not in grace
-abbrev pub noRows : Ledger
-noRows = record { grace = false; rows = [] }
+-- without rows and not in grace; nothing changes the edition
+abbrev pub noRows : Bool → Ledger
+noRows old = record { old = old; grace = false; rows = [] }
 
 abbrev pub withRows : List Row → Ledger → Ledger
-withRows ws l = record { grace = l .grace; rows = ws }
+withRows ws l = record { old = l .old; grace = l .grace; rows = ws }
 
 abbrev pub withGrace : Bool → Ledger → Ledger
-withGrace g l = record { grace = g; rows = l .rows }
+withGrace g l = record { old = l .old; grace = g; rows = l .rows }
 
 abbrev pub isRow : ℕ → Row → Bool
 isRow n w = eqb (w .number) n
@@ -164,11 +165,12 @@ bodyRules (Whole xs) = []
 abbrev pub reportRules : Ledger → ℕ → ℕ → Report → List (Rule ℕ)
 reportRules l n c p = bodyRules p ++ not (registered n l) ⇒ 70 ∷ intentRules c (rowOf n l)
 
--- steps 1 to 6: s is the request, d the reply buffer. Step 4: in grace a stateid that is not all zeros gets 10013; not in grace, all zeros get 10033
+-- steps 1 to 6: s is the request, d the reply buffer. Step 4: all zeros get 10025 from a record set up as old, and 10033 if not in grace; in grace a stateid that
+-- is not all zeros gets 10013
 abbrev pub judgeRequest : Ledger → ℕ → ℕ → List ℕ → List ℕ → Request → Answer
 judgeRequest l n c s d (request.Refused k) = reply k d
 judgeRequest l n c s d request.Bulk = handedOn d
-judgeRequest l n c s d (request.File true k) = reply (refused (not (l .grace) ⇒ 10033 ∷ reportRules l n c (reportOf (bodyOf s)))) d
+judgeRequest l n c s d (request.File true k) = reply (refused (l .old ⇒ 10025 ∷ not (l .grace) ⇒ 10033 ∷ reportRules l n c (reportOf (bodyOf s)))) d
 judgeRequest l n c s d (request.File false k) = firstOf (l .grace ⇒ reply 10013 d ∷ []) (handedOn d)
 
 -- ---- what the ledger before a call says that it is answered
@@ -216,11 +218,13 @@ blame w (x ∷ xs) bs = blame w xs (cond (isFault x) (with (placeIn w (deviceOf 
 abbrev pub isStranger : Row → DeviceError → Bool
 isStranger w x = not (names w (deviceOf x))
 
--- if a named device is no mirror the file is marked and nobody blamed; else each fault is blamed, and one such marks
-abbrev pub reported : List DeviceError → Row → Row
-reported xs w =
-    cond (any (isStranger w) xs) (withMark true w)
-    (cond (any isFault xs) (withMark true (withBlame (blame w xs (w .blamed)) w)) w)
+-- in a record set up as old no report marks or blames; else, if a named device is no mirror, the file is marked and nobody blamed; else each fault is blamed, and one
+-- such marks
+abbrev pub reported : Bool → List DeviceError → Row → Row
+reported old xs w =
+    cond old w
+    (cond (any (isStranger w) xs) (withMark true w)
+    (cond (any isFault xs) (withMark true (withBlame (blame w xs (w .blamed)) w)) w))
 
 -- the device errors of an accepted request
 abbrev pub errorsOf : Report → List DeviceError
@@ -246,7 +250,7 @@ apply l (repaired n) = onRow l n mended
 apply l (forget n) = withRows (discard (isRow n) (l .rows)) l
 apply l endGrace = withGrace false (withRows (map ended (l .rows)) l)
 apply l restart = withGrace true (withRows (map restarted (l .rows)) l)
-apply l (layoutReturn n c s d) = onRow l n (reported (errorsOf (reportOf (bodyOf s))))
+apply l (layoutReturn n c s d) = onRow l n (reported (l .old) (errorsOf (reportOf (bodyOf s))))
 apply l (resilver a b) = l
 apply l (offered a b) = l
 

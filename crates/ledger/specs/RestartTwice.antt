@@ -9,7 +9,7 @@ use Rattle.places.specs.Lists.{has}
 use Rattle.recovery.specs.Calls.{Call, endGrace, restart, Answer, said, replied, handedOn, listed}
 use Rattle.mirroring.specs.Mirrors.{noMirror}
 use Rattle.files.specs.File.{isFile}
-use Rattle.recovery.specs.Record.{fresh, fileAt, listingOf}
+use Rattle.recovery.specs.Record.{freshAs, fileAt, listingOf}
 use Rattle.recovery.specs.declared.record.Record.{Record}
 use Rattle.ledger.specs.Ledger.{Row, rowOf, isOpen}
 use Rattle.ledger.specs.History.{step, recordAfter}
@@ -28,12 +28,12 @@ filesOf (handedOn d) = []
 filesOf (listed s count a b) = take count a
 
 -- the files that the record's resilver list gives after some calls; it is lent room for 64, and a record has no more
-abbrev pub resilverFiles : List Call → List ℕ
-resilverFiles calls = filesOf (listingOf false (recordAfter fresh calls) (replicate 64 0) (replicate 64 0))
+abbrev pub resilverFiles : Bool → List Call → List ℕ
+resilverFiles old calls = filesOf (listingOf false (recordAfter (freshAs old) calls) (replicate 64 0) (replicate 64 0))
 
 -- the row of a file after some calls
-abbrev pub rowAfter : ℕ → List Call → Row
-rowAfter n calls = rowOf n (ledgerOf calls)
+abbrev pub rowAfter : Bool → ℕ → List Call → Row
+rowAfter old n calls = rowOf n (ledgerOf old calls)
 
 -- whether the record holds the mirror at a place of a file as blamed
 abbrev pub isBlamed : ℕ → ℕ → Record → Bool
@@ -41,18 +41,18 @@ isBlamed n place r = cond (isFile n (fileAt n r)) (getD (fileAt n r .mirrors) pl
 
 -- what is listed and who is blamed after the calls `once` is so after the calls `twice` too, by the ledger's rows and by what the
 -- record holds; a file's mirrors stand at the same places
-pub record StillThere (once twice : List Call) : Type 0 where
-  pub listed : (n : ℕ) → has n (resilverFiles once) ≡ true → has n (resilverFiles twice) ≡ true
-  pub blamed : (n place : ℕ) → has place (rowAfter n once .blamed) ≡ true → has place (rowAfter n twice .blamed) ≡ true
-  pub held : (n place : ℕ) → isBlamed n place (recordAfter fresh once) ≡ true → isBlamed n place (recordAfter fresh twice) ≡ true
-  pub mirrors : (n : ℕ) → rowAfter n twice .mirrors ≡ rowAfter n once .mirrors
+pub record StillThere (old : Bool) (once twice : List Call) : Type 0 where
+  pub listed : (n : ℕ) → has n (resilverFiles old once) ≡ true → has n (resilverFiles old twice) ≡ true
+  pub blamed : (n place : ℕ) → has place (rowAfter old n once .blamed) ≡ true → has place (rowAfter old n twice .blamed) ≡ true
+  pub held : (n place : ℕ) → isBlamed n place (recordAfter (freshAs old) once) ≡ true → isBlamed n place (recordAfter (freshAs old) twice) ≡ true
+  pub mirrors : (n : ℕ) → rowAfter old n twice .mirrors ≡ rowAfter old n once .mirrors
 
--- any history, with one more restart anywhere inside a grace period: it is in grace after `before`, and stays so through `during`, up to the end
+-- any history of a record of either edition, with one more restart anywhere inside a grace period: it is in grace after `before`, and stays so through `during`, up to the end
 abbrev pub RestartTwice : Type 0
 RestartTwice =
-    (before during : List Call) → inGraceThrough (recordAfter fresh before) during ≡ true
-    → StillThere (before ++ during ++ endGrace ∷ []) (before ++ restart ∷ during ++ endGrace ∷ [])
+    (old : Bool) (before during : List Call) → inGraceThrough (recordAfter (freshAs old) before) during ≡ true
+    → StillThere old (before ++ during ++ endGrace ∷ []) (before ++ restart ∷ during ++ endGrace ∷ [])
 
 -- no reclaim outlives a restart: whoever had reclaimed, a file that has an intent is listed if grace ends before anybody reclaims again
 abbrev pub ReclaimAgain : Type 0
-ReclaimAgain = (before : List Call) (n : ℕ) → isOpen (rowAfter n before) ≡ true → has n (resilverFiles (before ++ restart ∷ endGrace ∷ [])) ≡ true
+ReclaimAgain = (old : Bool) (before : List Call) (n : ℕ) → isOpen (rowAfter old n before) ≡ true → has n (resilverFiles old (before ++ restart ∷ endGrace ∷ [])) ≡ true

@@ -3,6 +3,7 @@
 use Prim.Native.Nat.{ℕ, _-_, _^_}
 use mathlib.Core.Path.{_≡_}
 use mathlib.Core.List.{List, [], _∷_, _++_}
+use mathlib.Core.Bool.{false}
 use lib.ListN.{replicate}
 use Rattle.xdr.specs.Be.{beBytes}
 use Rattle.extents.specs.declared.Verdict.{Verdict}
@@ -78,7 +79,7 @@ ledgerFrom l [] = []
 ledgerFrom l (x ∷ xs) = judge l x ∷ ledgerFrom (feed l x (judge l x)) xs
 
 abbrev pub byLedger : List Call → List Answer
-byLedger calls = ledgerFrom noRows calls
+byLedger calls = ledgerFrom (noRows false) calls
 
 -- ---- the table: a row is a verdict; the answers to a history, by the record and by the ledger; or the epochs C and R
 pub data Row : Type 0 where

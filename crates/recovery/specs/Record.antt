@@ -19,14 +19,18 @@ use Rattle.recovery.specs.declared.record.Answered.{Answered}
 use Rattle.recovery.specs.declared.layoutreturn.Returned.{Returned}
 
 -- ---- the record
+-- as it is set up: old or not (request 1), which no call changes
+abbrev pub freshAs : Bool → Record
+freshAs old = record { files = replicate 64 blankFile; grace = false; old = old }
+
 abbrev pub fresh : Record
-fresh = record { files = replicate 64 blankFile; grace = false }
+fresh = freshAs false
 
 abbrev pub withFiles : List File → Record → Record
-withFiles fs r = record { files = fs; grace = r .grace }
+withFiles fs r = record { files = fs; grace = r .grace; old = r .old }
 
 abbrev pub withGrace : Bool → Record → Record
-withGrace g r = record { files = r .files; grace = g }
+withGrace g r = record { files = r .files; grace = g; old = r .old }
 
 abbrev pub answered : ℕ → Record → Answered
 answered s r = record { status = s; after = r }
@@ -104,7 +108,7 @@ listingOf idle r a b = lend (map numberOf (chosen (isWanted idle) (r .files))) (
 
 -- ---- LAYOUTRETURN
 unfoldable pub returnedOf : ℕ → ℕ → List ℕ → Record → Answered
-returnedOf n c s r = onPlace n (returnedFile n (r .grace) c s) r
+returnedOf n c s r = onPlace n (returnedFile n (r .old) (r .grace) c s) r
 
 abbrev pub isHanded : Answered → Bool
 isHanded a = eqb (a .status) handedOnCode

@@ -21,7 +21,8 @@ impl Record {
         let i = self.place(file);
         let f = self.files[i];
         let grace = self.grace;
-        let a = f.layoutreturn(file, grace, client, request);
+        let old = self.old;
+        let a = f.layoutreturn(file, old, grace, client, request);
         self.stored(i, a)
     }
 

@@ -1,18 +1,21 @@
-// The record (paper 01, "The recovery record"): at most 64 files, by rising number, the free places last; and whether it is in grace. Each call
-// answers its status and the record afterwards. First the loops over the 64 places, then the calls in the paper's order.
+// The record (paper 01, "The recovery record"): at most 64 files, by rising number, the free places last; whether it is in grace; and whether it
+// is set up as old, for sites without RFC 9737 (request 1). Each call answers its status and the record afterwards. First the loops over the 64
+// places, then the calls in the paper's order.
 use files::file::File;
 use files::file::FileAnswered;
 ghost use mathlib.Core.Path.{_≡_};
 ghost use mathlib.Core.List.{map};
+ghost use mathlib.Core.Bool.{true};
 ghost use Prim.Native.Nat.{_<_};
 ghost use Rattle.places.specs.Places.{leftOut};
 ghost use Rattle.files.specs.File.{blankFile, restartedFile, endedFile};
-ghost use Rattle.recovery.specs.Record.{fresh, answered, placeIn, putFile, enter, registerOf, openOf, reclaimOf, closeOf, repairedOf, forgetOf, endOf, restartOf};
+ghost use Rattle.recovery.specs.Record.{freshAs, fresh, answered, placeIn, putFile, enter, registerOf, openOf, reclaimOf, closeOf, repairedOf, forgetOf, endOf, restartOf};
 
 #[repr(C)]
 pub struct Record {
     pub files: [File; 64],
     pub grace: bool,
+    pub old: bool,
 }
 
 // What a call answers, and the record afterwards.
@@ -104,7 +107,17 @@ impl Record {
         Record {
             files: fs,
             grace: false,
+            old: false,
         }
+    }
+
+    // The same, set up as old.
+    pub fn fresh_old() -> Record
+        ensures { λ r. ⌜ r ≡ freshAs true ⌝ }
+    {
+        let mut r = Record::fresh();
+        r.old = true;
+        r
     }
 
     // The place of a file, or the last place if there is no such file.

@@ -70,6 +70,16 @@ impl<W: Write> Campaigns<W> {
 
     // ---- Calls on the record ----
 
+    /// The line that sets up a record: now and then an old one.
+    fn fresh_line(&mut self) -> &'static str {
+        self.r.weighted(&[(3, "fresh"), (1, "fresh old")])
+    }
+
+    fn fresh(&mut self) -> Done {
+        let line = self.fresh_line();
+        self.call(line)
+    }
+
     fn pool(&mut self, files: usize, clients: usize, devices: usize) -> Pool {
         Pool { files: self.r.numbers(files), clients: self.r.numbers(clients), devices: self.r.devices(devices) }
     }
@@ -161,7 +171,7 @@ impl<W: Write> Campaigns<W> {
     fn walk(&mut self) -> Done {
         let (files, clients, devices) = (1 + self.r.size(5), 1 + self.r.size(4), 3 + self.r.size(4));
         let pool = self.pool(files, clients, devices);
-        self.call("fresh")?;
+        self.fresh()?;
         for _ in 0..250 {
             self.walk_step(&pool)?;
         }
@@ -171,7 +181,7 @@ impl<W: Write> Campaigns<W> {
     /// Ten clients on two files: intents up to eight and one more, gone and back, through grace.
     fn intents(&mut self) -> Done {
         let pool = self.pool(2, 10, 4);
-        self.call("fresh")?;
+        self.fresh()?;
         for file in &pool.files {
             self.register(&pool, *file)?;
         }
@@ -193,7 +203,7 @@ impl<W: Write> Campaigns<W> {
     fn returning(&mut self) -> Done {
         let clients = 2 + self.r.size(7);
         let pool = self.pool(3, clients, 4);
-        self.call("fresh")?;
+        self.fresh()?;
         for file in &pool.files {
             self.register(&pool, *file)?;
             for client in &pool.clients {
@@ -238,7 +248,7 @@ impl<W: Write> Campaigns<W> {
     /// A full table: 64 files and more, forgotten and registered again, opened, lost, listed and repaired.
     fn table(&mut self) -> Done {
         let pool = self.pool(67, 3, 5);
-        self.call("fresh")?;
+        self.fresh()?;
         for file in &pool.files {
             self.register(&pool, *file)?;
         }
@@ -262,7 +272,7 @@ impl<W: Write> Campaigns<W> {
     /// Every file of a full table is lost, so that the lists have 64 entries.
     fn all_lost(&mut self) -> Done {
         let pool = self.pool(66, 2, 4);
-        self.call("fresh")?;
+        self.fresh()?;
         for file in &pool.files {
             let mirror = hex(&pool.devices[0]);
             self.call(&format!("register {file} {mirror}"))?;
@@ -287,7 +297,7 @@ impl<W: Write> Campaigns<W> {
     /// Three grace periods with reports on a few files that are open, and what each leaves: blame that is repaired and comes again.
     fn reports(&mut self) -> Done {
         let pool = self.pool(3, 2, 5);
-        self.call("fresh")?;
+        self.fresh()?;
         for file in &pool.files {
             let mirrors = hex(&pool.devices[..1 + self.r.size(4)].concat());
             self.call(&format!("register {file} {mirrors}"))?;
@@ -327,7 +337,8 @@ impl<W: Write> Campaigns<W> {
     fn restartable(&mut self) -> Done {
         let (files, clients, devices) = (1 + self.r.size(2), 1 + self.r.size(3), 3 + self.r.size(3));
         let pool = self.pool(files, clients, devices);
-        self.raw(b"fresh")?;
+        let fresh = self.fresh_line();
+        self.raw(fresh.as_bytes())?;
         for file in &pool.files {
             let mirrors = hex(&pool.devices[..1 + self.r.size(3)].concat());
             self.call(&format!("register {file} {mirrors}"))?;
@@ -366,7 +377,7 @@ impl<W: Write> Campaigns<W> {
         let few = [0, 1, 15, 30, 31];
         let all: Vec<u64> = (0..32).collect();
         let nodes = if self.r.percent(70) { &few[..2 + self.r.size(4)] } else { &all[..] };
-        self.call("fresh")?;
+        self.fresh()?;
         for _ in 0..self.r.size(2 * nodes.len()) {
             let node = self.r.pick(nodes);
             self.call(&format!("join {node}"))?;
@@ -394,7 +405,7 @@ impl<W: Write> Campaigns<W> {
     /// Lines spoilt and dressed, comments and empty lines among calls whose answers would show a change.
     fn lines(&mut self) -> Done {
         let pool = self.pool(2, 2, 3);
-        self.call("fresh")?;
+        self.fresh()?;
         for _ in 0..40 {
             let (file, client, node) = (self.r.pick(&pool.files), self.r.pick(&pool.clients), self.r.below(4));
             let mirrors = hex(&pool.devices[0]);
@@ -407,6 +418,7 @@ impl<W: Write> Campaigns<W> {
                 "restart".to_string(),
                 "end".to_string(),
                 "fresh".to_string(),
+                "fresh old".to_string(),
                 "epochs".to_string(),
                 "resilver 2 2".to_string(),
                 format!("layout {:08x}", 0),

@@ -14,7 +14,7 @@ use Rattle.recovery.specs.declared.record.Answered.{Answered}
 use Rattle.capi.specs.Place.{soughtIn}
 use Rattle.capi.specs.Returned.{answeredHeard, fileReply}
 use Rattle.capi.proofs.Types.{file, hearing}
-use Rattle.capi.proofs.Fields.{files, grace}
+use Rattle.capi.proofs.Fields.{files, grace, old}
 use Rattle.capi.proofs.Places.{returned-so, reply-so}
 use Rattle.capi.proofs.OnFile.{sought}
 use Rattle.capi.proofs.position.Symbol as p
@@ -26,10 +26,10 @@ use Rattle.capi.proofs.sc_record_layoutreturn.Statement as stated
 use Rattle.capi.proofs.sc_record_layoutreturn.Code as code
 
 pub sc-record-layoutreturn-spec : {M : Type 1} → stated.statement M
-unfolding code.routine files grace
+unfolding code.routine files grace old
 sc-record-layoutreturn-spec 𝓤 H 𝓜 𝓖 𝓡 =
-    decided.spec file files tt w64 grace hearing (num w64 ∷ slice w8 ∷ slice-mut w8 ∷ []) decided.the-first noFile sought
-    (λ l i s o. (s ≡ answeredHeard (i .0) (l .1 .1 .0) (l .1 .0) (i .1 .0) (i .1 .1 .0) (l .0)) × (o .1 .1 .0 ≡ fileReply (i .0) (l .1 .1 .0) (l .1 .0) (i .1 .0) (i .1 .1 .0) (l .0)))
+    decided.spec file files tt w64 grace old hearing (num w64 ∷ slice w8 ∷ slice-mut w8 ∷ []) decided.the-first noFile sought
+    (λ l i s o. (s ≡ answeredHeard (i .0) (l .1 .1 .1 .0) (l .1 .1 .0) (l .1 .0) (i .1 .0) (i .1 .1 .0) (l .0)) × (o .1 .1 .0 ≡ fileReply (i .0) (l .1 .1 .1 .0) (l .1 .1 .0) (l .1 .0) (i .1 .0) (i .1 .1 .0) (l .0)))
     (λ r c i s r′ o. (s ≡ layoutreturnOf (i .0) c (i .1 .0) (i .1 .1 .0) r .status) × (r′ ≡ layoutreturnOf (i .0) c (i .1 .0) (i .1 .1 .0) r .after) × (o .1 .1 .0 ≡ replyAfter (i .0) c (i .1 .0) (i .1 .1 .0) r))
     (λ f s. heededFile s f)
     (λ r c i s o long e.
