@@ -1,16 +1,21 @@
--- The fields that a walk goes to: the files of a record and its two flags, and a file's flag and number.
+-- The fields that a walk goes to: the files of a record and its head, both together, and a file's flag and number.
 use mathlib.Core.Path.{refl}
 use native.Mathlib.Omega.{arith}
 use denote.Builtin.{u64, bool}
 use denote.Struct.Declared.{row}
 use borrow.Struct.Behind.{look-at, put-at}
+use borrow.Struct.Inner.{cut-record}
 use borrow.Struct.Items.{cut-records}
+use Rattle.walks.proofs.Changed.{Parts}
 use Rattle.walks.proofs.Element.{Elements, Kept}
+use Rattle.files.specs.File.{noFile}
 use Rattle.files.proofs.file.File as F
 use Rattle.files.proofs.file.File.Laws as F′
+use Rattle.files.proofs.head.Head as B
 use Rattle.recovery.specs.Record.{withFiles}
 use Rattle.recovery.proofs.record.Record as T
 use Rattle.recovery.proofs.record.Record.Laws as T′
+use Rattle.capi.proofs.Types.{file, heading}
 
 unfoldable pub files : Elements T.the-type F.the-type
 files = record {
@@ -26,11 +31,17 @@ files = record {
       (put-at 𝓤 H A W q T.the-type T′.the-laws 0 0 refl refl a r (withFiles fs r) (T.struct .as-values r) fs refl refl);
 }
 
-unfoldable pub grace : Kept T.the-type bool
-grace = record { k = 1; d = 15360; get = λ r. r .grace; found = refl; cut = λ M 𝓤 H A W q r a. look-at 𝓤 H A W q T.the-type T′.the-laws 1 15360 refl refl a r (T.struct .as-values r) refl }
+unfoldable pub head : Kept T.the-type (row B.the-type)
+head = record {
+  k = 1;
+  d = 15360;
+  get = λ r. r .head;
+  found = refl;
+  cut = λ M 𝓤 H A W q r a. cut-record 𝓤 H A q (row T.the-type) B.the-type 15360 r r (r .head) (r .head) a (look-at 𝓤 H A W q T.the-type T′.the-laws 1 15360 refl refl a r (T.struct .as-values r) refl);
+}
 
-unfoldable pub old : Kept T.the-type bool
-old = record { k = 2; d = 15361; get = λ r. r .old; found = refl; cut = λ M 𝓤 H A W q r a. look-at 𝓤 H A W q T.the-type T′.the-laws 2 15361 refl refl a r (T.struct .as-values r) refl }
+abbrev pub parts : Parts T.the-type
+parts = record { F = file; list = files; small = tt; none = noFile; H = heading; head = head }
 
 unfoldable pub used : Kept F.the-type bool
 used = record { k = 3; d = 232; get = λ f. f .used; found = refl; cut = λ M 𝓤 H A W q f a. look-at 𝓤 H A W q F.the-type F′.the-laws 3 232 refl refl a f (F.struct .as-values f) refl }

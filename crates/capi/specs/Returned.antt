@@ -1,7 +1,7 @@
 -- MODEL. LAYOUTRETURN on one file with its reply: what is heard, and the reply buffer afterwards.
 -- proofs/Places.antt proves these, at the file's place, equal to `layoutreturnOf` and `replyAfter` of crate recovery.
 use mathlib.Core.List.{List}
-use mathlib.Core.Bool.{Bool, cond}
+use mathlib.Core.Bool.{cond}
 use Prim.Native.Nat.{ℕ}
 use lib.ListN.{length}
 use lib.Dec.{eqb, ltb}
@@ -10,13 +10,14 @@ use Rattle.mirroring.specs.Blame.{heardNothing}
 use Rattle.files.specs.File.{returnedHeard, handedOnCode}
 use Rattle.mirroring.specs.declared.blame.Heard.{Heard}
 use Rattle.files.specs.declared.file.File.{File}
+use Rattle.files.specs.declared.head.Head.{Head}
 
-unfoldable pub answeredHeard : ℕ → Bool → Bool → ℕ → List ℕ → List ℕ → File → Heard
-answeredHeard n o g c s d f = cond (ltb (length d) 24) (heardNothing 28) (returnedHeard n o g c s f)
+unfoldable pub answeredHeard : ℕ → Head → ℕ → List ℕ → List ℕ → File → Heard
+answeredHeard n h c s d f = cond (ltb (length d) 24) (heardNothing 28) (returnedHeard n h c s f)
 
 -- nothing is written where it is handed on
 abbrev pub written : ℕ → List ℕ → List ℕ
 written status d = cond (eqb status handedOnCode) d (replyIn status d)
 
-unfoldable pub fileReply : ℕ → Bool → Bool → ℕ → List ℕ → List ℕ → File → List ℕ
-fileReply n o g c s d f = cond (ltb (length d) 24) d (written (returnedHeard n o g c s f .status) d)
+unfoldable pub fileReply : ℕ → Head → ℕ → List ℕ → List ℕ → File → List ℕ
+fileReply n h c s d f = cond (ltb (length d) 24) d (written (returnedHeard n h c s f .status) d)

@@ -3,6 +3,7 @@
 // First a file's place, then the functions by value that `recovery` and `files` lack, then the calls in the paper's order.
 use files::file::File;
 use files::file::HANDED_ON;
+use files::head::Head;
 use mirroring::blame::Heard;
 use recovery::record::Record;
 ghost use mathlib.Core.Path.{_≡_};
@@ -38,21 +39,13 @@ fn position(r: &Record, file: u64) -> usize
 // ---- By value.
 // LAYOUTRETURN on one file, but for the change, with its reply: a reply buffer under 24 bytes gets 28 before all else, and where it is handed on
 // none is written.
-fn heard(
-    f: File,
-    client: u64,
-    grace: bool,
-    old: bool,
-    number: u64,
-    request: &[u8],
-    reply: &mut [u8],
-) -> Heard
-    ensures { λ h. ⌜ (h ≡ answeredHeard number old grace client (now (request .entry)) (now (reply .entry)) f) × (now (reply .exit) ≡ fileReply number old grace client (now (request .entry)) (now (reply .entry)) f) ⌝ }
+fn heard(f: File, number: u64, head: Head, client: u64, request: &[u8], reply: &mut [u8]) -> Heard
+    ensures { λ h. ⌜ (h ≡ answeredHeard number head client (now (request .entry)) (now (reply .entry)) f) × (now (reply .exit) ≡ fileReply number head client (now (request .entry)) (now (reply .entry)) f) ⌝ }
 {
     if reply.len() < 24 {
         return Heard::nothing(28);
     }
-    let h = f.heard(number, old, grace, client, request);
+    let h = f.heard(number, head, client, request);
     if h.status == HANDED_ON {
         return h;
     }
@@ -116,7 +109,7 @@ pub extern "C" fn sc_record_open(r: &mut Record, file: u64, client: u64) -> u32
     ensures { λ s. ⌜ (s ≡ openOf file client (now (r .entry)) .status) × (now (r .exit) ≡ openOf file client (now (r .entry)) .after) ⌝ }
 {
     let i = position(r, file);
-    let s = File::open(r.files[i], file, r.grace, client);
+    let s = File::open(r.files[i], file, r.head, client);
     r.files[i] = s.file;
     s.status
 }
@@ -126,7 +119,7 @@ pub extern "C" fn sc_record_reclaim(r: &mut Record, file: u64, client: u64) -> u
     ensures { λ s. ⌜ (s ≡ reclaimOf file client (now (r .entry)) .status) × (now (r .exit) ≡ reclaimOf file client (now (r .entry)) .after) ⌝ }
 {
     let i = position(r, file);
-    let s = File::reclaim(r.files[i], file, r.grace, client);
+    let s = File::reclaim(r.files[i], file, r.head, client);
     r.files[i] = s.file;
     s.status
 }
@@ -136,7 +129,7 @@ pub extern "C" fn sc_record_close(r: &mut Record, file: u64, client: u64) -> u32
     ensures { λ s. ⌜ (s ≡ closeOf file client (now (r .entry)) .status) × (now (r .exit) ≡ closeOf file client (now (r .entry)) .after) ⌝ }
 {
     let i = position(r, file);
-    let s = File::close(r.files[i], file, r.grace, client);
+    let s = File::close(r.files[i], file, r.head, client);
     r.files[i] = s.file;
     s.status
 }
@@ -146,7 +139,7 @@ pub extern "C" fn sc_record_repaired(r: &mut Record, file: u64) -> u32
     ensures { λ s. ⌜ (s ≡ repairedOf file (now (r .entry)) .status) × (now (r .exit) ≡ repairedOf file (now (r .entry)) .after) ⌝ }
 {
     let i = position(r, file);
-    let s = File::repaired(r.files[i], file, r.grace);
+    let s = File::repaired(r.files[i], file, r.head);
     r.files[i] = s.file;
     s.status
 }
@@ -181,8 +174,8 @@ pub extern "C" fn sc_record_restart(r: &mut Record) -> u32
 #[no_mangle]
 pub extern "C" fn sc_record_layoutreturn(
     r: &mut Record,
-    client: u64,
     file: u64,
+    client: u64,
     request: &[u8],
     reply: &mut [u8],
 ) -> u32
@@ -191,7 +184,7 @@ pub extern "C" fn sc_record_layoutreturn(
         × (now (reply .exit) ≡ replyAfter file client (now (request .entry)) (now (reply .entry)) (now (r .entry))) ⌝ }
 {
     let i = position(r, file);
-    let s = heard(r.files[i], client, r.grace, r.old, file, request, reply);
+    let s = heard(r.files[i], file, r.head, client, request, reply);
     r.files[i] = File::heed(r.files[i], s);
     s.status
 }

@@ -19,6 +19,7 @@ use Rattle.intents.specs.declared.Intent.{Intent}
 use Rattle.mirroring.specs.declared.blame.Heard.{Heard}
 use Rattle.files.specs.declared.file.File.{File}
 use Rattle.files.specs.declared.file.FileAnswered.{FileAnswered}
+use Rattle.files.specs.declared.head.Head.{Head}
 use Rattle.places.specs.declared.Found.{Found}
 use Rattle.places.specs.declared.Found.the-variants.{At, Nothing}
 
@@ -52,7 +53,7 @@ isVacant f = not (f .used)
 abbrev pub unreclaimedBar : Bool → Bool → Bool
 unreclaimedBar h r = cond h (not r) false
 
--- ---- the calls on one file
+-- ---- the calls on one file, of the number n; h stands beside the files
 abbrev pub fileAnswered : ℕ → File → FileAnswered
 fileAnswered s f = record { status = s; file = f }
 
@@ -69,15 +70,15 @@ abbrev pub opens : ℕ → File → Found → FileAnswered
 opens c f (At i) = fileAnswered 0 f
 opens c f Nothing = takes c f (first isFree (f .intents))
 
-unfoldable pub openedFile : ℕ → Bool → ℕ → File → FileAnswered
-openedFile n g c f = cond g (fileAnswered 10013 f) (ofFile n f (opens c f (first (isIntent c) (f .intents))))
+unfoldable pub openedFile : ℕ → Head → ℕ → File → FileAnswered
+openedFile n h c f = cond (h .grace) (fileAnswered 10013 f) (ofFile n f (opens c f (first (isIntent c) (f .intents))))
 
 abbrev pub reclaims : ℕ → File → Found → FileAnswered
 reclaims c f Nothing = fileAnswered 10034 f
 reclaims c f (At i) = fileAnswered 0 (withIntents (map (reclaimedIf c) (f .intents)) f)
 
-unfoldable pub reclaimedFile : ℕ → Bool → ℕ → File → FileAnswered
-reclaimedFile n g c f = cond g (ofFile n f (reclaims c f (first (isIntent c) (f .intents)))) (fileAnswered 10033 f)
+unfoldable pub reclaimedFile : ℕ → Head → ℕ → File → FileAnswered
+reclaimedFile n h c f = cond (h .grace) (ofFile n f (reclaims c f (first (isIntent c) (f .intents)))) (fileAnswered 10033 f)
 
 -- the intents after the one that goes are pulled down over it
 abbrev pub leaves : Bool → File → Found → FileAnswered
@@ -86,19 +87,19 @@ leaves g f (At i) =
     cond (unreclaimedBar g (getD (f .intents) i noIntent .reclaimed)) (fileAnswered 10025 f)
     (fileAnswered 0 (withIntents (leftOut noIntent i (f .intents)) f))
 
-unfoldable pub closedFile : ℕ → Bool → ℕ → File → FileAnswered
-closedFile n g c f = ofFile n f (leaves g f (first (isIntent c) (f .intents)))
+unfoldable pub closedFile : ℕ → Head → ℕ → File → FileAnswered
+closedFile n h c f = ofFile n f (leaves (h .grace) f (first (isIntent c) (f .intents)))
 
 abbrev pub mendedFile : File → File
 mendedFile f = withMark false (withMirrors (map unblamed (f .mirrors)) f)
 
-unfoldable pub repairedFile : ℕ → Bool → File → FileAnswered
-repairedFile n g f =
+unfoldable pub repairedFile : ℕ → Head → File → FileAnswered
+repairedFile n h f =
     ofFile n f
     (cond (not (f .marked)) (fileAnswered 22 f) (cond (firstTaken (f .intents)) (fileAnswered 10008 f) (fileAnswered 0 (mendedFile f))))
 
-unfoldable pub forgettable : ℕ → Bool → File → ℕ
-forgettable n g f = cond g 10013 (cond (isFile n f) (cond (f .marked) 10008 (cond (firstTaken (f .intents)) 10008 0)) 70)
+unfoldable pub forgettable : ℕ → Head → File → ℕ
+forgettable n h f = cond (h .grace) 10013 (cond (isFile n f) (cond (f .marked) 10008 (cond (firstTaken (f .intents)) 10008 0)) 70)
 
 -- ---- LAYOUTRETURN
 -- step 7: a report that names an unknown device only marks
@@ -127,22 +128,22 @@ reportHeard n c p f = ifWhole (heardOf (f .mirrors) p) (ofIntent n c f (heardOf 
 abbrev pub handedOnCode : ℕ
 handedOnCode = 4294967295
 
--- step 4: 0 if the body is to be read; o is whether the record is set up as old
-abbrev pub phaseOf : Bool → Bool → Bool → ℕ
-phaseOf o g true = cond o 10025 (cond g 0 10033)
-phaseOf o g false = cond g 10013 handedOnCode
+-- step 4: 0 if the body is to be read
+abbrev pub phaseOf : Head → Bool → ℕ
+phaseOf h true = cond (h .old) 10025 (cond (h .grace) 0 10033)
+phaseOf h false = cond (h .grace) 10013 handedOnCode
 
-abbrev pub asksHeard : ℕ → Bool → Bool → ℕ → List ℕ → File → Request → Heard
-asksHeard n o g c s f (request.Refused k) = heardNothing k
-asksHeard n o g c s f request.Bulk = heardNothing handedOnCode
-asksHeard n o g c s f (request.File a k) = cond (eqb (phaseOf o g a) 0) (reportHeard n c (reportOf (bodyOf s)) f) (heardNothing (phaseOf o g a))
+abbrev pub asksHeard : ℕ → Head → ℕ → List ℕ → File → Request → Heard
+asksHeard n h c s f (request.Refused k) = heardNothing k
+asksHeard n h c s f request.Bulk = heardNothing handedOnCode
+asksHeard n h c s f (request.File a k) = cond (eqb (phaseOf h a) 0) (reportHeard n c (reportOf (bodyOf s)) f) (heardNothing (phaseOf h a))
 
 -- steps 1 to 7
-unfoldable pub returnedHeard : ℕ → Bool → Bool → ℕ → List ℕ → File → Heard
-returnedHeard n o g c s f = asksHeard n o g c s f (requestOf s)
+unfoldable pub returnedHeard : ℕ → Head → ℕ → List ℕ → File → Heard
+returnedHeard n h c s f = asksHeard n h c s f (requestOf s)
 
-unfoldable pub returnedFile : ℕ → Bool → Bool → ℕ → List ℕ → File → FileAnswered
-returnedFile n o g c s f = heeds f (returnedHeard n o g c s f)
+unfoldable pub returnedFile : ℕ → Head → ℕ → List ℕ → File → FileAnswered
+returnedFile n h c s f = heeds f (returnedHeard n h c s f)
 
 -- ---- restart and the end of grace
 unfoldable pub restartedFile : File → File

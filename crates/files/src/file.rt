@@ -1,6 +1,7 @@
 // One file of the record (paper 01, "The recovery record"): what it holds, and the calls on one file. A call tests for itself whether this is
-// the file of the number that it is given, and answers the status and the file afterwards. Then what a restart and the end of grace do to
-// each file, and what the lists ask of one.
+// the file of the number that it is given, is told what stands beside the files, and answers the status and the file afterwards. Then what a
+// restart and the end of grace do to each file, and what the lists ask of one.
+use crate::head::Head;
 use intents::Intent;
 use mirroring::blame::Heard;
 use mirroring::blame::listen;
@@ -84,10 +85,10 @@ impl File {
     }
 
     // Open for writing: 10013 in grace; 70; held already: 0, no change; 28 if 8 are held.
-    pub fn open(mut self, number: u64, grace: bool, client: u64) -> FileAnswered
-        ensures { λ r. ⌜ r ≡ openedFile number grace client self ⌝ }
+    pub fn open(mut self, number: u64, head: Head, client: u64) -> FileAnswered
+        ensures { λ r. ⌜ r ≡ openedFile number head client self ⌝ }
     {
-        if grace {
+        if head.grace {
             return FileAnswered {
                 status: 10013,
                 file: self,
@@ -123,10 +124,10 @@ impl File {
     }
 
     // Reclaim: 10033 not in grace; 70; 10034 no intent; again: 0, no change.
-    pub fn reclaim(mut self, number: u64, grace: bool, client: u64) -> FileAnswered
-        ensures { λ r. ⌜ r ≡ reclaimedFile number grace client self ⌝ }
+    pub fn reclaim(mut self, number: u64, head: Head, client: u64) -> FileAnswered
+        ensures { λ r. ⌜ r ≡ reclaimedFile number head client self ⌝ }
     {
-        if !grace {
+        if !head.grace {
             return FileAnswered {
                 status: 10033,
                 file: self,
@@ -155,8 +156,8 @@ impl File {
     }
 
     // Close: 70; 10025 no intent, or in grace and not reclaimed.
-    pub fn close(mut self, number: u64, grace: bool, client: u64) -> FileAnswered
-        ensures { λ r. ⌜ r ≡ closedFile number grace client self ⌝ }
+    pub fn close(mut self, number: u64, head: Head, client: u64) -> FileAnswered
+        ensures { λ r. ⌜ r ≡ closedFile number head client self ⌝ }
     {
         let hit = self.is(number);
         if !hit {
@@ -173,7 +174,7 @@ impl File {
             };
         };
         let came = intents::came(old, i);
-        let barred = unreclaimed(grace, came);
+        let barred = unreclaimed(head.grace, came);
         if barred {
             return FileAnswered {
                 status: 10025,
@@ -189,8 +190,8 @@ impl File {
     }
 
     // Repaired: 70; 22 not marked; 10008 an intent is open.
-    pub fn repaired(mut self, number: u64, grace: bool) -> FileAnswered
-        ensures { λ r. ⌜ r ≡ repairedFile number grace self ⌝ }
+    pub fn repaired(mut self, number: u64, head: Head) -> FileAnswered
+        ensures { λ r. ⌜ r ≡ repairedFile number head self ⌝ }
     {
         let hit = self.is(number);
         if !hit {
@@ -224,10 +225,10 @@ impl File {
     }
 
     // Whether the file may be forgotten: 10013 in grace; 70; 10008 marked or an intent is open; or 0.
-    pub fn forget(self, number: u64, grace: bool) -> u32
-        ensures { λ r. ⌜ r ≡ forgettable number grace self ⌝ }
+    pub fn forget(self, number: u64, head: Head) -> u32
+        ensures { λ r. ⌜ r ≡ forgettable number head self ⌝ }
     {
-        if grace {
+        if head.grace {
             return 10013;
         }
         let hit = self.is(number);
@@ -267,14 +268,14 @@ impl File {
     }
 
     // Steps 1 to 7 of a LAYOUTRETURN, but for the change: what is heard; HANDED_ON where it is handed on.
-    pub fn heard(self, number: u64, old: bool, grace: bool, client: u64, request: &[u8]) -> Heard
-        ensures { λ r. ⌜ r ≡ returnedHeard number old grace client (now (request .entry)) self ⌝ }
+    pub fn heard(self, number: u64, head: Head, client: u64, request: &[u8]) -> Heard
+        ensures { λ r. ⌜ r ≡ returnedHeard number head client (now (request .entry)) self ⌝ }
     {
         match wire::request::read(request) {
             Request::Refused(k) => Heard::nothing(k),
             Request::Bulk => Heard::nothing(HANDED_ON),
             Request::File { anonymous, len } => {
-                let status = phase(old, grace, anonymous);
+                let status = phase(head, anonymous);
                 if status != 0 {
                     return Heard::nothing(status);
                 }
@@ -304,17 +305,10 @@ impl File {
     }
 
     // Steps 1 to 7 of a LAYOUTRETURN; HANDED_ON where it is handed on.
-    pub fn layoutreturn(
-        self,
-        number: u64,
-        old: bool,
-        grace: bool,
-        client: u64,
-        request: &[u8],
-    ) -> FileAnswered
-        ensures { λ r. ⌜ r ≡ returnedFile number old grace client (now (request .entry)) self ⌝ }
+    pub fn layoutreturn(self, number: u64, head: Head, client: u64, request: &[u8]) -> FileAnswered
+        ensures { λ r. ⌜ r ≡ returnedFile number head client (now (request .entry)) self ⌝ }
     {
-        let h = self.heard(number, old, grace, client, request);
+        let h = self.heard(number, head, client, request);
         let f = self.heed(h);
         FileAnswered {
             status: h.status,
@@ -383,16 +377,16 @@ fn unreclaimed(holds: bool, reclaimed: bool) -> bool
     if holds { !reclaimed } else { false }
 }
 
-// Step 4 of a LAYOUTRETURN: 0 if its body is to be read; `old` is whether the record is set up as old.
-fn phase(old: bool, grace: bool, anonymous: bool) -> u32
-    ensures { λ r. ⌜ r ≡ phaseOf old grace anonymous ⌝ }
+// Step 4 of a LAYOUTRETURN: 0 if its body is to be read.
+fn phase(head: Head, anonymous: bool) -> u32
+    ensures { λ r. ⌜ r ≡ phaseOf head anonymous ⌝ }
 {
     if anonymous {
-        if old {
+        if head.old {
             return 10025;
         }
-        if grace { 0 } else { 10033 }
+        if head.grace { 0 } else { 10033 }
     } else {
-        if grace { 10013 } else { HANDED_ON }
+        if head.grace { 10013 } else { HANDED_ON }
     }
 }

@@ -1,2 +1,4 @@
-// One file of the recovery record (paper 01), and the calls on one file; its mirrors are crate mirroring's, its write intents crate intents'.
+// One file of the recovery record (paper 01), the calls on one file, and what stands beside the files; a file's mirrors are crate mirroring's,
+// its write intents crate intents'.
 pub mod file;
+pub mod head;

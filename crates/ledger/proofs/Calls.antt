@@ -18,6 +18,7 @@ use Rattle.files.specs.File.{noFile, blankFile, isFile, isVacant, fileOf, fileA
 use Rattle.places.specs.declared.Found.the-variants.{At, Nothing}
 use Rattle.files.specs.declared.file.File.{File}
 use Rattle.files.specs.declared.file.FileAnswered.{FileAnswered}
+use Rattle.files.specs.declared.head.Head.{Head}
 use Rattle.places.proofs.Slots.{All, Slots, Focus, Hit, slots-map, slots-chosen, slots-at, focus, pairs-map, leftOut-length, missing, found}
 use Rattle.places.proofs.Sets.{true-false, first-nothing, none-at, first-no, rest-no}
 use Rattle.mirroring.proofs.Enrolling.{few-mirrors}
@@ -107,8 +108,8 @@ module _ {r : Record} {l : Ledger} (n : ℕ) (h : File → FileAnswered) (g : Ro
 module _ {r : Record} {l : Ledger} (m : Matches r l) (n c : ℕ) where
   open-by : (b : Bool) → l .grace ≡ b → RecordAgrees (openOf n c r) l (onRow l n (opened c)) (cond b 10013 (cond (not (registered n l)) 70 (refused (openRules c (rowOf n l)))))
   unfolding openOf openedFile
-  open-by true e = refused-any n (openedFile n (r .grace) c) 10013 refl (λ f. rw (m .grace ∙ e)) m
-  open-by false e = on-file n (openedFile n (r .grace) c) (opened c) (λ w. refused (openRules c w)) (λ w. refl)
+  open-by true e = refused-any n (openedFile n (r .head) c) 10013 refl (λ f. rw (m .grace ∙ e)) m
+  open-by false e = on-file n (openedFile n (r .head) c) (opened c) (λ w. refused (openRules c w)) (λ w. refl)
       (λ f w i k. rw (m .grace ∙ e, i, e) (file-opened c (rw e at k))) (λ f i. rw (m .grace ∙ e, i)) m
 
   pub open-agrees : RecordAgrees (openOf n c r) l (onRow l n (opened c)) (refused (l .grace ⇒ 10013 ∷ not (registered n l) ⇒ 70 ∷ openRules c (rowOf n l)))
@@ -116,8 +117,8 @@ module _ {r : Record} {l : Ledger} (m : Matches r l) (n c : ℕ) where
 
   reclaim-by : (b : Bool) → l .grace ≡ b → RecordAgrees (reclaimOf n c r) l (onRow l n (hasReclaimed c)) (cond (not b) 10033 (cond (not (registered n l)) 70 (refused (intentRules c (rowOf n l)))))
   unfolding reclaimOf reclaimedFile
-  reclaim-by false e = refused-any n (reclaimedFile n (r .grace) c) 10033 refl (λ f. rw (m .grace ∙ e)) m
-  reclaim-by true e = on-file n (reclaimedFile n (r .grace) c) (hasReclaimed c) (λ w. refused (intentRules c w)) (λ w. refl)
+  reclaim-by false e = refused-any n (reclaimedFile n (r .head) c) 10033 refl (λ f. rw (m .grace ∙ e)) m
+  reclaim-by true e = on-file n (reclaimedFile n (r .head) c) (hasReclaimed c) (λ w. refused (intentRules c w)) (λ w. refl)
       (λ f w i k. rw (m .grace ∙ e, i, e) (file-reclaimed c (rw e at k))) (λ f i. rw (m .grace ∙ e, i)) m
 
   pub reclaim-agrees : RecordAgrees (reclaimOf n c r) l (onRow l n (hasReclaimed c)) (refused (not (l .grace) ⇒ 10033 ∷ not (registered n l) ⇒ 70 ∷ intentRules c (rowOf n l)))
@@ -125,11 +126,11 @@ module _ {r : Record} {l : Ledger} (m : Matches r l) (n c : ℕ) where
 
   pub close-agrees : RecordAgrees (closeOf n c r) l (onRow l n (closed c)) (refused (not (registered n l) ⇒ 70 ∷ closeRules (l .grace) c (rowOf n l)))
   unfolding closeOf closedFile
-  close-agrees = on-file n (closedFile n (r .grace) c) (closed c) (λ w. refused (closeRules (l .grace) c w)) (λ w. refl) (λ f w i k. rw (i, m .grace) (file-closed c k)) (λ f i. rw i) m
+  close-agrees = on-file n (closedFile n (r .head) c) (closed c) (λ w. refused (closeRules (l .grace) c w)) (λ w. refl) (λ f w i k. rw (i, m .grace) (file-closed c k)) (λ f i. rw i) m
 
 pub repaired-agrees : {r : Record} {l : Ledger} → Matches r l → (n : ℕ) → RecordAgrees (repairedOf n r) l (onRow l n mended) (refused (not (registered n l) ⇒ 70 ∷ repairedRules (rowOf n l)))
 unfolding repairedOf repairedFile
-repaired-agrees {r} m n = on-file n (repairedFile n (r .grace)) mended (λ w. refused (repairedRules w)) (λ w. refl) (λ f w i k. rw i (file-repaired k)) (λ f i. rw i) m
+repaired-agrees {r} m n = on-file n (repairedFile n (r .head)) mended (λ w. refused (repairedRules w)) (λ w. refl) (λ f w i k. rw i (file-repaired k)) (λ f i. rw i) m
 
 -- ---- forget
 above-discard : (p : Row → Bool) (n : ℕ) (ws : List Row) → Above n (numbers ws) → Above n (numbers (discard p ws))
@@ -169,31 +170,31 @@ forgets-row {r} {l} n i w m z false false = rw (here n r l i w z) (record {
   };
 })
 
-forgettable-row : (g : Bool) (n : ℕ) (f : File) (w : Row) → isFile n f ≡ true → FileIs g f w → forgettable n false f ≡ refused (forgetRules w)
+forgettable-row : (g : Bool) (n : ℕ) (d : Head) (f : File) (w : Row) → d .grace ≡ false → isFile n f ≡ true → FileIs g f w → forgettable n d f ≡ refused (forgetRules w)
 unfolding forgettable
-forgettable-row g n f w i h = rw i (rw (h .marked, some-taken h))
+forgettable-row g n d f w e i h = rw (e, i) (rw (h .marked, some-taken h))
 
-no-such-file : (n : ℕ) (f : File) → isFile n f ≡ false → forgettable n false f ≡ 70
+no-such-file : (n : ℕ) (d : Head) (f : File) → d .grace ≡ false → isFile n f ≡ false → forgettable n d f ≡ 70
 unfolding forgettable
-no-such-file n f i = rw i
+no-such-file n d f e i = rw (e, i)
 
-in-grace : (n : ℕ) (f : File) → forgettable n true f ≡ 10013
+in-grace : (n : ℕ) (d : Head) (f : File) → d .grace ≡ true → forgettable n d f ≡ 10013
 unfolding forgettable
-in-grace n f = refl
+in-grace n d f e = rw e
 
-forget-found : {r : Record} {l : Ledger} (n : ℕ) → Matches r l → AtFile n r l
-    → RecordAgrees (forgets (forgettable n false (fileAt n r)) n r) l (without n l) (refused (not (registered n l) ⇒ 70 ∷ forgetRules (rowOf n l)))
-unfolding registered rowOf
-forget-found {r} n m (missing a b) = rw (no-such-file n (fileAt n r) (not-there r n a), b) (record { same = refl; kept = m })
-forget-found {r} {l} n m (found i w z) =
-    rw (ap (λ j. forgettable n false (getD (r .files) j noFile)) (here n r l i w z) ∙ forgettable-row (l .grace) n _ w (it-is n r l i w z) (z .pair noFile), z .there, z .the (newRow n []))
+forget-found : {r : Record} {l : Ledger} (n : ℕ) → Matches r l → r .head .grace ≡ false → AtFile n r l
+    → RecordAgrees (forgetOf n r) l (without n l) (refused (not (registered n l) ⇒ 70 ∷ forgetRules (rowOf n l)))
+unfolding forgetOf registered rowOf
+forget-found {r} n m e (missing a b) = rw (no-such-file n (r .head) (fileAt n r) e (not-there r n a), b) (record { same = refl; kept = m })
+forget-found {r} {l} n m e (found i w z) =
+    rw (ap (λ j. forgettable n (r .head) (getD (r .files) j noFile)) (here n r l i w z) ∙ forgettable-row (l .grace) n (r .head) _ w e (it-is n r l i w z) (z .pair noFile), z .there, z .the (newRow n []))
     (forgets-row n i w m z (w .marked) (not (none (w .intents))))
 
 forget-by : {r : Record} {l : Ledger} (n : ℕ) → Matches r l → (b : Bool) → l .grace ≡ b
     → RecordAgrees (forgetOf n r) l (without n l) (cond b 10013 (refused (not (registered n l) ⇒ 70 ∷ forgetRules (rowOf n l))))
 unfolding forgetOf
-forget-by {r} n m true e = rw (ap (λ g. forgettable n g (fileAt n r)) (m .grace ∙ e) ∙ in-grace n (fileAt n r)) (record { same = refl; kept = m })
-forget-by {r} n m false e = rw (ap (λ g. forgettable n g (fileAt n r)) (m .grace ∙ e)) (forget-found n m (at-file n m))
+forget-by {r} n m true e = rw (in-grace n (r .head) (fileAt n r) (m .grace ∙ e)) (record { same = refl; kept = m })
+forget-by {r} n m false e = forget-found n m (m .grace ∙ e) (at-file n m)
 
 pub forget-agrees : {r : Record} {l : Ledger} → Matches r l → (n : ℕ) → RecordAgrees (forgetOf n r) l (without n l) (refused (l .grace ⇒ 10013 ∷ not (registered n l) ⇒ 70 ∷ forgetRules (rowOf n l)))
 forget-agrees {r} {l} m n = forget-by n m (l .grace) refl
@@ -327,7 +328,7 @@ unfolding restartedFile
 restarted-free f h = h
 
 abbrev endedRecord : Record → Record
-endedRecord r = record { files = map endedFile (r .files); grace = false; old = r .old }
+endedRecord r = record { files = map endedFile (r .files); head = record { grace = false; old = r .head .old } }
 
 end-by : {r : Record} {l : Ledger} → Matches r l → (b : Bool) → l .grace ≡ b → RecordAgrees (endOf r) l (withGrace false (withRows (map ended (l .rows)) l)) (cond (not b) 10033 0)
 unfolding endOf

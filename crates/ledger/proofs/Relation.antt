@@ -44,8 +44,8 @@ NoFile f = f .used ≡ false
 
 -- ---- THE RELATION
 pub record Matches (r : Record) (l : Ledger) : Type 0 where
-  pub old : r .old ≡ l .old
-  pub grace : r .grace ≡ l .grace
+  pub old : r .head .old ≡ l .old
+  pub grace : r .head .grace ≡ l .grace
   pub long : length (r .files) ≡ 64
   pub rows : Slots (FileIs (l .grace)) NoFile (r .files) (l .rows)
   pub rising : Rising (numbers (l .rows))

@@ -139,27 +139,27 @@ next-side : (x : Call) {l l′ : Ledger} → (x ≡ endGrace → ⊥) → Side l
 next-side x {l} {l′} k h = rw (ledger-is l refl (h .grace), ledger-is l′ (h .old) (h .grace′)) (step-side (l .old) x k (h .rows))
 
 -- a record out of grace ends the period
-over-at-once : (r : Record) (xs : List Call) → r .grace ≡ false → inGraceThrough r xs ≡ true → ⊥
+over-at-once : (r : Record) (xs : List Call) → r .head .grace ≡ false → inGraceThrough r xs ≡ true → ⊥
 unfolding inGraceThrough
 over-at-once r [] e h = true-false (sym h ∙ e)
 over-at-once r (x ∷ xs) e h = true-false (sym (rw e at h))
 
-still-in : (r : Record) (xs : List Call) → inGraceThrough r xs ≡ true → r .grace ≡ true
-still-in r xs h = by (r .grace) refl
+still-in : (r : Record) (xs : List Call) → inGraceThrough r xs ≡ true → r .head .grace ≡ true
+still-in r xs h = by (r .head .grace) refl
   where
-    by : (b : Bool) → r .grace ≡ b → b ≡ true
+    by : (b : Bool) → r .head .grace ≡ b → b ≡ true
     by true e = refl
     by false e = absurd (over-at-once r xs e h)
 
 rest-through : (r : Record) (x : Call) (xs : List Call) → inGraceThrough r (x ∷ xs) ≡ true → inGraceThrough (step r x .after) xs ≡ true
 unfolding inGraceThrough
-rest-through r x xs h = by (r .grace) h
+rest-through r x xs h = by (r .head .grace) h
   where
     by : (b : Bool) → cond b (inGraceThrough (step r x .after) xs) false ≡ true → inGraceThrough (step r x .after) xs ≡ true
     by true e = e
     by false e = true-false (sym e)
 
-after-end : (r : Record) → r .grace ≡ true → step r endGrace .after .grace ≡ false
+after-end : (r : Record) → r .head .grace ≡ true → step r endGrace .after .head .grace ≡ false
 unfolding step endOf
 after-end r e = rw e
 

@@ -79,17 +79,17 @@ codeOf l n c s (request.File false k) = cond (l .grace) 10013 handedOnCode
 
 module _ {r : Record} {l : Ledger} (m : Matches r l) (n c : ℕ) (s : List ℕ) where
   abbrev asks : Bool → Bool → Request → File → FileAnswered
-  asks o g q f = heeds f (asksHeard n o g c s f q)
+  asks o g q f = heeds f (asksHeard n (record { grace = g; old = o }) c s f q)
 
   abbrev Asked : Request → ℕ → Type 0
-  Asked q t = RecordAgrees (onPlace n (asks (r .old) (r .grace) q) r) l (onRow l n (reported (l .old) (errorsOf (reportOf (bodyOf s))))) t
+  Asked q t = RecordAgrees (onPlace n (asks (r .head .old) (r .head .grace) q) r) l (onRow l n (reported (l .old) (errorsOf (reportOf (bodyOf s))))) t
 
-  at-phase : (q : Request) {t : ℕ} (o b : Bool) → r .old ≡ o → l .grace ≡ b → RecordAgrees (onPlace n (asks o b q) r) l (onRow l n (reported (l .old) (errorsOf (reportOf (bodyOf s))))) t → Asked q t
-  at-phase q o b u e h = rw (ap (λ z. onPlace n (asks z (r .grace) q) r) u ∙ ap (λ g. onPlace n (asks o g q) r) (m .grace ∙ e)) h
+  at-phase : (q : Request) {t : ℕ} (o b : Bool) → r .head .old ≡ o → l .grace ≡ b → RecordAgrees (onPlace n (asks o b q) r) l (onRow l n (reported (l .old) (errorsOf (reportOf (bodyOf s))))) t → Asked q t
+  at-phase q o b u e h = rw (ap (λ z. onPlace n (asks z (r .head .grace) q) r) u ∙ ap (λ g. onPlace n (asks o g q) r) (m .grace ∙ e)) h
 
   ordinary-by : (k : ℕ) (b : Bool) → l .grace ≡ b → Asked (request.File false k) (cond b 10013 handedOnCode)
-  ordinary-by k true e = at-phase (request.File false k) (r .old) true refl e (refused-any n (asks (r .old) true (request.File false k)) 10013 refl (nothing-heeded 10013) m)
-  ordinary-by k false e = at-phase (request.File false k) (r .old) false refl e (refused-any n (asks (r .old) false (request.File false k)) handedOnCode refl (nothing-heeded handedOnCode) m)
+  ordinary-by k true e = at-phase (request.File false k) (r .head .old) true refl e (refused-any n (asks (r .head .old) true (request.File false k)) 10013 refl (nothing-heeded 10013) m)
+  ordinary-by k false e = at-phase (request.File false k) (r .head .old) false refl e (refused-any n (asks (r .head .old) false (request.File false k)) handedOnCode refl (nothing-heeded handedOnCode) m)
 
   anonymous-by : (k : ℕ) (o b : Bool) → l .old ≡ o → l .grace ≡ b → Asked (request.File true k) (cond o 10025 (cond (not b) 10033 (refused (reportRules l n c (reportOf (bodyOf s))))))
   anonymous-by k true b u e = at-phase (request.File true k) true (l .grace) (m .old ∙ u) refl (refused-any n (asks true (l .grace) (request.File true k)) 10025 refl (nothing-heeded 10025) m)
@@ -97,8 +97,8 @@ module _ {r : Record} {l : Ledger} (m : Matches r l) (n c : ℕ) (s : List ℕ) 
   anonymous-by k false true u e = at-phase (request.File true k) false true (m .old ∙ u) e (report-agrees n c (reportOf (bodyOf s)) u m)
 
   asks-agrees : (q : Request) → Read-as q → Asked q (codeOf l n c s q)
-  asks-agrees (request.Refused k) h = refused-any n (asks (r .old) (r .grace) (request.Refused k)) k (ne-eqb k 0 (h .nonzero)) (nothing-heeded k) m
-  asks-agrees request.Bulk h = refused-any n (asks (r .old) (r .grace) request.Bulk) handedOnCode refl (nothing-heeded handedOnCode) m
+  asks-agrees (request.Refused k) h = refused-any n (asks (r .head .old) (r .head .grace) (request.Refused k)) k (ne-eqb k 0 (h .nonzero)) (nothing-heeded k) m
+  asks-agrees request.Bulk h = refused-any n (asks (r .head .old) (r .head .grace) request.Bulk) handedOnCode refl (nothing-heeded handedOnCode) m
   asks-agrees (request.File true k) h = anonymous-by k (l .old) (l .grace) refl refl
   asks-agrees (request.File false k) h = ordinary-by k (l .grace) refl
 
@@ -128,7 +128,7 @@ answer-is l n c s d (request.File false k) h = by (l .grace)
 -- a LAYOUTRETURN whose reply buffer is long enough: t is its status or that number
 pub record ReturnAgrees (r : Record) (l : Ledger) (n c : ℕ) (s d : List ℕ) : Type 0 where
   pub code : ℕ
-  pub agrees : RecordAgrees (onPlace n (λ f. heeds f (asksHeard n (r .old) (r .grace) c s f (requestOf s))) r) l (onRow l n (reported (l .old) (errorsOf (reportOf (bodyOf s))))) code
+  pub agrees : RecordAgrees (onPlace n (λ f. heeds f (asksHeard n (r .head) c s f (requestOf s))) r) l (onRow l n (reported (l .old) (errorsOf (reportOf (bodyOf s))))) code
   pub answer : handing code d ≡ judgeRequest l n c s d (requestOf s)
 
 pub return-agrees : {r : Record} {l : Ledger} → Matches r l → (n c : ℕ) (s d : List ℕ) → ReturnAgrees r l n c s d

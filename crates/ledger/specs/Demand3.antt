@@ -20,7 +20,7 @@ pub record Holds (old : Bool) (calls : List Call) : Type 0 where
   pub resilvers : (a b : List ℕ) → listingOf false (recordAfter (freshAs old) calls) a b ≡ judge (ledgerOf old calls) (resilver a b)
   pub offers : (a b : List ℕ) → listingOf true (recordAfter (freshAs old) calls) a b ≡ judge (ledgerOf old calls) (offered a b)
   pub marked : OneList isMarked (ledgerOf old calls) (needRepair (ledgerOf old calls))
-  pub edition : recordAfter (freshAs old) calls .old ≡ old
+  pub edition : recordAfter (freshAs old) calls .head .old ≡ old
   pub idle : OneList isOffered (ledgerOf old calls) (forCopying (ledgerOf old calls))
 
 abbrev pub Demand3 : Type 0

@@ -17,8 +17,8 @@ use Rattle.ledger.specs.Demand3.{ledgerOf}
 
 -- whether a record is in grace, and so after each of some calls: they all lie in one grace period
 unfoldable pub inGraceThrough : Record → List Call → Bool
-inGraceThrough r [] = r .grace
-inGraceThrough r (x ∷ xs) = cond (r .grace) (inGraceThrough (step r x .after) xs) false
+inGraceThrough r [] = r .head .grace
+inGraceThrough r (x ∷ xs) = cond (r .head .grace) (inGraceThrough (step r x .after) xs) false
 
 -- the files of a listing: the places that it filled
 abbrev pub filesOf : Answer → List ℕ

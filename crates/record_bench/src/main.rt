@@ -21,7 +21,7 @@ fn turns(start: Record, req: &[u8], reply: &mut [u8]) -> u32 {
     let mut last: u32 = 1;
     let mut i: u64 = 0;
     while i < 1000000 {
-        let s = r.layoutreturn(1, 7, req, reply);
+        let s = r.layoutreturn(7, 1, req, reply);
         last = s.status;
         r = s.after;
         i = i + 1;

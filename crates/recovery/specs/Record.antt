@@ -21,16 +21,16 @@ use Rattle.recovery.specs.declared.layoutreturn.Returned.{Returned}
 -- ---- the record
 -- as it is set up: old or not (request 1), which no call changes
 abbrev pub freshAs : Bool → Record
-freshAs old = record { files = replicate 64 blankFile; grace = false; old = old }
+freshAs old = record { files = replicate 64 blankFile; head = record { grace = false; old = old } }
 
 abbrev pub fresh : Record
 fresh = freshAs false
 
 abbrev pub withFiles : List File → Record → Record
-withFiles fs r = record { files = fs; grace = r .grace; old = r .old }
+withFiles fs r = record { files = fs; head = r .head }
 
 abbrev pub withGrace : Bool → Record → Record
-withGrace g r = record { files = r .files; grace = g; old = r .old }
+withGrace g r = record { files = r .files; head = record { grace = g; old = r .head .old } }
 
 abbrev pub answered : ℕ → Record → Answered
 answered s r = record { status = s; after = r }
@@ -51,16 +51,16 @@ abbrev pub onPlace : ℕ → (File → FileAnswered) → Record → Answered
 onPlace n h r = putFile r (placeIn n r) (h (fileAt n r))
 
 unfoldable pub openOf : ℕ → ℕ → Record → Answered
-openOf n c r = onPlace n (openedFile n (r .grace) c) r
+openOf n c r = onPlace n (openedFile n (r .head) c) r
 
 unfoldable pub reclaimOf : ℕ → ℕ → Record → Answered
-reclaimOf n c r = onPlace n (reclaimedFile n (r .grace) c) r
+reclaimOf n c r = onPlace n (reclaimedFile n (r .head) c) r
 
 unfoldable pub closeOf : ℕ → ℕ → Record → Answered
-closeOf n c r = onPlace n (closedFile n (r .grace) c) r
+closeOf n c r = onPlace n (closedFile n (r .head) c) r
 
 unfoldable pub repairedOf : ℕ → Record → Answered
-repairedOf n r = onPlace n (repairedFile n (r .grace)) r
+repairedOf n r = onPlace n (repairedFile n (r .head)) r
 
 -- ---- register and forget
 -- a file is entered by its number: the first that is greater, and those after it up to the first free place, move up one place
@@ -80,18 +80,18 @@ registerWith n e r =
     (answered 22 r)
 
 unfoldable pub registerOf : ℕ → List ℕ → Record → Answered
-registerOf n s r = cond (r .grace) (answered 10013 r) (registerWith n (enrolledOf s) r)
+registerOf n s r = cond (r .head .grace) (answered 10013 r) (registerWith n (enrolledOf s) r)
 
 -- the files after the one that goes are pulled down over it
 abbrev pub forgets : ℕ → ℕ → Record → Answered
 forgets s n r = cond (eqb s 0) (answered 0 (withFiles (leftOut blankFile (placeIn n r) (r .files)) r)) (answered s r)
 
 unfoldable pub forgetOf : ℕ → Record → Answered
-forgetOf n r = forgets (forgettable n (r .grace) (fileAt n r)) n r
+forgetOf n r = forgets (forgettable n (r .head) (fileAt n r)) n r
 
 -- ---- restart and the end of grace
 unfoldable pub endOf : Record → Answered
-endOf r = cond (r .grace) (answered 0 (withGrace false (withFiles (map endedFile (r .files)) r))) (answered 10033 r)
+endOf r = cond (r .head .grace) (answered 0 (withGrace false (withFiles (map endedFile (r .files)) r))) (answered 10033 r)
 
 unfoldable pub restartOf : Record → Answered
 restartOf r = answered 0 (withGrace true (withFiles (map restartedFile (r .files)) r))
@@ -108,7 +108,7 @@ listingOf idle r a b = lend (map numberOf (chosen (isWanted idle) (r .files))) (
 
 -- ---- LAYOUTRETURN
 unfoldable pub returnedOf : ℕ → ℕ → List ℕ → Record → Answered
-returnedOf n c s r = onPlace n (returnedFile n (r .old) (r .grace) c s) r
+returnedOf n c s r = onPlace n (returnedFile n (r .head) c s) r
 
 abbrev pub isHanded : Answered → Bool
 isHanded a = eqb (a .status) handedOnCode

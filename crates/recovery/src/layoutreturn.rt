@@ -15,19 +15,17 @@ pub struct Returned {
 
 impl Record {
     // Steps 1 to 7: the status, or HANDED_ON.
-    pub fn returned(self, client: u64, file: u64, request: &[u8]) -> Answered
+    pub fn returned(self, file: u64, client: u64, request: &[u8]) -> Answered
         ensures { λ r. ⌜ r ≡ returnedOf file client (now (request .entry)) self ⌝ }
     {
         let i = self.place(file);
         let f = self.files[i];
-        let grace = self.grace;
-        let old = self.old;
-        let a = f.layoutreturn(file, old, grace, client, request);
+        let a = f.layoutreturn(file, self.head, client, request);
         self.stored(i, a)
     }
 
     // A reply buffer under 24 bytes gets 28 before all else; where the request is handed on, no reply is written.
-    pub fn layoutreturn(self, client: u64, file: u64, request: &[u8], reply: &mut [u8]) -> Returned
+    pub fn layoutreturn(self, file: u64, client: u64, request: &[u8], reply: &mut [u8]) -> Returned
         ensures { λ r. ⌜ (r ≡ layoutreturnOf file client (now (request .entry)) (now (reply .entry)) self) × (now (reply .exit) ≡ replyAfter file client (now (request .entry)) (now (reply .entry)) self) ⌝ }
     {
         if reply.len() < 24 {
@@ -37,7 +35,7 @@ impl Record {
                 after: self,
             };
         }
-        let a = self.returned(client, file, request);
+        let a = self.returned(file, client, request);
         let status = a.status;
         let after = a.after;
         if status == HANDED_ON {

@@ -1,8 +1,8 @@
-// The record (paper 01, "The recovery record"): at most 64 files, by rising number, the free places last; whether it is in grace; and whether it
-// is set up as old, for sites without RFC 9737 (request 1). Each call answers its status and the record afterwards. First the loops over the 64
-// places, then the calls in the paper's order.
+// The record (paper 01, "The recovery record"): at most 64 files, by rising number, the free places last, and what stands beside them. Each call
+// answers its status and the record afterwards. First the loops over the 64 places, then the calls in the paper's order.
 use files::file::File;
 use files::file::FileAnswered;
+use files::head::Head;
 ghost use mathlib.Core.Path.{_≡_};
 ghost use mathlib.Core.List.{map};
 ghost use mathlib.Core.Bool.{true};
@@ -14,8 +14,7 @@ ghost use Rattle.recovery.specs.Record.{freshAs, fresh, answered, placeI
 #[repr(C)]
 pub struct Record {
     pub files: [File; 64],
-    pub grace: bool,
-    pub old: bool,
+    pub head: Head,
 }
 
 // What a call answers, and the record afterwards.
@@ -104,10 +103,13 @@ impl Record {
     {
         let f = File::blank();
         let fs = [f; 64];
-        Record {
-            files: fs,
+        let head = Head {
             grace: false,
             old: false,
+        };
+        Record {
+            files: fs,
+            head: head,
         }
     }
 
@@ -116,7 +118,7 @@ impl Record {
         ensures { λ r. ⌜ r ≡ freshAs true ⌝ }
     {
         let mut r = Record::fresh();
-        r.old = true;
+        r.head.old = true;
         r
     }
 
@@ -163,7 +165,7 @@ impl Record {
     pub fn register(mut self, file: u64, mirrors: &[u8]) -> Answered
         ensures { λ r. ⌜ r ≡ registerOf file (now (mirrors .entry)) self ⌝ }
     {
-        if self.grace {
+        if self.head.grace {
             return self.refused(10013);
         }
         let e = mirroring::enrol::enrol(mirrors);
@@ -197,8 +199,7 @@ impl Record {
     {
         let i = self.place(file);
         let f = self.files[i];
-        let grace = self.grace;
-        let a = f.open(file, grace, client);
+        let a = f.open(file, self.head, client);
         self.stored(i, a)
     }
 
@@ -208,8 +209,7 @@ impl Record {
     {
         let i = self.place(file);
         let f = self.files[i];
-        let grace = self.grace;
-        let a = f.reclaim(file, grace, client);
+        let a = f.reclaim(file, self.head, client);
         self.stored(i, a)
     }
 
@@ -219,8 +219,7 @@ impl Record {
     {
         let i = self.place(file);
         let f = self.files[i];
-        let grace = self.grace;
-        let a = f.close(file, grace, client);
+        let a = f.close(file, self.head, client);
         self.stored(i, a)
     }
 
@@ -230,8 +229,7 @@ impl Record {
     {
         let i = self.place(file);
         let f = self.files[i];
-        let grace = self.grace;
-        let a = f.repaired(file, grace);
+        let a = f.repaired(file, self.head);
         self.stored(i, a)
     }
 
@@ -241,8 +239,7 @@ impl Record {
     {
         let i = self.place(file);
         let f = self.files[i];
-        let grace = self.grace;
-        let status = f.forget(file, grace);
+        let status = f.forget(file, self.head);
         if status != 0 {
             return self.refused(status);
         }
@@ -259,13 +256,13 @@ impl Record {
     pub fn end_grace(mut self) -> Answered
         ensures { λ r. ⌜ r ≡ endOf self ⌝ }
     {
-        if !self.grace {
+        if !self.head.grace {
             return self.refused(10033);
         }
         let old = self.files;
         let fs = ended(old);
         self.files = fs;
-        self.grace = false;
+        self.head.grace = false;
         Answered {
             status: 0,
             after: self,
@@ -279,7 +276,7 @@ impl Record {
         let old = self.files;
         let fs = restarted(old);
         self.files = fs;
-        self.grace = true;
+        self.head.grace = true;
         Answered {
             status: 0,
             after: self,

@@ -7,7 +7,7 @@ use Rattle.files.specs.File.{reclaimedFile}
 use Rattle.files.proofs.file.File.reclaim.Symbol as g
 use Rattle.files.proofs.file.File.reclaim.Met as g-thm
 use Rattle.recovery.specs.Record.{reclaimOf}
-use Rattle.capi.proofs.Fields.{files, grace}
+use Rattle.capi.proofs.Fields.{files, head}
 use Rattle.capi.proofs.OnFile.{on-file}
 use Rattle.capi.proofs.position.Symbol as p
 use Rattle.capi.proofs.position.Met as p-thm
@@ -16,7 +16,7 @@ use Rattle.capi.proofs.sc_record_reclaim.Statement as stated
 use Rattle.capi.proofs.sc_record_reclaim.Code as code
 
 pub sc-record-reclaim-spec : {M : Type 1} → stated.statement M
-unfolding code.routine files grace reclaimOf
+unfolding code.routine files head reclaimOf
 sc-record-reclaim-spec 𝓤 H 𝓜 𝓖 𝓡 =
-    on-file (num w64 ∷ []) (λ n g i. reclaimedFile n g (i .0)) (λ r n i. reclaimOf n (i .0) r) (λ r n i. refl)
-    𝓤 H 𝓜 𝓖 𝓡 code.env #f p.name g.name p.routine g.routine code.calls-capi·position code.calls-files·file·File·reclaim (code.unfolded 𝓤 H 𝓜 𝓡) (p-thm.met 𝓤 H 𝓜 𝓖 𝓡) (g-thm.met 𝓤 H 𝓜 𝓖 𝓡)
+    on-file (num w64 ∷ []) (λ n h i. reclaimedFile n h (i .0)) (λ r n i. reclaimOf n (i .0) r) (λ r n i. refl)
+    𝓤 H 𝓜 𝓖 𝓡 code.env #f (p.name, (g.name, tt)) (p.routine, (g.routine, tt)) (code.calls-capi·position, (code.calls-files·file·File·reclaim, tt)) (code.unfolded 𝓤 H 𝓜 𝓡) (p-thm.met 𝓤 H 𝓜 𝓖 𝓡, (g-thm.met 𝓤 H 𝓜 𝓖 𝓡, tt))

@@ -8,14 +8,14 @@ use Rattle.files.proofs.file.File.reclaim.Tie as tie
 
 returns : tie.Need-returns
 unfolding reclaimedFile
-returns c = rw (not-true (c .before .args .grace) (c .if1 .taken))
+returns c = rw (not-true (c .before .before .args .head .grace) (c .if1 .taken))
 
 is-requires : tie.Need-is-requires
 is-requires c κs = search needs
 
 returns-2 : tie.Need-returns-2
 unfolding reclaimedFile
-returns-2 c = rw (not-false (c .before .before .before .args .grace) (c .before .before .if1 .left), sym (c .before .is .ensures) ∙ not-true _ (c .if2 .taken))
+returns-2 c = rw (not-false (c .before .before .before .before .args .head .grace) (c .before .before .if1 .left), sym (c .before .is .ensures) ∙ not-true _ (c .if2 .taken))
 
 holding-requires : tie.Need-holding-requires
 holding-requires c κs = search needs
@@ -28,14 +28,14 @@ enum-told-2 c = search needs
 
 returns-3 : tie.Need-returns-3
 unfolding reclaimedFile
-returns-3 c = rw (not-false (c .before .before .before .before .before .before .before .args .grace) (c .before .before .before .before .before .before .if1 .left), sym (c .before .before .before .before .before .is .ensures) ∙ not-false _ (c .before .before .before .before .if2 .left), sym (c .before .before .holding .ensures) ∙ c .enum-told2 .given .1)
+returns-3 c = rw (not-false (c .before .before .before .before .before .before .before .before .args .head .grace) (c .before .before .before .before .before .before .if1 .left), sym (c .before .before .before .before .before .is .ensures) ∙ not-false _ (c .before .before .before .before .if2 .left), sym (c .before .before .holding .ensures) ∙ c .enum-told2 .given .1)
 
 reclaimed-requires : tie.Need-reclaimed-requires
 reclaimed-requires c κs = search needs
 
 returns-4 : tie.Need-returns-4
 unfolding reclaimedFile
-returns-4 c = rw (not-false (c .before .before .before .before .before .before .before .before .args .grace) (c .before .before .before .before .before .before .before .if1 .left), sym (c .before .before .before .before .before .before .is .ensures) ∙ not-false _ (c .before .before .before .before .before .if2 .left), sym (c .before .before .before .holding .ensures) ∙ c .before .enum-told .given .1, c .reclaimed .ensures)
+returns-4 c = rw (not-false (c .before .before .before .before .before .before .before .before .before .args .head .grace) (c .before .before .before .before .before .before .before .if1 .left), sym (c .before .before .before .before .before .before .is .ensures) ∙ not-false _ (c .before .before .before .before .before .if2 .left), sym (c .before .before .before .holding .ensures) ∙ c .before .enum-told .given .1, c .reclaimed .ensures)
 
 pub reclaim-spec : {M : Type 1} → statement M
 reclaim-spec =

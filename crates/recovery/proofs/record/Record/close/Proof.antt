@@ -19,11 +19,11 @@ close-requires : tie.Need-close-requires
 close-requires c κs = search needs
 
 stored-requires : tie.Need-stored-requires
-stored-requires c κs = c .before .before .place .ensures .1
+stored-requires c κs = c .before .before .before .place .ensures .1
 
 returns : tie.Need-returns
 unfolding closeOf
-returns c = c .stored .ensures ∙ rw (c .before .close .ensures, c .before .before .before .place .ensures .0)
+returns c = c .stored .ensures ∙ rw (c .before .close .ensures, c .before .before .before .before .place .ensures .0)
 
 pub close-spec : {M : Type 1} → statement M
 close-spec =

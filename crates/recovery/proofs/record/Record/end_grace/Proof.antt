@@ -11,14 +11,14 @@ refused-requires c κs = search needs
 
 returns : tie.Need-returns
 unfolding endOf
-returns c = c .refused .ensures ∙ rw (not-true (c .before .before .before .args .self .grace) (c .before .if1 .taken))
+returns c = c .refused .ensures ∙ rw (not-true (c .before .before .before .args .self .head .grace) (c .before .if1 .taken))
 
 ended-requires : tie.Need-ended-requires
 ended-requires c κs = search needs
 
 returns-2 : tie.Need-returns-2
 unfolding endOf
-returns-2 c = rw (not-false (c .before .before .before .before .args .self .grace) (c .before .before .if1 .left), c .ended .ensures)
+returns-2 c = rw (not-false (c .before .before .before .before .before .args .self .head .grace) (c .before .before .before .if1 .left), c .before .ended .ensures)
 
 pub end-grace-spec : {M : Type 1} → statement M
 end-grace-spec = tie.close (tie.spec refused-requires returns ended-requires returns-2)

@@ -24,14 +24,14 @@ refused-requires c κs = search needs
 
 returns : tie.Need-returns
 unfolding forgetOf
-returns c = c .refused .ensures ∙ rw (← c .before .before .before .before .place .ensures .0, ← c .before .before .forget .ensures, ne-eqb _ _ (c .before .if1 .taken))
+returns c = c .refused .ensures ∙ rw (← c .before .before .before .before .before .place .ensures .0, ← c .before .before .forget .ensures, ne-eqb _ _ (c .before .if1 .taken))
 
 left-out-requires : tie.Need-left-out-requires
 left-out-requires c κs = search needs
 
 returns-2 : tie.Need-returns-2
 unfolding forgetOf
-returns-2 c = rw (← c .before .before .before .before .before .place .ensures .0, ← c .before .before .before .forget .ensures, eq-eqb _ _ (c .before .before .if1 .left), c .left-out .ensures)
+returns-2 c = rw (← c .before .before .before .before .before .before .place .ensures .0, ← c .before .before .before .forget .ensures, eq-eqb _ _ (c .before .before .if1 .left), c .left-out .ensures)
 
 pub forget-spec : {M : Type 1} → statement M
 forget-spec =

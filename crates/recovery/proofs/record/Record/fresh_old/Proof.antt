@@ -7,7 +7,7 @@ fresh-requires : tie.Need-fresh-requires
 fresh-requires c κs = search needs
 
 returns : tie.Need-returns
-returns c = rw (c .fresh .ensures)
+returns c = rw (c .before .fresh .ensures)
 
 pub fresh-old-spec : {M : Type 1} → statement M
 fresh-old-spec = tie.close (tie.spec fresh-requires returns)

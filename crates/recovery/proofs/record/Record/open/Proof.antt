@@ -19,11 +19,11 @@ open-requires : tie.Need-open-requires
 open-requires c κs = search needs
 
 stored-requires : tie.Need-stored-requires
-stored-requires c κs = c .before .before .place .ensures .1
+stored-requires c κs = c .before .before .before .place .ensures .1
 
 returns : tie.Need-returns
 unfolding openOf
-returns c = c .stored .ensures ∙ rw (c .before .«open» .ensures, c .before .before .before .place .ensures .0)
+returns c = c .stored .ensures ∙ rw (c .before .«open» .ensures, c .before .before .before .before .place .ensures .0)
 
 pub open-spec : {M : Type 1} → statement M
 open-spec =

@@ -19,11 +19,11 @@ reclaim-requires : tie.Need-reclaim-requires
 reclaim-requires c κs = search needs
 
 stored-requires : tie.Need-stored-requires
-stored-requires c κs = c .before .before .place .ensures .1
+stored-requires c κs = c .before .before .before .place .ensures .1
 
 returns : tie.Need-returns
 unfolding reclaimOf
-returns c = c .stored .ensures ∙ rw (c .before .reclaim .ensures, c .before .before .before .place .ensures .0)
+returns c = c .stored .ensures ∙ rw (c .before .reclaim .ensures, c .before .before .before .before .place .ensures .0)
 
 pub reclaim-spec : {M : Type 1} → statement M
 reclaim-spec =

@@ -19,11 +19,11 @@ repaired-requires : tie.Need-repaired-requires
 repaired-requires c κs = search needs
 
 stored-requires : tie.Need-stored-requires
-stored-requires c κs = c .before .before .place .ensures .1
+stored-requires c κs = c .before .before .before .place .ensures .1
 
 returns : tie.Need-returns
 unfolding repairedOf
-returns c = c .stored .ensures ∙ rw (c .before .repaired .ensures, c .before .before .before .place .ensures .0)
+returns c = c .stored .ensures ∙ rw (c .before .repaired .ensures, c .before .before .before .before .place .ensures .0)
 
 pub repaired-spec : {M : Type 1} → statement M
 repaired-spec =

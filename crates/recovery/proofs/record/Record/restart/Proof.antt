@@ -9,7 +9,7 @@ restarted-requires c κs = search needs
 
 returns : tie.Need-returns
 unfolding restartOf
-returns c = rw (c .restarted .ensures)
+returns c = rw (c .before .restarted .ensures)
 
 pub restart-spec : {M : Type 1} → statement M
 restart-spec = tie.close (tie.spec restarted-requires returns)

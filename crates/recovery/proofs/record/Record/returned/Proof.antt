@@ -19,11 +19,11 @@ layoutreturn-requires : tie.Need-layoutreturn-requires
 layoutreturn-requires c κs = search needs
 
 stored-requires : tie.Need-stored-requires
-stored-requires c κs = c .before .before .place .ensures .1
+stored-requires c κs = c .before .before .before .place .ensures .1
 
 returns : tie.Need-returns
 unfolding returnedOf
-returns c = c .stored .ensures ∙ rw (c .before .layoutreturn .ensures, c .before .before .before .place .ensures .0)
+returns c = c .stored .ensures ∙ rw (c .before .layoutreturn .ensures, c .before .before .before .before .place .ensures .0)
 
 pub returned-spec : {M : Type 1} → statement M
 returned-spec =
