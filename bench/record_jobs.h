@@ -41,9 +41,9 @@ static void P(open_ninth)(void) { ANY P(record_open)(&P(held), file[k], 9); }
 static void P(close_open)(void) { ANY P(record_close)(&P(held), file[k], client[k]) + P(record_open)(&P(held), file[k], client[k]); }
 static void P(reclaim)(void) { ANY P(record_reclaim)(&P(held), file[k], client[k]); }
 static void P(repaired)(void) { EACH P(record_repaired)(&P(held), each[k]); }
-static void P(report_1)(void) { ANY P(record_layoutreturn)(&P(held), client[k], file[k], one, one_len, reply, sizeof reply) + reply[7]; }
-static void P(report_20)(void) { ANY P(record_layoutreturn)(&P(held), client[k], file[k], twenty, twenty_len, reply, sizeof reply) + reply[7]; }
-static void P(handed_on)(void) { ANY P(record_layoutreturn)(&P(held), client[k], file[k], bulk, sizeof bulk, reply, sizeof reply); }
+static void P(report_1)(void) { ANY P(record_layoutreturn)(&P(held), file[k], client[k], one, one_len, reply, sizeof reply) + reply[7]; }
+static void P(report_20)(void) { ANY P(record_layoutreturn)(&P(held), file[k], client[k], twenty, twenty_len, reply, sizeof reply) + reply[7]; }
+static void P(handed_on)(void) { ANY P(record_layoutreturn)(&P(held), file[k], client[k], bulk, sizeof bulk, reply, sizeof reply); }
 static void P(enter)(void) { EACH P(record_register)(&P(held), each[k], mirrors, 32); }
 static void P(forget)(void) { EACH P(record_forget)(&P(held), each[k]); }
 static void P(restart)(void) { EACH P(record_restart)(&P(held)); }

@@ -206,7 +206,7 @@ static uint32_t report(const uint8_t *s, size_t n, const struct plain_file *f, u
 }
 
 /* Steps 1 to 7: the status, or HANDED_ON. */
-static uint32_t returned(struct plain_record *r, uint64_t client, uint64_t file, const uint8_t *s, size_t n)
+static uint32_t returned(struct plain_record *r, uint64_t file, uint64_t client, const uint8_t *s, size_t n)
 {
     static const uint8_t zeros[16];
     uint32_t body = 0;
@@ -254,11 +254,11 @@ static uint32_t returned(struct plain_record *r, uint64_t client, uint64_t file,
     return 0;
 }
 
-uint32_t CALL(record_layoutreturn)(struct plain_record *r, uint64_t client, uint64_t file, const uint8_t *request, size_t request_len, uint8_t *reply, size_t reply_len)
+uint32_t CALL(record_layoutreturn)(struct plain_record *r, uint64_t file, uint64_t client, const uint8_t *request, size_t request_len, uint8_t *reply, size_t reply_len)
 {
     if (reply_len < 24)
         return 28;
-    uint32_t status = returned(r, client, file, request, request_len);
+    uint32_t status = returned(r, file, client, request, request_len);
     if (status == (uint32_t)HANDED_ON)
         return status;
     uint32_t word = __builtin_bswap32(status);

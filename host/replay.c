@@ -344,7 +344,7 @@ static bool run_layoutreturn(const struct command *c, const struct word *argumen
         !read_number(argument[2], MAX_ROOM, &room) || !read_bytes(argument[3], MAX_REQUEST, &request))
         return false;
     struct lent reply = lend((size_t)room);
-    uint32_t answer = sc_record_layoutreturn(record, client, file, bytes_of(request), request.len, bytes_of(reply), reply.len);
+    uint32_t answer = sc_record_layoutreturn(record, file, client, bytes_of(request), request.len, bytes_of(reply), reply.len);
     take_back_bytes(argument[3], request, "bytes in or beside the request changed");
     print_reply(answer, reply);
     give_back(reply);

@@ -87,7 +87,8 @@ uint32_t sc_layoutreturn_reply(uint8_t *reply, size_t reply_len, uint32_t status
  * At most 64 files, each with 1 to 4 mirror devices and at most 8 write intents, one a client; and whether the server is in grace.
  *
  * A record is plain memory that the server owns, sizeof(struct sc_record) bytes aligned as a uint64_t. Its words are for these calls alone: a
- * server copies or stores it as a whole, and reads nothing out of it. sc_record_fresh or sc_record_fresh_old initialises it; no other call may come first.
+ * server copies or stores it as a whole, and reads nothing out of it. sc_record_fresh or sc_record_fresh_old sets it up; no other call may come
+ * first. An image of a record that another version of this library wrote is not read.
  * A call changes the record where it lies, and leaves it as it was where it answers a refusal. During a call nobody else reads or writes
  * the record or a buffer that is lent, and no buffer that is written overlaps the record or another buffer; calls on two records may run at
  * once. Buffers of bytes are good at any alignment, `files` and `count` at that of a uint64_t.
@@ -111,8 +112,8 @@ _Static_assert(sizeof(struct sc_record) == 15368, "struct sc_record is as the li
 /* The record becomes empty and not in grace. What it held is not read. */
 void sc_record_fresh(struct sc_record *r);
 
-/* The same, set up as old, for clients from before RFC 9737: a LAYOUTRETURN with the all-zero stateid gets 10025 in grace and out of it, and no
- * report marks a file. No other call changes how a record is set up. */
+/* The same, set up as old, for sites whose clients are from before RFC 9737: a LAYOUTRETURN with the all-zero stateid gets 10025 in grace and out of
+ * it, and no report marks or blames. A record keeps its edition, current or old, until it is set up again. */
 void sc_record_fresh_old(struct sc_record *r);
 
 /* Registers a file with its mirrors, 16 bytes a device id, in the order of their places.
@@ -146,9 +147,10 @@ uint32_t sc_record_restart(struct sc_record *r);
  * SC_HANDED_ON: return type 2 or 3, or not in grace with a stateid that is not all zeros. Nothing is written or changed.
  * Else the status, which is also the reply: its 4 bytes big-endian at the start of `reply`; for 0 then boolean 1 and sixteen zero bytes, 24 in
  * all. Later bytes of `reply` stay. The statuses besides 0, which change nothing:
- * 10036: malformed; 10062: layout type not 4; 10049: iomode outside 1 to 3; 10025: all zeros, and the record is set up as old; 10013: in grace, stateid not all zeros; 10033: not in grace, all
- * zeros; 10036 or 10004: the body malformed, or with statistics; 70: no such file; 10034: the client has no intent on it. */
-uint32_t sc_record_layoutreturn(struct sc_record *r, uint64_t client, uint64_t file, const uint8_t *request, size_t request_len, uint8_t *reply,
+ * 10036: malformed; 10062: layout type not 4; 10049: iomode outside 1 to 3; 10025: all zeros, and the record is set up as old; 10013: in grace,
+ * stateid not all zeros; 10033: not in grace, all zeros; 10036 or 10004: the body malformed, or with statistics; 70: no such file; 10034: the
+ * client has no intent on it. */
+uint32_t sc_record_layoutreturn(struct sc_record *r, uint64_t file, uint64_t client, const uint8_t *request, size_t request_len, uint8_t *reply,
                                 size_t reply_len);
 
 /* The files that need repair, by rising number: file k of the list at files[k], and at sources[k] the lowest mirror place that is not blamed, or

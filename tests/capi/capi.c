@@ -125,7 +125,7 @@ static void example(int reclaims, int reports)
     if (reports >= 0) {
         static const uint8_t good[24] = {0, 0, 0, 0, 0, 0, 0, 1};
         size_t n = report(reports, 1, 5);
-        expect(n == 120 && sc_record_layoutreturn(&held.r, 1, 7, request, n, reply, 30) == 0, "a report", 0);
+        expect(n == 120 && sc_record_layoutreturn(&held.r, 7, 1, request, n, reply, 30) == 0, "a report", 0);
         expect(memcmp(reply, good, 24) == 0 && reply[24] == 0x99 && reply[29] == 0x99, "a reply", 0);
     }
     expect(sc_record_end_grace(&held.r) == 0, "the end of grace", 0);
@@ -179,8 +179,8 @@ static void compare_returns(unsigned long n, uint64_t file, uint64_t client)
         request[below(len)] ^= (uint8_t)(1u << below(8));
     if (below(10) == 0)
         len = below(len + 1);
-    uint32_t x = sc_record_layoutreturn(&held.r, client, file, request, len, reply[0], room);
-    uint32_t y = plain_record_layoutreturn(&plain, client, file, request, len, reply[1], room);
+    uint32_t x = sc_record_layoutreturn(&held.r, file, client, request, len, reply[0], room);
+    uint32_t y = plain_record_layoutreturn(&plain, file, client, request, len, reply[1], room);
     same(x, y, "a LAYOUTRETURN", n);
     expect(memcmp(reply[0], reply[1], sizeof reply[0]) == 0, "a reply", n);
 }

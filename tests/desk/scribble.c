@@ -34,10 +34,10 @@ uint32_t __wrap_sc_record_register(struct sc_record *r, uint64_t file, const uin
 
 uint32_t __real_sc_record_layoutreturn(struct sc_record *, uint64_t, uint64_t, const uint8_t *, size_t, uint8_t *, size_t);
 uint32_t __wrap_sc_record_layoutreturn(struct sc_record *, uint64_t, uint64_t, const uint8_t *, size_t, uint8_t *, size_t);
-uint32_t __wrap_sc_record_layoutreturn(struct sc_record *r, uint64_t client, uint64_t file, const uint8_t *request, size_t request_len,
+uint32_t __wrap_sc_record_layoutreturn(struct sc_record *r, uint64_t file, uint64_t client, const uint8_t *request, size_t request_len,
                                        uint8_t *reply, size_t reply_len)
 {
-    uint32_t answer = __real_sc_record_layoutreturn(r, client, file, request, request_len, reply, reply_len);
+    uint32_t answer = __real_sc_record_layoutreturn(r, file, client, request, request_len, reply, reply_len);
     scribble("request", request);
     scribble("request-after", request + request_len);
     scribble("reply-before", reply - 1);

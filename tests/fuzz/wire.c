@@ -129,7 +129,7 @@ static void layoutreturn(uint8_t choice, const uint8_t *bytes, size_t len, bool 
     memset(reply, FILL, room);
     set_up(&r, &f);
     int64_t wanted = reference_layoutreturn(&f, bytes, len, wanted_reply, room);
-    uint32_t answer = sc_record_layoutreturn(&r, CLIENT, FILE_NUMBER, request, len, reply, room);
+    uint32_t answer = sc_record_layoutreturn(&r, FILE_NUMBER, CLIENT, request, len, reply, room);
     same("layoutreturn answer", answer, wanted == REFERENCE_HANDED_ON ? SC_HANDED_ON : (uint64_t)wanted);
     same("layoutreturn reply", memcmp(reply, wanted_reply, room) == 0, true);
     same("layoutreturn request kept", memcmp(request, bytes, len) == 0, true);
