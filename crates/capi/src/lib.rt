@@ -11,6 +11,7 @@ ghost use mathlib.Core.Bool.{true, false};
 ghost use Rattle.recovery.specs.Calls.{listed};
 ghost use Rattle.recovery.specs.Record.{freshAs, fresh, registerOf, openOf, reclaimOf, closeOf, repairedOf, forgetOf, endOf, restartOf, listingOf, layoutreturnOf, replyAfter};
 ghost use Prim.Native.Nat.{_<_};
+ghost use Rattle.files.specs.declared.head.Edition.the-variants.{Old};
 ghost use Rattle.capi.specs.Place.{isNumbered, soughtIn};
 ghost use Rattle.capi.specs.Returned.{answeredHeard, fileReply};
 
@@ -90,7 +91,7 @@ pub extern "C" fn sc_record_fresh(r: &mut Record)
 // The same, set up as old.
 #[no_mangle]
 pub extern "C" fn sc_record_fresh_old(r: &mut Record)
-    ensures { λ _. ⌜ now (r .exit) ≡ freshAs true ⌝ }
+    ensures { λ _. ⌜ now (r .exit) ≡ freshAs Old ⌝ }
 {
     *r = Record::fresh_old();
 }

@@ -9,6 +9,8 @@ use Rattle.places.specs.Lists.{any, amend, discard}
 use Rattle.places.proofs.Slots.{All, all-map}
 use Rattle.places.proofs.Sets.{true-false}
 use Rattle.mirroring.specs.Devices.{mirrorsIn}
+use Rattle.files.specs.declared.head.Edition.{Edition}
+use Rattle.files.specs.Head.{isOld}
 use Rattle.recovery.specs.Calls.{Call, register, opening, reclaim, close, repaired, forget, endGrace, restart, layoutReturn, resilver, offered}
 use Rattle.recovery.specs.Record.{freshAs}
 use Rattle.recovery.specs.declared.record.Record.{Record}
@@ -30,8 +32,8 @@ fed-by (x ∷ xs) r l m =
     let s = step-agrees r l x m in
     fed-by xs (step r x .after) (feed l x (step r x .answer)) (rw (s .answer) (s .after)) ∙ ap (λ a. fed (feed l x a) xs) (s .answer)
 
-pub fed-ledger : (old : Bool) (calls : List Call) → ledgerOf old calls ≡ fed (noRows old) calls
-fed-ledger old calls = fed-by calls (freshAs old) (noRows old) (fresh-matches old)
+pub fed-ledger : (ed : Edition) (calls : List Call) → ledgerOf ed calls ≡ fed (noRows ed) calls
+fed-ledger ed calls = fed-by calls (freshAs ed) (noRows ed) (fresh-matches ed)
 
 pub fed-append : (xs ys : List Call) (l : Ledger) → fed l (xs ++ ys) ≡ fed (fed l xs) ys
 unfolding fed
@@ -77,8 +79,8 @@ sound-ended w h = record { no-blame = by (lost w) }
     by true e = true-false e
     by false e = h .no-blame e
 
-sound-reported : (o : Bool) (xs : List DeviceError) (w : Row) → Sound w → Sound (reported o xs w)
-sound-reported o xs w h = by o (any (isStranger w) xs) (any isFault xs)
+sound-reported : (o : Edition) (xs : List DeviceError) (w : Row) → Sound w → Sound (reported o xs w)
+sound-reported o xs w h = by (isOld o) (any (isStranger w) xs) (any isFault xs)
   where
     by : (o a b : Bool) → Sound (cond o w (cond a (withMark true w) (cond b (withMark true (withBlame (blame w xs (w .blamed)) w)) w)))
     by true a b = h
@@ -99,7 +101,7 @@ sound-apply l (repaired n) h = all-amend (isRow n) _ (λ w k. record { no-blame 
 sound-apply l (forget n) h = all-discard (isRow n) h
 sound-apply l endGrace h = all-map ended sound-ended h
 sound-apply l restart h = all-map restarted (λ w k. as-was refl refl k) h
-sound-apply l (layoutReturn n c s d) h = all-amend (isRow n) _ (sound-reported (l .old) (errorsOf (reportOf (bodyOf s)))) h
+sound-apply l (layoutReturn n c s d) h = all-amend (isRow n) _ (sound-reported (l .edition) (errorsOf (reportOf (bodyOf s)))) h
 sound-apply l (resilver a b) h = h
 sound-apply l (offered a b) h = h
 

@@ -10,6 +10,9 @@ use Rattle.wire.specs.Reply.{replyIn}
 use Rattle.places.specs.Lists.{fill}
 use Rattle.files.specs.File.{blankFile, handedOnCode, returnedHeard, returnedFile}
 use Rattle.places.proofs.Slots.{Slots, all-replicate}
+use Rattle.files.specs.declared.head.Edition.{Edition}
+use Rattle.files.specs.declared.head.Edition.the-variants.{Current, Old}
+use Rattle.files.specs.Head.{isOld}
 use Rattle.recovery.specs.Calls.{Call, register, opening, reclaim, close, repaired, forget, endGrace, restart, layoutReturn, resilver, offered, Answer, said, replied, handedOn, listed, lend}
 use Rattle.ledger.specs.Ledger.{Ledger, noRows, judge, apply, accepted, feed, reply, isMarked, isOffered}
 use Rattle.recovery.specs.Record.{freshAs, returning, writing, returnedOf, layoutreturnOf, replyAfter}
@@ -88,7 +91,7 @@ step-agrees r l (resilver a b) m = by-list _ r l (resilver a b) _ _ a b (resilve
 step-agrees r l (offered a b) m = by-list _ r l (offered a b) _ _ a b (offered-agrees m a b) m
 
 -- ---- any list of calls
-same-edition : (l : Ledger) (x : Call) → apply l x .old ≡ l .old
+same-edition : (l : Ledger) (x : Call) → apply l x .edition ≡ l .edition
 unfolding apply
 same-edition l (register n s) = refl
 same-edition l (opening n c) = refl
@@ -114,29 +117,33 @@ unfolding answers recordAfter ledgerAfter
 after-all [] r l m = m
 after-all (x ∷ xs) r l m = let s = step-agrees r l x m in after-all xs (step r x .after) (feed l x (step r x .answer)) (rw (s .answer) (s .after))
 
-pub fresh-matches : (old : Bool) → Matches (freshAs old) (noRows old)
-fresh-matches old = record { old = refl; grace = refl; long = refl; rows = Slots.rest (all-replicate 64 blankFile refl); rising = tt }
+pub fresh-matches : (ed : Edition) → Matches (freshAs ed) (noRows ed)
+fresh-matches ed = record { old = refl; grace = refl; long = refl; rows = Slots.rest (all-replicate 64 blankFile refl); rising = tt }
 
 -- no call changes the ledger's edition
-kept-edition : (calls : List Call) (l : Ledger) (given : List Answer) → ledgerAfter l calls given .old ≡ l .old
+kept-edition : (calls : List Call) (l : Ledger) (given : List Answer) → ledgerAfter l calls given .edition ≡ l .edition
 unfolding ledgerAfter feed
 kept-edition [] l given = refl
 kept-edition (x ∷ xs) l [] = refl
 kept-edition (x ∷ xs) l (a ∷ given) = kept-edition xs (feed l x a) given ∙ by (accepted a)
   where
-    by : (b : Bool) → cond b (apply l x) l .old ≡ l .old
+    by : (b : Bool) → cond b (apply l x) l .edition ≡ l .edition
     by true = same-edition l x
     by false = refl
 
+named : (ed : Edition) → cond (isOld ed) Old Current ≡ ed
+named Current = refl
+named Old = refl
+
 pub history : Demand3
 unfolding judge
-history old calls =
-    let m = after-all calls (freshAs old) (noRows old) (fresh-matches old) in
+history ed calls =
+    let m = after-all calls (freshAs ed) (noRows ed) (fresh-matches ed) in
     record {
-      answered = all-answered calls (freshAs old) (noRows old) (fresh-matches old);
+      answered = all-answered calls (freshAs ed) (noRows ed) (fresh-matches ed);
       resilvers = λ a b. resilver-agrees m a b;
       offers = λ a b. offered-agrees m a b;
-      marked = one-list isMarked (ledgerOf old calls) (m .rising);
-      edition = m .old ∙ kept-edition calls (noRows old) (answers (freshAs old) calls);
-      idle = one-list isOffered (ledgerOf old calls) (m .rising);
+      marked = one-list isMarked (ledgerOf ed calls) (m .rising);
+      edition = ap (λ b. cond b Old Current) (m .old ∙ ap isOld (kept-edition calls (noRows ed) (answers (freshAs ed) calls))) ∙ named ed;
+      idle = one-list isOffered (ledgerOf ed calls) (m .rising);
     }

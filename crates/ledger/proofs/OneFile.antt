@@ -15,6 +15,7 @@ use Rattle.places.specs.Places.{bump, first, placeOr}
 use Rattle.mirroring.specs.Mirrors.{noMirror, isGood, placedMirrors, sourceIn}
 use Rattle.mirroring.specs.Blame.{heardNothing, told}
 use Rattle.intents.specs.Intents.{noIntent, noIntents, intentOf, isIntent, isFree, isKept, isLost, firstTaken, reclaimedIf, unreclaimedIntent}
+use Rattle.files.specs.declared.head.Edition.the-variants.{Current}
 use Rattle.files.specs.File as file
 use Rattle.files.specs.File.{fileOf, fileAnswered, takes, opens, reclaims, leaves, mendedFile, heeds, ofClient, restartedFile, endedFile, sourceOf}
 use Rattle.intents.specs.declared.Intent.{Intent}
@@ -163,13 +164,13 @@ file-ended f w h = record {
 
 -- ---- a report
 reports-at : {g : Bool} {f : File} {w : Row} (c : ℕ) (xs : List DeviceError) → FileIs g f w → AtIntent c g f w
-    → FileAgrees g (heeds f (ofClient (over (told (f .mirrors)) (heardNothing 0) xs) (first (isIntent c) (f .intents)))) w (reported false xs w) (refused (intentRules c w))
+    → FileAgrees g (heeds f (ofClient (over (told (f .mirrors)) (heardNothing 0) xs) (first (isIntent c) (f .intents)))) w (reported Current xs w) (refused (intentRules c w))
 unfolding has
 reports-at {f} c xs h (missing a b) = rw (a, b, nothing-heeded 10034 f) (record { same = refl; kept = h })
 reports-at {f} c xs h (found i y t) = rw (t .at, t .there) (record { same = status-stays (f .mirrors) xs (heardNothing 0); kept = file-after-report xs h })
 
 pub file-reported : {g : Bool} {f : File} {w : Row} (c : ℕ) (xs : List DeviceError) → FileIs g f w
-    → FileAgrees g (heeds f (ofClient (over (told (f .mirrors)) (heardNothing 0) xs) (first (isIntent c) (f .intents)))) w (reported false xs w) (refused (intentRules c w))
+    → FileAgrees g (heeds f (ofClient (over (told (f .mirrors)) (heardNothing 0) xs) (first (isIntent c) (f .intents)))) w (reported Current xs w) (refused (intentRules c w))
 file-reported c xs h = reports-at c xs h (at-intent c h)
 
 -- ---- the source

@@ -7,6 +7,7 @@ use Prim.Native.Nat.{ℕ}
 use lib.ListN.{length}
 use lib.Dec.{eqb}
 use Rattle.places.specs.Lists.{has, Rising}
+use Rattle.files.specs.Head.{isOld}
 use Rattle.files.specs.File as file
 use Rattle.intents.specs.declared.Intent.{Intent}
 use Rattle.mirroring.specs.declared.mirrors.Mirror.{Mirror}
@@ -44,7 +45,7 @@ NoFile f = f .used ≡ false
 
 -- ---- THE RELATION
 pub record Matches (r : Record) (l : Ledger) : Type 0 where
-  pub old : r .head .old ≡ l .old
+  pub old : r .head .old ≡ isOld (l .edition)
   pub grace : r .head .grace ≡ l .grace
   pub long : length (r .files) ≡ 64
   pub rows : Slots (FileIs (l .grace)) NoFile (r .files) (l .rows)

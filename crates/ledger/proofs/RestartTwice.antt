@@ -20,6 +20,8 @@ use Rattle.places.proofs.Sets.{true-false, first-no, rest-no}
 use Rattle.mirroring.specs.Mirrors.{noMirror}
 use Rattle.mirroring.specs.declared.mirrors.Mirror.{Mirror}
 use Rattle.files.specs.File.{noFile}
+use Rattle.files.specs.declared.head.Edition.{Edition}
+use Rattle.files.specs.declared.head.Edition.the-variants.{Current, Old}
 use Rattle.recovery.specs.Calls.{Call, register, opening, reclaim, close, repaired, forget, endGrace, restart, layoutReturn, resilver, offered, replied, lend}
 use Rattle.recovery.specs.Record.{freshAs, endOf}
 use Rattle.recovery.specs.declared.record.Record.{Record}
@@ -36,17 +38,17 @@ use Rattle.ledger.proofs.Within.{any-within}
 use Rattle.ledger.proofs.Worse.{Worse, nothing-in, after-restart, heeded, Kept, reclaim-kept, close-kept, repaired-kept, report-kept, restart-kept}
 
 -- ---- a call on two ledgers in grace
-abbrev inGrace : Bool → List Row → Ledger
-inGrace o ws = record { old = o; grace = true; rows = ws }
+abbrev inGrace : Edition → List Row → Ledger
+inGrace o ws = record { edition = o; grace = true; rows = ws }
 
 record Side (l l′ : Ledger) : Type 0 where
-  old : l′ .old ≡ l .old
+  edition : l′ .edition ≡ l .edition
   grace : l .grace ≡ true
   grace′ : l′ .grace ≡ true
   rows : Pairs Worse (l .rows) (l′ .rows)
 
-side : {o : Bool} {ws vs : List Row} → Pairs Worse ws vs → Side (inGrace o ws) (inGrace o vs)
-side s = record { old = refl; grace = refl; grace′ = refl; rows = s }
+side : {o : Edition} {ws vs : List Row} → Pairs Worse ws vs → Side (inGrace o ws) (inGrace o vs)
+side s = record { edition = refl; grace = refl; grace′ = refl; rows = s }
 
 pairs-amend : (n : ℕ) (g : Row → Row) → ((w v : Row) → Worse w v → Worse (g w) (g v)) → {ws vs : List Row} → Pairs Worse ws vs → Pairs Worse (amend (isRow n) g ws) (amend (isRow n) g vs)
 unfolding amend
@@ -86,34 +88,34 @@ module _ (n : ℕ) (t : Row → ℕ) (g : Row → Row) (d : Row) where
       by true e = here (eqb (t w) 0)
       by false e = e
 
-  heeded-ledger : (o : Bool) (ws : List Row) → cond (eqb (statusIn ws) 0) (inGrace o (amend (isRow n) g ws)) (inGrace o ws) ≡ inGrace o (amend (isRow n) (heeded t g) ws)
+  heeded-ledger : (o : Edition) (ws : List Row) → cond (eqb (statusIn ws) 0) (inGrace o (amend (isRow n) g ws)) (inGrace o ws) ≡ inGrace o (amend (isRow n) (heeded t g) ws)
   heeded-ledger o ws = by (eqb (statusIn ws) 0) ∙ ap (inGrace o) (heeded-rows ws)
     where
       by : (b : Bool) → cond b (inGrace o (amend (isRow n) g ws)) (inGrace o ws) ≡ inGrace o (cond b (amend (isRow n) g ws) ws)
       by true = refl
       by false = refl
 
-one-file : (o : Bool) (n : ℕ) (t : Row → ℕ) (g : Row → Row) → Kept t g → {ws vs : List Row} → Pairs Worse ws vs
+one-file : (o : Edition) (n : ℕ) (t : Row → ℕ) (g : Row → Row) → Kept t g → {ws vs : List Row} → Pairs Worse ws vs
     → Side (cond (eqb (statusIn n t g (newRow n []) ws) 0) (inGrace o (amend (isRow n) g ws)) (inGrace o ws)) (cond (eqb (statusIn n t g (newRow n []) vs) 0) (inGrace o (amend (isRow n) g vs)) (inGrace o vs))
 one-file o n t g k {ws} {vs} s = rw (heeded-ledger n t g (newRow n []) o ws, heeded-ledger n t g (newRow n []) o vs) (side (pairs-amend n (heeded t g) k s))
 
 -- LAYOUTRETURN: only a report of the all-zero stateid, whole, is accepted in grace
-return-side : (o : Bool) (n c : ℕ) (s d : List ℕ) (q : Request) → requestOf s ≡ q → {ws vs : List Row} → Pairs Worse ws vs
+return-side : (o : Edition) (n c : ℕ) (s d : List ℕ) (q : Request) → requestOf s ≡ q → {ws vs : List Row} → Pairs Worse ws vs
     → Side (feed (inGrace o ws) (layoutReturn n c s d) (judgeRequest (inGrace o ws) n c s d q)) (feed (inGrace o vs) (layoutReturn n c s d) (judgeRequest (inGrace o vs) n c s d q))
 unfolding feed apply registered rowOf
 return-side o n c s d (request.Refused k) e h = rw (ne-eqb k 0 (refused-number s e)) (side h)
 return-side o n c s d request.Bulk e h = side h
 return-side o n c s d (request.File false k) e h = side h
-return-side true n c s d (request.File true k) e h = side h
-return-side false n c s d (request.File true k) e {ws} {vs} h = by (reportOf (bodyOf s))
+return-side Old n c s d (request.File true k) e h = side h
+return-side Current n c s d (request.File true k) e {ws} {vs} h = by (reportOf (bodyOf s))
   where
     by : (p : Report)
-        → Side (cond (eqb (refused (reportRules (inGrace false ws) n c p)) 0) (onRow (inGrace false ws) n (reported false (errorsOf p))) (inGrace false ws)) (cond (eqb (refused (reportRules (inGrace false vs) n c p)) 0) (onRow (inGrace false vs) n (reported false (errorsOf p))) (inGrace false vs))
+        → Side (cond (eqb (refused (reportRules (inGrace Current ws) n c p)) 0) (onRow (inGrace Current ws) n (reported Current (errorsOf p))) (inGrace Current ws)) (cond (eqb (refused (reportRules (inGrace Current vs) n c p)) 0) (onRow (inGrace Current vs) n (reported Current (errorsOf p))) (inGrace Current vs))
     by Malformed = side h
     by Statistics = side h
-    by (Whole xs) = one-file false n (λ w. refused (intentRules c w)) (reported false xs) (report-kept c xs) h
+    by (Whole xs) = one-file Current n (λ w. refused (intentRules c w)) (reported Current xs) (report-kept c xs) h
 
-step-side : (o : Bool) (x : Call) {ws vs : List Row} → (x ≡ endGrace → ⊥) → Pairs Worse ws vs → Side (feed (inGrace o ws) x (judge (inGrace o ws) x)) (feed (inGrace o vs) x (judge (inGrace o vs) x))
+step-side : (o : Edition) (x : Call) {ws vs : List Row} → (x ≡ endGrace → ⊥) → Pairs Worse ws vs → Side (feed (inGrace o ws) x (judge (inGrace o ws) x)) (feed (inGrace o vs) x (judge (inGrace o vs) x))
 unfolding feed judge apply registered rowOf
 step-side o (register n s) k h = side h
 step-side o (opening n c) k h = side h
@@ -132,11 +134,11 @@ step-side o (resilver a b) {ws} {vs} k h = rw (lend-changes-nothing _ _ a b, len
 step-side o (offered a b) {ws} {vs} k h = rw (lend-changes-nothing _ _ a b, lend-changes-nothing _ _ a b) (side h)
 
 -- ---- the calls up to the end
-ledger-is : (l : Ledger) {o : Bool} → l .old ≡ o → l .grace ≡ true → l ≡ inGrace o (l .rows)
-ledger-is l u e = ap₂ {C = Ledger} (λ o g. record { old = o; grace = g; rows = l .rows }) u e
+ledger-is : (l : Ledger) {o : Edition} → l .edition ≡ o → l .grace ≡ true → l ≡ inGrace o (l .rows)
+ledger-is l u e = ap₂ {C = Ledger} (λ o g. record { edition = o; grace = g; rows = l .rows }) u e
 
 next-side : (x : Call) {l l′ : Ledger} → (x ≡ endGrace → ⊥) → Side l l′ → Side (feed l x (judge l x)) (feed l′ x (judge l′ x))
-next-side x {l} {l′} k h = rw (ledger-is l refl (h .grace), ledger-is l′ (h .old) (h .grace′)) (step-side (l .old) x k (h .rows))
+next-side x {l} {l′} k h = rw (ledger-is l refl (h .grace), ledger-is l′ (h .edition) (h .grace′)) (step-side (l .edition) x k (h .rows))
 
 -- a record out of grace ends the period
 over-at-once : (r : Record) (xs : List Call) → r .head .grace ≡ false → inGraceThrough r xs ≡ true → ⊥
@@ -215,12 +217,12 @@ module _ (n : ℕ) where
       by true false e t = true-false (sym e)
       by false true e t = true-false e
 
-  ended-rows : (o : Bool) {ws vs : List Row} → Pairs Worse ws vs → SameFile n (fed (inGrace o ws) (endGrace ∷ [])) (fed (inGrace o vs) (endGrace ∷ []))
+  ended-rows : (o : Edition) {ws vs : List Row} → Pairs Worse ws vs → SameFile n (fed (inGrace o ws) (endGrace ∷ [])) (fed (inGrace o vs) (endGrace ∷ []))
   unfolding fed feed judge apply registered rowOf
   ended-rows o s = let t = pairs-both ended ended-kept s in record { there = any-row t; row = first-row (newRow n []) t }
 
   ended-side : {l l′ : Ledger} → Side l l′ → SameFile n (fed l (endGrace ∷ [])) (fed l′ (endGrace ∷ []))
-  ended-side {l} {l′} h = rw (ledger-is l refl (h .grace), ledger-is l′ (h .old) (h .grace′)) (ended-rows (l .old) (h .rows))
+  ended-side {l} {l′} h = rw (ledger-is l refl (h .grace), ledger-is l′ (h .edition) (h .grace′)) (ended-rows (l .edition) (h .rows))
 
 -- ---- two histories
 restarts : {ws : List Row} → All Sound ws → Pairs Worse ws (map restarted ws)
@@ -229,28 +231,28 @@ restarts (All.all-cons {x = w} h t) = Pairs.pairs-cons (after-restart w h) (rest
 
 restart-side : (l : Ledger) → l .grace ≡ true → All Sound (l .rows) → Side l (feed l restart (judge l restart))
 unfolding feed judge apply
-restart-side l e h = record { old = refl; grace = e; grace′ = refl; rows = restarts h }
+restart-side l e h = record { edition = refl; grace = e; grace′ = refl; rows = restarts h }
 
-module _ (old : Bool) (before during : List Call) (g : inGraceThrough (recordAfter (freshAs old) before) during ≡ true) (n : ℕ) where
+module _ (ed : Edition) (before during : List Call) (g : inGraceThrough (recordAfter (freshAs ed) before) during ≡ true) (n : ℕ) where
   abbrev so-far : Ledger
-  so-far = fed (noRows old) before
+  so-far = fed (noRows ed) before
 
-  matched : Matches (recordAfter (freshAs old) before) so-far
-  matched = rw (fed-ledger old before) at (after-all before (freshAs old) (noRows old) (fresh-matches old))
+  matched : Matches (recordAfter (freshAs ed) before) so-far
+  matched = rw (fed-ledger ed before) at (after-all before (freshAs ed) (noRows ed) (fresh-matches ed))
 
   sides : Side (fed so-far during) (fed (feed so-far restart (judge so-far restart)) during)
   sides =
-      through-side during (recordAfter (freshAs old) before) so-far (feed so-far restart (judge so-far restart)) matched g
-      (restart-side so-far (sym (matched .grace) ∙ still-in (recordAfter (freshAs old) before) during g) (sound-fed before (noRows old) All.all-nil))
+      through-side during (recordAfter (freshAs ed) before) so-far (feed so-far restart (judge so-far restart)) matched g
+      (restart-side so-far (sym (matched .grace) ∙ still-in (recordAfter (freshAs ed) before) during g) (sound-fed before (noRows ed) All.all-nil))
 
-  once-is : ledgerOf old (before ++ during ++ endGrace ∷ []) ≡ fed (fed so-far during) (endGrace ∷ [])
-  once-is = fed-ledger old (before ++ during ++ endGrace ∷ []) ∙ fed-append (before ++ during) (endGrace ∷ []) (noRows old) ∙ ap (λ l. fed l (endGrace ∷ [])) (fed-append before during (noRows old))
+  once-is : ledgerOf ed (before ++ during ++ endGrace ∷ []) ≡ fed (fed so-far during) (endGrace ∷ [])
+  once-is = fed-ledger ed (before ++ during ++ endGrace ∷ []) ∙ fed-append (before ++ during) (endGrace ∷ []) (noRows ed) ∙ ap (λ l. fed l (endGrace ∷ [])) (fed-append before during (noRows ed))
 
-  twice-is : ledgerOf old (before ++ restart ∷ during ++ endGrace ∷ []) ≡ fed (fed (feed so-far restart (judge so-far restart)) during) (endGrace ∷ [])
+  twice-is : ledgerOf ed (before ++ restart ∷ during ++ endGrace ∷ []) ≡ fed (fed (feed so-far restart (judge so-far restart)) during) (endGrace ∷ [])
   unfolding fed
-  twice-is = fed-ledger old (before ++ restart ∷ during ++ endGrace ∷ []) ∙ fed-append (before ++ restart ∷ during) (endGrace ∷ []) (noRows old) ∙ ap (λ l. fed l (endGrace ∷ [])) (fed-append before (restart ∷ during) (noRows old))
+  twice-is = fed-ledger ed (before ++ restart ∷ during ++ endGrace ∷ []) ∙ fed-append (before ++ restart ∷ during) (endGrace ∷ []) (noRows ed) ∙ ap (λ l. fed l (endGrace ∷ [])) (fed-append before (restart ∷ during) (noRows ed))
 
-  same-file : SameFile n (ledgerOf old (before ++ during ++ endGrace ∷ [])) (ledgerOf old (before ++ restart ∷ during ++ endGrace ∷ []))
+  same-file : SameFile n (ledgerOf ed (before ++ during ++ endGrace ∷ [])) (ledgerOf ed (before ++ restart ∷ during ++ endGrace ∷ []))
   same-file = rw (once-is, twice-is) (ended-side n sides)
 
 -- ---- the record's list: room for 64 is enough
@@ -264,22 +266,22 @@ take-fill [] a h = refl
 take-fill (n ∷ ns) [] h = absurd (omega arith)
 take-fill (n ∷ ns) (x ∷ xs) h = ap {B = List ℕ} (λ s. n ∷ s) (take-fill ns xs (omega arith))
 
-few-files : (old : Bool) (calls : List Call) → length (numbers (needRepair (ledgerOf old calls))) ≤ 64
-few-files old calls =
-    let m = after-all calls (freshAs old) (noRows old) (fresh-matches old) in
-    let l = ledgerOf old calls in
+few-files : (ed : Edition) (calls : List Call) → length (numbers (needRepair (ledgerOf ed calls))) ≤ 64
+few-files ed calls =
+    let m = after-all calls (freshAs ed) (noRows ed) (fresh-matches ed) in
+    let l = ledgerOf ed calls in
     omega (arith, length-map (needRepair l) (λ (w : Row). w .number), chosen-length isMarked (l .rows), slots-length (m .rows), m .long)
 
 listed-files : (ns ss a b : List ℕ) → length ns ≤ length a → length ns ≤ length b → filesOf (lend ns ss a b) ≡ ns
 unfolding lend
 listed-files ns ss a b h k = rw (le-leb (length ns) (length a) h, le-leb (length ns) (length b) k) (take-fill ns a h)
 
-resilver-files : (old : Bool) (calls : List Call) → resilverFiles old calls ≡ numbers (needRepair (ledgerOf old calls))
+resilver-files : (ed : Edition) (calls : List Call) → resilverFiles ed calls ≡ numbers (needRepair (ledgerOf ed calls))
 unfolding judge
-resilver-files old calls = ap filesOf (history old calls .resilvers (replicate 64 0) (replicate 64 0)) ∙ listed-files (numbers (needRepair (ledgerOf old calls))) _ (replicate 64 0) (replicate 64 0) (few-files old calls) (few-files old calls)
+resilver-files ed calls = ap filesOf (history ed calls .resilvers (replicate 64 0) (replicate 64 0)) ∙ listed-files (numbers (needRepair (ledgerOf ed calls))) _ (replicate 64 0) (replicate 64 0) (few-files ed calls) (few-files ed calls)
 
-is-listed : (old : Bool) (calls : List Call) (n : ℕ) → has n (resilverFiles old calls) ≡ rowPasses isMarked n (ledgerOf old calls)
-is-listed old calls n = ap (has n) (resilver-files old calls) ∙ history old calls .marked .is .exactly n
+is-listed : (ed : Edition) (calls : List Call) (n : ℕ) → has n (resilverFiles ed calls) ≡ rowPasses isMarked n (ledgerOf ed calls)
+is-listed ed calls n = ap (has n) (resilver-files ed calls) ∙ history ed calls .marked .is .exactly n
 
 both-true : (b : Bool) {p q : Bool} → (p ≡ true → q ≡ true) → cond b p false ≡ true → cond b q false ≡ true
 both-true true f e = f e
@@ -310,18 +312,18 @@ module _ (r : Record) (l : Ledger) (n i : ℕ) where
       let f = z .pair noFile in
       rw (here n r l j w z, it-is n r l j w z) (ap (λ (m : Mirror). m .blamed) (List·getD-eq-default (getD (r .files) j noFile .mirrors) noMirror (omega (arith, ltb-false i 4 k, f .copies .four))))
 
-blame-is : (old : Bool) (calls : List Call) (n i : ℕ) → isBlamed n i (recordAfter (freshAs old) calls) ≡ cond (ltb i 4) (has i (rowOf n (ledgerOf old calls) .blamed)) false
-blame-is old calls n i = blame-by (recordAfter (freshAs old) calls) (ledgerOf old calls) n i (at-file n (after-all calls (freshAs old) (noRows old) (fresh-matches old))) (ltb i 4) refl
+blame-is : (ed : Edition) (calls : List Call) (n i : ℕ) → isBlamed n i (recordAfter (freshAs ed) calls) ≡ cond (ltb i 4) (has i (rowOf n (ledgerOf ed calls) .blamed)) false
+blame-is ed calls n i = blame-by (recordAfter (freshAs ed) calls) (ledgerOf ed calls) n i (at-file n (after-all calls (freshAs ed) (noRows ed) (fresh-matches ed))) (ltb i 4) refl
 
 pub restart-twice : RestartTwice
-restart-twice old before during g =
+restart-twice ed before during g =
     let once = before ++ during ++ endGrace ∷ [] in
     let twice = before ++ restart ∷ during ++ endGrace ∷ [] in
     record {
-      listed = λ n e. is-listed old twice n ∙ passes-too n (ledgerOf old once) (ledgerOf old twice) (same-file old before during g n) (sym (is-listed old once n) ∙ e);
-      blamed = λ n i e. same-file old before during g n .row .blamed i e;
-      held = λ n i e. blame-is old twice n i ∙ both-true (ltb i 4) (same-file old before during g n .row .blamed i) (sym (blame-is old once n i) ∙ e);
-      mirrors = λ n. same-file old before during g n .row .mirrors;
+      listed = λ n e. is-listed ed twice n ∙ passes-too n (ledgerOf ed once) (ledgerOf ed twice) (same-file ed before during g n) (sym (is-listed ed once n) ∙ e);
+      blamed = λ n i e. same-file ed before during g n .row .blamed i e;
+      held = λ n i e. blame-is ed twice n i ∙ both-true (ltb i 4) (same-file ed before during g n .row .blamed i) (sym (blame-is ed once n i) ∙ e);
+      mirrors = λ n. same-file ed before during g n .row .mirrors;
     }
 
 -- ---- a restart and the end of grace at once
@@ -350,7 +352,7 @@ unfolding fed feed judge apply registered rowOf
 restarted-and-ended n l e = forgotten n (l .rows) e
 
 pub reclaim-again : ReclaimAgain
-reclaim-again old before n e =
+reclaim-again ed before n e =
     let calls = before ++ restart ∷ endGrace ∷ [] in
-    is-listed old calls n ∙ ap (rowPasses isMarked n) (fed-ledger old calls ∙ fed-append before (restart ∷ endGrace ∷ []) (noRows old))
-    ∙ restarted-and-ended n (fed (noRows old) before) (rw (fed-ledger old before) at e)
+    is-listed ed calls n ∙ ap (rowPasses isMarked n) (fed-ledger ed calls ∙ fed-append before (restart ∷ endGrace ∷ []) (noRows ed))
+    ∙ restarted-and-ended n (fed (noRows ed) before) (rw (fed-ledger ed before) at e)

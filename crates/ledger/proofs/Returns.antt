@@ -18,6 +18,8 @@ use Rattle.places.specs.Places.{first}
 use Rattle.intents.specs.Intents.{isIntent}
 use Rattle.mirroring.specs.declared.blame.Heard.{Heard}
 use Rattle.mirroring.specs.Blame.{heardNothing, told, heardOf}
+use Rattle.files.specs.Head.{isOld}
+use Rattle.files.specs.declared.head.Edition.{Edition}
 use Rattle.files.specs.File.{isFile, fileAnswered, heededFile, heeds, ofIntent, ifWhole, reportHeard, asksHeard, handedOnCode}
 use Rattle.files.specs.declared.file.File.{File}
 use Rattle.files.specs.declared.file.FileAnswered.{FileAnswered}
@@ -47,8 +49,8 @@ read-as s request.Bulk e = tt
 read-as s (request.File a n) e = tt
 
 -- ---- steps 5 to 7, in grace
-reported-number : (o : Bool) (xs : List DeviceError) (w : Row) → reported o xs w .number ≡ w .number
-reported-number o xs w = by o (any (isStranger w) xs) (any isFault xs)
+reported-number : (o : Edition) (xs : List DeviceError) (w : Row) → reported o xs w .number ≡ w .number
+reported-number o xs w = by (isOld o) (any (isStranger w) xs) (any isFault xs)
   where
     by : (o a b : Bool) → cond o w (cond a (withMark true w) (cond b (withMark true (withBlame (blame w xs (w .blamed)) w)) w)) .number ≡ w .number
     by true a b = refl
@@ -62,11 +64,11 @@ reported-file n c h f e = ap (λ k. heeds f (cond (eqb k 0) (ofIntent n c f h) h
 abbrev reportsFile : ℕ → ℕ → Report → File → FileAnswered
 reportsFile n c p f = heeds f (reportHeard n c p f)
 
-report-agrees : {r : Record} {l : Ledger} (n c : ℕ) (p : Report) → l .old ≡ false → Matches r l → RecordAgrees (onPlace n (reportsFile n c p) r) l (onRow l n (reported (l .old) (errorsOf p))) (refused (reportRules l n c p))
+report-agrees : {r : Record} {l : Ledger} (n c : ℕ) (p : Report) → isOld (l .edition) ≡ false → Matches r l → RecordAgrees (onPlace n (reportsFile n c p) r) l (onRow l n (reported (l .edition) (errorsOf p))) (refused (reportRules l n c p))
 unfolding reportHeard heardOf outcome
 report-agrees n c Malformed q m = refused-any n (reportsFile n c Malformed) 10036 refl (nothing-heeded 10036) m
 report-agrees n c Statistics q m = refused-any n (reportsFile n c Statistics) 10004 refl (nothing-heeded 10004) m
-report-agrees {r} {l} n c (Whole xs) q m = on-file n (reportsFile n c (Whole xs)) (reported (l .old) xs) (λ w. refused (intentRules c w)) (reported-number (l .old) xs)
+report-agrees {r} {l} n c (Whole xs) q m = on-file n (reportsFile n c (Whole xs)) (reported (l .edition) xs) (λ w. refused (intentRules c w)) (reported-number (l .edition) xs)
     (λ f w i k. rw (reported-file n c (over (told (f .mirrors)) (heardNothing 0) xs) f (status-stays (f .mirrors) xs (heardNothing 0)), i, q) (file-reported c xs k))
     (λ f i. rw (reported-file n c (over (told (f .mirrors)) (heardNothing 0) xs) f (status-stays (f .mirrors) xs (heardNothing 0)), i) (nothing-heeded 70 f)) m
 
@@ -74,7 +76,7 @@ report-agrees {r} {l} n c (Whole xs) q m = on-file n (reportsFile n c (Whole xs)
 abbrev codeOf : Ledger → ℕ → ℕ → List ℕ → Request → ℕ
 codeOf l n c s (request.Refused k) = k
 codeOf l n c s request.Bulk = handedOnCode
-codeOf l n c s (request.File true k) = cond (l .old) 10025 (cond (not (l .grace)) 10033 (refused (reportRules l n c (reportOf (bodyOf s)))))
+codeOf l n c s (request.File true k) = cond (isOld (l .edition)) 10025 (cond (not (l .grace)) 10033 (refused (reportRules l n c (reportOf (bodyOf s)))))
 codeOf l n c s (request.File false k) = cond (l .grace) 10013 handedOnCode
 
 module _ {r : Record} {l : Ledger} (m : Matches r l) (n c : ℕ) (s : List ℕ) where
@@ -82,16 +84,16 @@ module _ {r : Record} {l : Ledger} (m : Matches r l) (n c : ℕ) (s : List ℕ) 
   asks o g q f = heeds f (asksHeard n (record { grace = g; old = o }) c s f q)
 
   abbrev Asked : Request → ℕ → Type 0
-  Asked q t = RecordAgrees (onPlace n (asks (r .head .old) (r .head .grace) q) r) l (onRow l n (reported (l .old) (errorsOf (reportOf (bodyOf s))))) t
+  Asked q t = RecordAgrees (onPlace n (asks (r .head .old) (r .head .grace) q) r) l (onRow l n (reported (l .edition) (errorsOf (reportOf (bodyOf s))))) t
 
-  at-phase : (q : Request) {t : ℕ} (o b : Bool) → r .head .old ≡ o → l .grace ≡ b → RecordAgrees (onPlace n (asks o b q) r) l (onRow l n (reported (l .old) (errorsOf (reportOf (bodyOf s))))) t → Asked q t
+  at-phase : (q : Request) {t : ℕ} (o b : Bool) → r .head .old ≡ o → l .grace ≡ b → RecordAgrees (onPlace n (asks o b q) r) l (onRow l n (reported (l .edition) (errorsOf (reportOf (bodyOf s))))) t → Asked q t
   at-phase q o b u e h = rw (ap (λ z. onPlace n (asks z (r .head .grace) q) r) u ∙ ap (λ g. onPlace n (asks o g q) r) (m .grace ∙ e)) h
 
   ordinary-by : (k : ℕ) (b : Bool) → l .grace ≡ b → Asked (request.File false k) (cond b 10013 handedOnCode)
   ordinary-by k true e = at-phase (request.File false k) (r .head .old) true refl e (refused-any n (asks (r .head .old) true (request.File false k)) 10013 refl (nothing-heeded 10013) m)
   ordinary-by k false e = at-phase (request.File false k) (r .head .old) false refl e (refused-any n (asks (r .head .old) false (request.File false k)) handedOnCode refl (nothing-heeded handedOnCode) m)
 
-  anonymous-by : (k : ℕ) (o b : Bool) → l .old ≡ o → l .grace ≡ b → Asked (request.File true k) (cond o 10025 (cond (not b) 10033 (refused (reportRules l n c (reportOf (bodyOf s))))))
+  anonymous-by : (k : ℕ) (o b : Bool) → isOld (l .edition) ≡ o → l .grace ≡ b → Asked (request.File true k) (cond o 10025 (cond (not b) 10033 (refused (reportRules l n c (reportOf (bodyOf s))))))
   anonymous-by k true b u e = at-phase (request.File true k) true (l .grace) (m .old ∙ u) refl (refused-any n (asks true (l .grace) (request.File true k)) 10025 refl (nothing-heeded 10025) m)
   anonymous-by k false false u e = at-phase (request.File true k) false false (m .old ∙ u) e (refused-any n (asks false false (request.File true k)) 10033 refl (nothing-heeded 10033) m)
   anonymous-by k false true u e = at-phase (request.File true k) false true (m .old ∙ u) e (report-agrees n c (reportOf (bodyOf s)) u m)
@@ -99,7 +101,7 @@ module _ {r : Record} {l : Ledger} (m : Matches r l) (n c : ℕ) (s : List ℕ) 
   asks-agrees : (q : Request) → Read-as q → Asked q (codeOf l n c s q)
   asks-agrees (request.Refused k) h = refused-any n (asks (r .head .old) (r .head .grace) (request.Refused k)) k (ne-eqb k 0 (h .nonzero)) (nothing-heeded k) m
   asks-agrees request.Bulk h = refused-any n (asks (r .head .old) (r .head .grace) request.Bulk) handedOnCode refl (nothing-heeded handedOnCode) m
-  asks-agrees (request.File true k) h = anonymous-by k (l .old) (l .grace) refl refl
+  asks-agrees (request.File true k) h = anonymous-by k (isOld (l .edition)) (l .grace) refl refl
   asks-agrees (request.File false k) h = ordinary-by k (l .grace) refl
 
 -- ---- the answer
@@ -118,7 +120,7 @@ answer-is : (l : Ledger) (n c : ℕ) (s d : List ℕ) (q : Request) → Read-as 
 answer-is l n c s d (request.Refused k) h = rw (not-handed k (h .small))
 answer-is l n c s d request.Bulk h = refl
 answer-is l n c s d (request.File true k) h =
-    rw (not-handed _ (cond-below (l .old) 20000 10025 (cond (not (l .grace)) 10033 (refused (reportRules l n c (reportOf (bodyOf s))))) (omega arith) (cond-below (not (l .grace)) 20000 10033 (refused (reportRules l n c (reportOf (bodyOf s)))) (omega arith) (rules-low l n c (reportOf (bodyOf s))))))
+    rw (not-handed _ (cond-below (isOld (l .edition)) 20000 10025 (cond (not (l .grace)) 10033 (refused (reportRules l n c (reportOf (bodyOf s))))) (omega arith) (cond-below (not (l .grace)) 20000 10033 (refused (reportRules l n c (reportOf (bodyOf s)))) (omega arith) (rules-low l n c (reportOf (bodyOf s))))))
 answer-is l n c s d (request.File false k) h = by (l .grace)
   where
     by : (b : Bool) → handing (cond b 10013 handedOnCode) d ≡ cond b (reply 10013 d) (handedOn d)
@@ -128,7 +130,7 @@ answer-is l n c s d (request.File false k) h = by (l .grace)
 -- a LAYOUTRETURN whose reply buffer is long enough: t is its status or that number
 pub record ReturnAgrees (r : Record) (l : Ledger) (n c : ℕ) (s d : List ℕ) : Type 0 where
   pub code : ℕ
-  pub agrees : RecordAgrees (onPlace n (λ f. heeds f (asksHeard n (r .head) c s f (requestOf s))) r) l (onRow l n (reported (l .old) (errorsOf (reportOf (bodyOf s))))) code
+  pub agrees : RecordAgrees (onPlace n (λ f. heeds f (asksHeard n (r .head) c s f (requestOf s))) r) l (onRow l n (reported (l .edition) (errorsOf (reportOf (bodyOf s))))) code
   pub answer : handing code d ≡ judgeRequest l n c s d (requestOf s)
 
 pub return-agrees : {r : Record} {l : Ledger} → Matches r l → (n c : ℕ) (s d : List ℕ) → ReturnAgrees r l n c s d

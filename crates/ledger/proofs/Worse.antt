@@ -10,6 +10,7 @@ use Rattle.reports.specs.Report.{DeviceError}
 use Rattle.places.specs.Lists.{any, has, with, none, discard}
 use Rattle.places.proofs.Sets.{true-false, has-with, any-same}
 use Rattle.mirroring.specs.Devices.{deviceOf, isMirror, placeOf}
+use Rattle.files.specs.declared.head.Edition.the-variants.{Current}
 use Rattle.ledger.specs.Ledger.{Row, refused, intentRules, closeRules, repairedRules, hasReclaimed, closed, mended, restarted, isFault, isStranger, blame, reported, withMark, withBlame, withIntents}
 use Rattle.ledger.proofs.Fed.{Sound, as-was}
 use Rattle.ledger.proofs.Within.{Within, within-self, or-true, has-within, none-within, within-less, within-discard, within-but}
@@ -200,11 +201,11 @@ module _ {w v : Row} (h : Worse w v) (xs : List DeviceError) where
   }
   one-reported false false = h
 
-pub report-kept : (c : ℕ) (xs : List DeviceError) → Kept (λ w. refused (intentRules c w)) (reported false xs)
+pub report-kept : (c : ℕ) (xs : List DeviceError) → Kept (λ w. refused (intentRules c w)) (reported Current xs)
 report-kept c xs w v h = by (has c (w .intents)) (has c (v .intents)) refl refl
   where
     by : (a b : Bool) → has c (w .intents) ≡ a → has c (v .intents) ≡ b
-        → Worse (cond (eqb (cond (not a) 10034 0) 0) (reported false xs w) w) (cond (eqb (cond (not b) 10034 0) 0) (reported false xs v) v)
+        → Worse (cond (eqb (cond (not a) 10034 0) 0) (reported Current xs w) w) (cond (eqb (cond (not b) 10034 0) 0) (reported Current xs v) v)
     by true true e k = both-reported h xs (any (isStranger w) xs) (any (isStranger v) xs) (any isFault xs) (any-same (isStranger v) (isStranger w) (λ x. ap (λ ms. not (isMirror (deviceOf x) ms)) (h .mirrors)) xs)
     by true false e k = true-false (sym (has-within c (h .intents) e) ∙ k)
     by false true e k = one-reported h xs (any (isStranger v) xs) (any isFault xs)

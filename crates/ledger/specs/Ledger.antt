@@ -14,6 +14,8 @@ use Rattle.wire.specs.declared.request.Request.{Request}
 use Rattle.wire.specs.declared.request.Request.the-variants as request
 use Rattle.places.specs.Lists.{any, chosen, has, with, none, amend, discard, firstOr, fill}
 use Rattle.mirroring.specs.Devices.{deviceOf, mirrorsIn, isMirror, placeOf, badMirrors}
+use Rattle.files.specs.Head.{isOld}
+use Rattle.files.specs.declared.head.Edition.{Edition}
 use Rattle.recovery.specs.Calls.{Call, register, opening, reclaim, close, repaired, forget, endGrace, restart, layoutReturn, resilver, offered, Answer, said, replied, handedOn, listed, lend}
 
 -- ---- rows
@@ -42,21 +44,21 @@ withMark b w = record { number = w .number; mirrors = w .mirrors; intents = w .i
 abbrev pub withBlame : List ℕ → Row → Row
 withBlame bs w = record { number = w .number; mirrors = w .mirrors; intents = w .intents; reclaimed = w .reclaimed; marked = w .marked; blamed = bs }
 
--- whether the record is set up as old (request 1), whether in grace, and the rows, which stand by rising number
+-- the record's edition (02, Ticket 1), whether in grace, and the rows, which stand by rising number
 pub record Ledger : Type 0 where
-  pub old : Bool
+  pub edition : Edition
   pub grace : Bool
   pub rows : List Row
 
 -- without rows and not in grace; nothing changes the edition
-abbrev pub noRows : Bool → Ledger
-noRows old = record { old = old; grace = false; rows = [] }
+abbrev pub noRows : Edition → Ledger
+noRows e = record { edition = e; grace = false; rows = [] }
 
 abbrev pub withRows : List Row → Ledger → Ledger
-withRows ws l = record { old = l .old; grace = l .grace; rows = ws }
+withRows ws l = record { edition = l .edition; grace = l .grace; rows = ws }
 
 abbrev pub withGrace : Bool → Ledger → Ledger
-withGrace g l = record { old = l .old; grace = g; rows = l .rows }
+withGrace g l = record { edition = l .edition; grace = g; rows = l .rows }
 
 abbrev pub isRow : ℕ → Row → Bool
 isRow n w = eqb (w .number) n
@@ -170,7 +172,7 @@ reportRules l n c p = bodyRules p ++ not (registered n l) ⇒ 70 ∷ intentRules
 abbrev pub judgeRequest : Ledger → ℕ → ℕ → List ℕ → List ℕ → Request → Answer
 judgeRequest l n c s d (request.Refused k) = reply k d
 judgeRequest l n c s d request.Bulk = handedOn d
-judgeRequest l n c s d (request.File true k) = reply (refused (l .old ⇒ 10025 ∷ not (l .grace) ⇒ 10033 ∷ reportRules l n c (reportOf (bodyOf s)))) d
+judgeRequest l n c s d (request.File true k) = reply (refused (isOld (l .edition) ⇒ 10025 ∷ not (l .grace) ⇒ 10033 ∷ reportRules l n c (reportOf (bodyOf s)))) d
 judgeRequest l n c s d (request.File false k) = firstOf (l .grace ⇒ reply 10013 d ∷ []) (handedOn d)
 
 -- ---- what the ledger before a call says that it is answered
@@ -218,11 +220,10 @@ blame w (x ∷ xs) bs = blame w xs (cond (isFault x) (with (placeIn w (deviceOf 
 abbrev pub isStranger : Row → DeviceError → Bool
 isStranger w x = not (names w (deviceOf x))
 
--- in a record set up as old no report marks or blames; else, if a named device is no mirror, the file is marked and nobody blamed; else each fault is blamed, and one
--- such marks
-abbrev pub reported : Bool → List DeviceError → Row → Row
-reported old xs w =
-    cond old w
+-- an old record takes no report; else, if a named device is no mirror, the file is marked and nobody blamed; else each fault is blamed, and one such marks
+abbrev pub reported : Edition → List DeviceError → Row → Row
+reported e xs w =
+    cond (isOld e) w
     (cond (any (isStranger w) xs) (withMark true w)
     (cond (any isFault xs) (withMark true (withBlame (blame w xs (w .blamed)) w)) w))
 
@@ -250,7 +251,7 @@ apply l (repaired n) = onRow l n mended
 apply l (forget n) = withRows (discard (isRow n) (l .rows)) l
 apply l endGrace = withGrace false (withRows (map ended (l .rows)) l)
 apply l restart = withGrace true (withRows (map restarted (l .rows)) l)
-apply l (layoutReturn n c s d) = onRow l n (reported (l .old) (errorsOf (reportOf (bodyOf s))))
+apply l (layoutReturn n c s d) = onRow l n (reported (l .edition) (errorsOf (reportOf (bodyOf s))))
 apply l (resilver a b) = l
 apply l (offered a b) = l
 

@@ -6,6 +6,7 @@ use mathlib.Core.Bool.{Bool, true, false, cond}
 use Prim.Native.Nat.{ℕ}
 use lib.ListN.{getD, take, replicate}
 use Rattle.places.specs.Lists.{has}
+use Rattle.files.specs.declared.head.Edition.{Edition}
 use Rattle.recovery.specs.Calls.{Call, endGrace, restart, Answer, said, replied, handedOn, listed}
 use Rattle.mirroring.specs.Mirrors.{noMirror}
 use Rattle.files.specs.File.{isFile}
@@ -28,12 +29,12 @@ filesOf (handedOn d) = []
 filesOf (listed s count a b) = take count a
 
 -- the files that the record's resilver list gives after some calls; it is lent room for 64, and a record has no more
-abbrev pub resilverFiles : Bool → List Call → List ℕ
-resilverFiles old calls = filesOf (listingOf false (recordAfter (freshAs old) calls) (replicate 64 0) (replicate 64 0))
+abbrev pub resilverFiles : Edition → List Call → List ℕ
+resilverFiles e calls = filesOf (listingOf false (recordAfter (freshAs e) calls) (replicate 64 0) (replicate 64 0))
 
 -- the row of a file after some calls
-abbrev pub rowAfter : Bool → ℕ → List Call → Row
-rowAfter old n calls = rowOf n (ledgerOf old calls)
+abbrev pub rowAfter : Edition → ℕ → List Call → Row
+rowAfter e n calls = rowOf n (ledgerOf e calls)
 
 -- whether the record holds the mirror at a place of a file as blamed
 abbrev pub isBlamed : ℕ → ℕ → Record → Bool
@@ -41,18 +42,18 @@ isBlamed n place r = cond (isFile n (fileAt n r)) (getD (fileAt n r .mirrors) pl
 
 -- what is listed and who is blamed after the calls `once` is so after the calls `twice` too, by the ledger's rows and by what the
 -- record holds; a file's mirrors stand at the same places
-pub record StillThere (old : Bool) (once twice : List Call) : Type 0 where
-  pub listed : (n : ℕ) → has n (resilverFiles old once) ≡ true → has n (resilverFiles old twice) ≡ true
-  pub blamed : (n place : ℕ) → has place (rowAfter old n once .blamed) ≡ true → has place (rowAfter old n twice .blamed) ≡ true
-  pub held : (n place : ℕ) → isBlamed n place (recordAfter (freshAs old) once) ≡ true → isBlamed n place (recordAfter (freshAs old) twice) ≡ true
-  pub mirrors : (n : ℕ) → rowAfter old n twice .mirrors ≡ rowAfter old n once .mirrors
+pub record StillThere (e : Edition) (once twice : List Call) : Type 0 where
+  pub listed : (n : ℕ) → has n (resilverFiles e once) ≡ true → has n (resilverFiles e twice) ≡ true
+  pub blamed : (n place : ℕ) → has place (rowAfter e n once .blamed) ≡ true → has place (rowAfter e n twice .blamed) ≡ true
+  pub held : (n place : ℕ) → isBlamed n place (recordAfter (freshAs e) once) ≡ true → isBlamed n place (recordAfter (freshAs e) twice) ≡ true
+  pub mirrors : (n : ℕ) → rowAfter e n twice .mirrors ≡ rowAfter e n once .mirrors
 
 -- any history of a record of either edition, with one more restart anywhere inside a grace period: it is in grace after `before`, and stays so through `during`, up to the end
 abbrev pub RestartTwice : Type 0
 RestartTwice =
-    (old : Bool) (before during : List Call) → inGraceThrough (recordAfter (freshAs old) before) during ≡ true
-    → StillThere old (before ++ during ++ endGrace ∷ []) (before ++ restart ∷ during ++ endGrace ∷ [])
+    (e : Edition) (before during : List Call) → inGraceThrough (recordAfter (freshAs e) before) during ≡ true
+    → StillThere e (before ++ during ++ endGrace ∷ []) (before ++ restart ∷ during ++ endGrace ∷ [])
 
 -- no reclaim outlives a restart: whoever had reclaimed, a file that has an intent is listed if grace ends before anybody reclaims again
 abbrev pub ReclaimAgain : Type 0
-ReclaimAgain = (old : Bool) (before : List Call) (n : ℕ) → isOpen (rowAfter old n before) ≡ true → has n (resilverFiles old (before ++ restart ∷ endGrace ∷ [])) ≡ true
+ReclaimAgain = (e : Edition) (before : List Call) (n : ℕ) → isOpen (rowAfter e n before) ≡ true → has n (resilverFiles e (before ++ restart ∷ endGrace ∷ [])) ≡ true

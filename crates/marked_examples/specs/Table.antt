@@ -11,6 +11,7 @@ use Rattle.extents.specs.declared.Verdict.the-variants.{Accepted, Refused}
 use Rattle.layouts.specs.Layout.{checkBody}
 use Rattle.recovery.specs.Calls.{Call, register, opening, reclaim, close, endGrace, restart, layoutReturn, resilver, offered, Answer, said, replied, listed}
 use Rattle.ledger.specs.Ledger.{Ledger, noRows, judge, feed}
+use Rattle.files.specs.declared.head.Edition.the-variants.{Current}
 use Rattle.recovery.specs.Record.{fresh}
 use Rattle.ledger.specs.History.{answers}
 use Rattle.epochs.specs.Epochs as epochs
@@ -79,7 +80,7 @@ ledgerFrom l [] = []
 ledgerFrom l (x ∷ xs) = judge l x ∷ ledgerFrom (feed l x (judge l x)) xs
 
 abbrev pub byLedger : List Call → List Answer
-byLedger calls = ledgerFrom (noRows false) calls
+byLedger calls = ledgerFrom (noRows Current) calls
 
 -- ---- the table: a row is a verdict; the answers to a history, by the record and by the ledger; or the epochs C and R
 pub data Row : Type 0 where

@@ -10,6 +10,9 @@ use Rattle.places.specs.Lists.{chosen}
 use Rattle.places.specs.Places.{first, placeOr, leftOut}
 use Rattle.mirroring.specs.Mirrors.{enrolledOf}
 use Rattle.files.specs.File.{noFile, blankFile, fileOf, isFile, isVacant, openedFile, reclaimedFile, closedFile, repairedFile, forgettable, returnedFile, handedOnCode, restartedFile, endedFile, isListed, isReady, sourceOf}
+use Rattle.files.specs.Head.{freshHead}
+use Rattle.files.specs.declared.head.Edition.{Edition}
+use Rattle.files.specs.declared.head.Edition.the-variants.{Current}
 use Rattle.files.specs.declared.file.File.{File}
 use Rattle.files.specs.declared.file.FileAnswered.{FileAnswered}
 use Rattle.mirroring.specs.declared.enrol.Enrolled.{Enrolled}
@@ -19,12 +22,12 @@ use Rattle.recovery.specs.declared.record.Answered.{Answered}
 use Rattle.recovery.specs.declared.layoutreturn.Returned.{Returned}
 
 -- ---- the record
--- as it is set up: old or not (request 1), which no call changes
-abbrev pub freshAs : Bool → Record
-freshAs old = record { files = replicate 64 blankFile; head = record { grace = false; old = old } }
+-- as it is set up: empty and not in grace, of an edition, which no call changes
+abbrev pub freshAs : Edition → Record
+freshAs e = record { files = replicate 64 blankFile; head = freshHead e }
 
 abbrev pub fresh : Record
-fresh = freshAs false
+fresh = freshAs Current
 
 abbrev pub withFiles : List File → Record → Record
 withFiles fs r = record { files = fs; head = r .head }

@@ -2,13 +2,15 @@
 // answers its status and the record afterwards. First the loops over the 64 places, then the calls in the paper's order.
 use files::file::File;
 use files::file::FileAnswered;
+use files::head::Edition;
 use files::head::Head;
 ghost use mathlib.Core.Path.{_≡_};
 ghost use mathlib.Core.List.{map};
-ghost use mathlib.Core.Bool.{true};
 ghost use Prim.Native.Nat.{_<_};
 ghost use Rattle.places.specs.Places.{leftOut};
 ghost use Rattle.files.specs.File.{blankFile, restartedFile, endedFile};
+ghost use Rattle.files.specs.Head.{editionOf};
+ghost use Rattle.files.specs.declared.head.Edition.the-variants.{Old};
 ghost use Rattle.recovery.specs.Record.{freshAs, fresh, answered, placeIn, putFile, enter, registerOf, openOf, reclaimOf, closeOf, repairedOf, forgetOf, endOf, restartOf};
 
 #[repr(C)]
@@ -97,29 +99,39 @@ fn restarted(files: [File; 64]) -> [File; 64]
 }
 
 impl Record {
-    // Empty, not in grace.
-    pub fn fresh() -> Record
-        ensures { λ r. ⌜ r ≡ fresh ⌝ }
+    // Empty, not in grace, of the edition.
+    pub fn set_up(edition: Edition) -> Record
+        ensures { λ r. ⌜ r ≡ freshAs edition ⌝ }
     {
         let f = File::blank();
         let fs = [f; 64];
-        let head = Head {
-            grace: false,
-            old: false,
-        };
+        let head = Head::fresh(edition);
         Record {
             files: fs,
             head: head,
         }
     }
 
-    // The same, set up as old.
-    pub fn fresh_old() -> Record
-        ensures { λ r. ⌜ r ≡ freshAs true ⌝ }
+    // The same of the current edition.
+    pub fn fresh() -> Record
+        ensures { λ r. ⌜ r ≡ fresh ⌝ }
     {
-        let mut r = Record::fresh();
-        r.head.old = true;
-        r
+        Record::set_up(Edition::Current)
+    }
+
+    // The same of the old edition.
+    pub fn fresh_old() -> Record
+        ensures { λ r. ⌜ r ≡ freshAs Old ⌝ }
+    {
+        Record::set_up(Edition::Old)
+    }
+
+    // The edition that the record was set up with.
+    pub fn edition(self) -> Edition
+        ensures { λ r. ⌜ r ≡ editionOf (self .head) ⌝ }
+    {
+        let head = self.head;
+        head.edition()
     }
 
     // The place of a file, or the last place if there is no such file.

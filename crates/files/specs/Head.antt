@@ -1,0 +1,16 @@
+-- DEFINITION. What stands beside a record's files: whether it is in grace, and its edition (02, Ticket 1), which the head keeps as a flag.
+use mathlib.Core.Bool.{Bool, true, false, cond}
+use Rattle.files.specs.declared.head.Head.{Head}
+use Rattle.files.specs.declared.head.Edition.{Edition}
+use Rattle.files.specs.declared.head.Edition.the-variants.{Current, Old}
+
+abbrev pub isOld : Edition → Bool
+isOld Current = false
+isOld Old = true
+
+-- as a record is set up: not in grace
+abbrev pub freshHead : Edition → Head
+freshHead e = record { grace = false; old = isOld e }
+
+abbrev pub editionOf : Head → Edition
+editionOf h = cond (h .old) Old Current
