@@ -7,12 +7,12 @@ use borrow.Struct.Behind.{look-at, put-at}
 use borrow.Struct.Inner.{cut-record}
 use borrow.Struct.Items.{cut-records}
 use Rattle.walks.proofs.Changed.{Parts}
-use Rattle.walks.proofs.Element.{Elements, Kept}
+use Rattle.walks.proofs.Element.{Elements, Kept, Inner}
 use Rattle.files.specs.File.{noFile}
 use Rattle.files.proofs.file.File as F
 use Rattle.files.proofs.file.File.Laws as F′
 use Rattle.files.proofs.head.Head as B
-use Rattle.recovery.specs.Record.{withFiles}
+use Rattle.recovery.specs.Record.{withFiles, withHead}
 use Rattle.recovery.proofs.record.Record as T
 use Rattle.recovery.proofs.record.Record.Laws as T′
 use Rattle.capi.proofs.Types.{file, heading}
@@ -31,13 +31,16 @@ files = record {
       (put-at 𝓤 H A W q T.the-type T′.the-laws 0 0 refl refl a r (withFiles fs r) (T.struct .as-values r) fs refl refl);
 }
 
-unfoldable pub head : Kept T.the-type (row B.the-type)
+unfoldable pub head : Inner T.the-type B.the-type
 head = record {
   k = 1;
   d = 15360;
   get = λ r. r .head;
+  over = λ r h. withHead h r;
+  keeps = λ r. refl;
   found = refl;
-  cut = λ M 𝓤 H A W q r a. cut-record 𝓤 H A q (row T.the-type) B.the-type 15360 r r (r .head) (r .head) a (look-at 𝓤 H A W q T.the-type T′.the-laws 1 15360 refl refl a r (T.struct .as-values r) refl);
+  cut = λ M 𝓤 H A W q r h a. cut-record 𝓤 H A q (row T.the-type) B.the-type 15360 r (withHead h r) (r .head) h a
+      (put-at 𝓤 H A W q T.the-type T′.the-laws 1 15360 refl refl a r (withHead h r) (T.struct .as-values r) h refl refl);
 }
 
 abbrev pub parts : Parts T.the-type

@@ -51,21 +51,21 @@ on-sought n q r h = ap (λ i. putFile r i (q (getD (r .files) i noFile))) (sough
 
 -- ---- LAYOUTRETURN with its reply
 -- a file that is put back as it was changes nothing
-stays : (r : Record) (i s : ℕ) → putFile r i (fileAnswered s (getD (r .files) i noFile)) ≡ answered s r
+stays : (r : Record) (i s : ℕ) → putFile r i (fileAnswered s (r .head) (getD (r .files) i noFile)) ≡ answered s r
 stays r i s = ap (λ fs. answered s (record { files = fs; head = r .head })) (set-getD (r .files) i noFile)
 
 abbrev numbered : Returned → Answered
 numbered a = answered (a .status) (a .after)
 
 abbrev heedsAnswer : ℕ → Head → ℕ → List ℕ → List ℕ → File → FileAnswered
-heedsAnswer n h c s d f = heeds f (answeredHeard n h c s d f)
+heedsAnswer n h c s d f = heeds h f (answeredHeard n h c s d f)
 
 pub returned-so : (n c : ℕ) (s d : List ℕ) (r : Record) → length (r .files) ≡ 64 → at-sought n (heedsAnswer n (r .head) c s d) r ≡ numbered (layoutreturnOf n c s d r)
 unfolding answeredHeard layoutreturnOf returnedOf returnedFile
 returned-so n c s d r h = on-sought n (heedsAnswer n (r .head) c s d) r h ∙ by-room (ltb (length d) 24) refl
   where
     by-room : (b : Bool) → b ≡ ltb (length d) 24 → onPlace n (heedsAnswer n (r .head) c s d) r ≡ numbered (layoutreturnOf n c s d r)
-    by-room true e = rw (← e) (ap (putFile r (placeIn n r)) (nothing-heeded 28 (fileAt n r)) ∙ stays r (placeIn n r) 28)
+    by-room true e = rw (← e) (ap (putFile r (placeIn n r)) (nothing-heeded (r .head) 28 (fileAt n r)) ∙ stays r (placeIn n r) 28)
     by-room false e = rw (← e)
 
 pub reply-so : (n c : ℕ) (s d : List ℕ) (r : Record) → length (r .files) ≡ 64 → fileReply n (r .head) c s d (getD (r .files) (soughtIn n r) noFile) ≡ replyAfter n c s d r

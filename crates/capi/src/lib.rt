@@ -1,5 +1,6 @@
 // What a C server calls on a recovery record that it owns (paper 01, "The recovery record"): each call of the record, on the record where it
-// lies, with the promise of the method by value. A call on one file reads that file and changes it in its place; the others go by value.
+// lies, with the promise of the method by value. A call on one file reads that file and what stands beside the files, and
+// changes both in their place; the others go by value.
 // First a file's place, then the functions by value that `recovery` and `files` lack, then the calls in the paper's order.
 use files::file::File;
 use files::file::HANDED_ON;
@@ -12,8 +13,9 @@ ghost use Rattle.recovery.specs.Calls.{listed};
 ghost use Rattle.recovery.specs.Record.{freshAs, fresh, registerOf, openOf, reclaimOf, closeOf, repairedOf, forgetOf, endOf, restartOf, listingOf, layoutreturnOf, replyAfter};
 ghost use Prim.Native.Nat.{_<_};
 ghost use Rattle.files.specs.declared.head.Edition.the-variants.{Old};
+ghost use Rattle.files.specs.File.{heededFile};
 ghost use Rattle.capi.specs.Place.{isNumbered, soughtIn};
-ghost use Rattle.capi.specs.Returned.{answeredHeard, fileReply};
+ghost use Rattle.capi.specs.Returned.{outcomeOf, answeredHeard, fileReply};
 
 // ---- The place of a file.
 // Whether a place with this flag and number is the file's.
@@ -38,20 +40,49 @@ fn position(r: &Record, file: u64) -> usize
 }
 
 // ---- By value.
+// What a LAYOUTRETURN on one file answers, but for the change of the file.
+struct Outcome {
+    status: u32,
+    head: Head,
+    heard: Heard,
+}
+
+impl Outcome {
+    // What is heard, with its status.
+    fn of(head: Head, heard: Heard) -> Outcome
+        ensures { λ o. ⌜ o ≡ outcomeOf head heard ⌝ }
+    {
+        Outcome {
+            status: heard.status,
+            head: head,
+            heard: heard,
+        }
+    }
+}
+
 // LAYOUTRETURN on one file, but for the change, with its reply: a reply buffer under 24 bytes gets 28 before all else, and where it is handed on
 // none is written.
-fn heard(f: File, number: u64, head: Head, client: u64, request: &[u8], reply: &mut [u8]) -> Heard
-    ensures { λ h. ⌜ (h ≡ answeredHeard number head client (now (request .entry)) (now (reply .entry)) f) × (now (reply .exit) ≡ fileReply number head client (now (request .entry)) (now (reply .entry)) f) ⌝ }
+fn heard(f: File, number: u64, head: Head, client: u64, request: &[u8], reply: &mut [u8]) -> Outcome
+    ensures { λ o. ⌜ (o ≡ outcomeOf head (answeredHeard number head client (now (request .entry)) (now (reply .entry)) f)) × (now (reply .exit) ≡ fileReply number head client (now (request .entry)) (now (reply .entry)) f) ⌝ }
 {
     if reply.len() < 24 {
-        return Heard::nothing(28);
+        let h = Heard::nothing(28);
+        return Outcome::of(head, h);
     }
     let h = f.heard(number, head, client, request);
     if h.status == HANDED_ON {
-        return h;
+        return Outcome::of(head, h);
     }
     wire::reply::write(reply, h.status);
-    h
+    Outcome::of(head, h)
+}
+
+// The file once it has been heard.
+fn heeded(f: File, o: Outcome) -> File
+    ensures { λ r. ⌜ r ≡ heededFile (o .heard) f ⌝ }
+{
+    let h = o.heard;
+    f.heed(h)
 }
 
 // The resilver list, with its count through a pointer.
@@ -112,6 +143,7 @@ pub extern "C" fn sc_record_open(r: &mut Record, file: u64, client: u64) -> u32
     let i = position(r, file);
     let s = File::open(r.files[i], file, r.head, client);
     r.files[i] = s.file;
+    r.head = s.head;
     s.status
 }
 
@@ -122,6 +154,7 @@ pub extern "C" fn sc_record_reclaim(r: &mut Record, file: u64, client: u64) -> u
     let i = position(r, file);
     let s = File::reclaim(r.files[i], file, r.head, client);
     r.files[i] = s.file;
+    r.head = s.head;
     s.status
 }
 
@@ -132,6 +165,7 @@ pub extern "C" fn sc_record_close(r: &mut Record, file: u64, client: u64) -> u32
     let i = position(r, file);
     let s = File::close(r.files[i], file, r.head, client);
     r.files[i] = s.file;
+    r.head = s.head;
     s.status
 }
 
@@ -142,6 +176,7 @@ pub extern "C" fn sc_record_repaired(r: &mut Record, file: u64) -> u32
     let i = position(r, file);
     let s = File::repaired(r.files[i], file, r.head);
     r.files[i] = s.file;
+    r.head = s.head;
     s.status
 }
 
@@ -186,7 +221,8 @@ pub extern "C" fn sc_record_layoutreturn(
 {
     let i = position(r, file);
     let s = heard(r.files[i], file, r.head, client, request, reply);
-    r.files[i] = File::heed(r.files[i], s);
+    r.files[i] = heeded(r.files[i], s);
+    r.head = s.head;
     s.status
 }
 

@@ -4,7 +4,8 @@ use Prim.Native.Nat.{ℕ}
 use Rattle.mirroring.specs.Blame.{heardNothing}
 use Rattle.files.specs.File.{fileAnswered, heededFile, heeds}
 use Rattle.files.specs.declared.file.File.{File}
+use Rattle.files.specs.declared.head.Head.{Head}
 
-pub nothing-heeded : (k : ℕ) (f : File) → heeds f (heardNothing k) ≡ fileAnswered k f
+pub nothing-heeded : (d : Head) (k : ℕ) (f : File) → heeds d f (heardNothing k) ≡ fileAnswered k d f
 unfolding heededFile
-nothing-heeded k f = refl
+nothing-heeded d k f = refl

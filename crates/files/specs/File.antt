@@ -54,49 +54,49 @@ abbrev pub unreclaimedBar : Bool → Bool → Bool
 unreclaimedBar h r = cond h (not r) false
 
 -- ---- the calls on one file, of the number n; h stands beside the files
-abbrev pub fileAnswered : ℕ → File → FileAnswered
-fileAnswered s f = record { status = s; file = f }
+abbrev pub fileAnswered : ℕ → Head → File → FileAnswered
+fileAnswered s h f = record { status = s; head = h; file = f }
 
 -- a call on the file of the number n, or 70
-abbrev pub ofFile : ℕ → File → FileAnswered → FileAnswered
-ofFile n f a = cond (isFile n f) a (fileAnswered 70 f)
+abbrev pub ofFile : ℕ → Head → File → FileAnswered → FileAnswered
+ofFile n h f a = cond (isFile n f) a (fileAnswered 70 h f)
 
 -- a new intent goes to the first free place
-abbrev pub takes : ℕ → File → Found → FileAnswered
-takes c f Nothing = fileAnswered 28 f
-takes c f (At i) = fileAnswered 0 (withIntents (set (f .intents) i (intentOf c)) f)
+abbrev pub takes : ℕ → Head → File → Found → FileAnswered
+takes c h f Nothing = fileAnswered 28 h f
+takes c h f (At i) = fileAnswered 0 h (withIntents (set (f .intents) i (intentOf c)) f)
 
-abbrev pub opens : ℕ → File → Found → FileAnswered
-opens c f (At i) = fileAnswered 0 f
-opens c f Nothing = takes c f (first isFree (f .intents))
+abbrev pub opens : ℕ → Head → File → Found → FileAnswered
+opens c h f (At i) = fileAnswered 0 h f
+opens c h f Nothing = takes c h f (first isFree (f .intents))
 
 unfoldable pub openedFile : ℕ → Head → ℕ → File → FileAnswered
-openedFile n h c f = cond (h .grace) (fileAnswered 10013 f) (ofFile n f (opens c f (first (isIntent c) (f .intents))))
+openedFile n h c f = cond (h .grace) (fileAnswered 10013 h f) (ofFile n h f (opens c h f (first (isIntent c) (f .intents))))
 
-abbrev pub reclaims : ℕ → File → Found → FileAnswered
-reclaims c f Nothing = fileAnswered 10034 f
-reclaims c f (At i) = fileAnswered 0 (withIntents (map (reclaimedIf c) (f .intents)) f)
+abbrev pub reclaims : ℕ → Head → File → Found → FileAnswered
+reclaims c h f Nothing = fileAnswered 10034 h f
+reclaims c h f (At i) = fileAnswered 0 h (withIntents (map (reclaimedIf c) (f .intents)) f)
 
 unfoldable pub reclaimedFile : ℕ → Head → ℕ → File → FileAnswered
-reclaimedFile n h c f = cond (h .grace) (ofFile n f (reclaims c f (first (isIntent c) (f .intents)))) (fileAnswered 10033 f)
+reclaimedFile n h c f = cond (h .grace) (ofFile n h f (reclaims c h f (first (isIntent c) (f .intents)))) (fileAnswered 10033 h f)
 
 -- the intents after the one that goes are pulled down over it
-abbrev pub leaves : Bool → File → Found → FileAnswered
-leaves g f Nothing = fileAnswered 10025 f
-leaves g f (At i) =
-    cond (unreclaimedBar g (getD (f .intents) i noIntent .reclaimed)) (fileAnswered 10025 f)
-    (fileAnswered 0 (withIntents (leftOut noIntent i (f .intents)) f))
+abbrev pub leaves : Head → File → Found → FileAnswered
+leaves h f Nothing = fileAnswered 10025 h f
+leaves h f (At i) =
+    cond (unreclaimedBar (h .grace) (getD (f .intents) i noIntent .reclaimed)) (fileAnswered 10025 h f)
+    (fileAnswered 0 h (withIntents (leftOut noIntent i (f .intents)) f))
 
 unfoldable pub closedFile : ℕ → Head → ℕ → File → FileAnswered
-closedFile n h c f = ofFile n f (leaves (h .grace) f (first (isIntent c) (f .intents)))
+closedFile n h c f = ofFile n h f (leaves h f (first (isIntent c) (f .intents)))
 
 abbrev pub mendedFile : File → File
 mendedFile f = withMark false (withMirrors (map unblamed (f .mirrors)) f)
 
 unfoldable pub repairedFile : ℕ → Head → File → FileAnswered
 repairedFile n h f =
-    ofFile n f
-    (cond (not (f .marked)) (fileAnswered 22 f) (cond (firstTaken (f .intents)) (fileAnswered 10008 f) (fileAnswered 0 (mendedFile f))))
+    ofFile n h f
+    (cond (not (f .marked)) (fileAnswered 22 h f) (cond (firstTaken (f .intents)) (fileAnswered 10008 h f) (fileAnswered 0 h (mendedFile f))))
 
 unfoldable pub forgettable : ℕ → Head → File → ℕ
 forgettable n h f = cond (h .grace) 10013 (cond (isFile n f) (cond (f .marked) 10008 (cond (firstTaken (f .intents)) 10008 0)) 70)
@@ -107,8 +107,8 @@ unfoldable pub heededFile : Heard → File → File
 heededFile h f = cond (h .unknown) (withMark true f) (cond (h .failed) (withMark true (withMirrors (accused (h .blamed) (f .mirrors)) f)) f)
 
 -- the status of what was heard, and the file that heeds it; a refusal was heard as nothing, and changes nothing
-abbrev pub heeds : File → Heard → FileAnswered
-heeds f h = fileAnswered (h .status) (heededFile h f)
+abbrev pub heeds : Head → File → Heard → FileAnswered
+heeds d f h = fileAnswered (h .status) d (heededFile h f)
 
 -- step 6
 abbrev pub ofClient : Heard → Found → Heard
@@ -143,7 +143,7 @@ unfoldable pub returnedHeard : ℕ → Head → ℕ → List ℕ → File → He
 returnedHeard n h c s f = asksHeard n h c s f (requestOf s)
 
 unfoldable pub returnedFile : ℕ → Head → ℕ → List ℕ → File → FileAnswered
-returnedFile n h c s f = heeds f (returnedHeard n h c s f)
+returnedFile n h c s f = heeds h f (returnedHeard n h c s f)
 
 -- ---- restart and the end of grace
 unfoldable pub restartedFile : File → File

@@ -1,6 +1,6 @@
 // One file of the record (paper 01, "The recovery record"): what it holds, and the calls on one file. A call tests for itself whether this is
-// the file of the number that it is given, is told what stands beside the files, and answers the status and the file afterwards. Then what a
-// restart and the end of grace do to each file, and what the lists ask of one.
+// the file of the number that it is given, is told what stands beside the files, and answers the status and both afterwards. Then what a restart
+// and the end of grace do to each file, and what the lists ask of one.
 use crate::head::Head;
 use intents::Intent;
 use mirroring::blame::Heard;
@@ -23,10 +23,11 @@ pub struct File {
     pub marked: bool,
 }
 
-// What a call answers, and the file afterwards.
+// What a call answers, and what stands beside the files and the file afterwards.
 #[repr(C)]
 pub struct FileAnswered {
     pub status: u32,
+    pub head: Head,
     pub file: File,
 }
 
@@ -91,6 +92,7 @@ impl File {
         if head.grace {
             return FileAnswered {
                 status: 10013,
+                head: head,
                 file: self,
             };
         }
@@ -98,6 +100,7 @@ impl File {
         if !hit {
             return FileAnswered {
                 status: 70,
+                head: head,
                 file: self,
             };
         }
@@ -105,12 +108,14 @@ impl File {
         if let Found::At(_) = intents::holding(old, client) {
             return FileAnswered {
                 status: 0,
+                head: head,
                 file: self,
             };
         }
         let Found::At(i) = intents::room(old) else {
             return FileAnswered {
                 status: 28,
+                head: head,
                 file: self,
             };
         };
@@ -119,6 +124,7 @@ impl File {
         self.intents = xs;
         FileAnswered {
             status: 0,
+            head: head,
             file: self,
         }
     }
@@ -130,6 +136,7 @@ impl File {
         if !head.grace {
             return FileAnswered {
                 status: 10033,
+                head: head,
                 file: self,
             };
         }
@@ -137,6 +144,7 @@ impl File {
         if !hit {
             return FileAnswered {
                 status: 70,
+                head: head,
                 file: self,
             };
         }
@@ -144,6 +152,7 @@ impl File {
         let Found::At(_) = intents::holding(old, client) else {
             return FileAnswered {
                 status: 10034,
+                head: head,
                 file: self,
             };
         };
@@ -151,6 +160,7 @@ impl File {
         self.intents = xs;
         FileAnswered {
             status: 0,
+            head: head,
             file: self,
         }
     }
@@ -163,6 +173,7 @@ impl File {
         if !hit {
             return FileAnswered {
                 status: 70,
+                head: head,
                 file: self,
             };
         }
@@ -170,6 +181,7 @@ impl File {
         let Found::At(i) = intents::holding(old, client) else {
             return FileAnswered {
                 status: 10025,
+                head: head,
                 file: self,
             };
         };
@@ -178,6 +190,7 @@ impl File {
         if barred {
             return FileAnswered {
                 status: 10025,
+                head: head,
                 file: self,
             };
         }
@@ -185,6 +198,7 @@ impl File {
         self.intents = xs;
         FileAnswered {
             status: 0,
+            head: head,
             file: self,
         }
     }
@@ -197,12 +211,14 @@ impl File {
         if !hit {
             return FileAnswered {
                 status: 70,
+                head: head,
                 file: self,
             };
         }
         if !self.marked {
             return FileAnswered {
                 status: 22,
+                head: head,
                 file: self,
             };
         }
@@ -211,6 +227,7 @@ impl File {
         if held {
             return FileAnswered {
                 status: 10008,
+                head: head,
                 file: self,
             };
         }
@@ -220,6 +237,7 @@ impl File {
         self.marked = false;
         FileAnswered {
             status: 0,
+            head: head,
             file: self,
         }
     }
@@ -312,6 +330,7 @@ impl File {
         let f = self.heed(h);
         FileAnswered {
             status: h.status,
+            head: head,
             file: f,
         }
     }

@@ -23,9 +23,9 @@ use Rattle.places.proofs.Slots.{All, Slots, Focus, Hit, slots-map, slots-chosen
 use Rattle.places.proofs.Sets.{true-false, first-nothing, none-at, first-no, rest-no}
 use Rattle.mirroring.proofs.Enrolling.{few-mirrors}
 use Rattle.ledger.specs.Ledger.{Row, Ledger, isRow, newRow, registered, rowOf, refused, _⇒_, openRules, intentRules, closeRules, repairedRules, forgetRules, isMarked, isOffered, needRepair, forCopying, listOf, numbers, source, opened, hasReclaimed, closed, mended, restarted, ended, insert, withRows, withGrace, onRow}
-use Rattle.recovery.specs.Record.{withFiles, answered, placeIn, fileAt, onPlace, openOf, reclaimOf, closeOf, repairedOf, enter, isFull, registerWith, registerOf, forgets, forgetOf, endOf, restartOf, isWanted, numberOf, listingOf}
+use Rattle.recovery.specs.Record.{withFiles, answered, placeIn, fileAt, putFile, onPlace, openOf, reclaimOf, closeOf, repairedOf, enter, isFull, registerWith, registerOf, forgets, forgetOf, endOf, restartOf, isWanted, numberOf, listingOf}
 use Rattle.recovery.specs.declared.record.Record.{Record}
-use Rattle.ledger.proofs.Relation.{FileIs, NoFile, Matches, branch, FileAgrees, RecordAgrees}
+use Rattle.ledger.proofs.Relation.{FileIs, NoFile, Matches, branch, FileKept, FileAgrees, RecordAgrees}
 use Rattle.ledger.proofs.OneFile.{some-taken, file-opened, file-reclaimed, file-closed, file-repaired, file-restarted, file-ended, file-source, file-new}
 
 -- ---- the file that a call names
@@ -72,34 +72,40 @@ it-is n r l i w z = is-file (l .grace) n (getD (r .files) i noFile) w (z .pair n
 
 -- ---- a call on one file: h is its code, g and t what the ledger makes of the row
 -- a file that is put back as it was changes nothing
-still : (r : Record) (n s : ℕ) (a : FileAnswered) → a ≡ fileAnswered s (fileAt n r) → answered (a .status) (withFiles (set (r .files) (placeIn n r) (a .file)) r) ≡ answered s r
+still : (r : Record) (n s : ℕ) (a : FileAnswered) → a ≡ fileAnswered s (r .head) (fileAt n r) → putFile r (placeIn n r) a ≡ answered s r
 still r n s a e = rw (e, set-getD (r .files) (placeIn n r) noFile)
 
 -- a refusal whatever the file
-pub refused-any : {r : Record} {l l′ : Ledger} (n : ℕ) (h : File → FileAnswered) (s : ℕ) → eqb s 0 ≡ false → ((f : File) → h f ≡ fileAnswered s f) → Matches r l
+pub refused-any : {r : Record} {l l′ : Ledger} (n : ℕ) (h : File → FileAnswered) (s : ℕ) → eqb s 0 ≡ false → ((f : File) → h f ≡ fileAnswered s (r .head) f) → Matches r l
     → RecordAgrees (onPlace n h r) l l′ s
 refused-any {r} n h s z e m = rw (still r n s (h (fileAt n r)) (e (fileAt n r))) (record { same = refl; kept = rw z m })
 
 module _ {r : Record} {l : Ledger} (n : ℕ) (h : File → FileAnswered) (g : Row → Row) (t : Row → ℕ) (same-number : (w : Row) → g w .number ≡ w .number)
-    (on-one : (f : File) (w : Row) → isFile n f ≡ true → FileIs (l .grace) f w → FileAgrees (l .grace) (h f) w (g w) (t w))
-    (on-none : (f : File) → isFile n f ≡ false → h f ≡ fileAnswered 70 f) (m : Matches r l) where
-  stored : (i : ℕ) (w : Row) (f : File) → There n r l i w → (b : Bool) → FileIs (l .grace) f (cond b (g w) w)
-      → Matches (withFiles (set (r .files) i f) r) (cond b (onRow l n g) l)
-  stored i w f z true k = record {
-    old = m .old;
-    grace = m .grace;
-    long = length-set (r .files) i f ∙ m .long;
-    rows = z .put f g k;
+    (on-one : (f : File) (w : Row) → isFile n f ≡ true → FileIs (l .grace) f w → FileAgrees (r .head) (l .grace) (h f) w (g w) (t w))
+    (on-none : (f : File) → isFile n f ≡ false → h f ≡ fileAnswered 70 (r .head) f) (m : Matches r l) where
+  stored : (i : ℕ) (w : Row) (a : FileAnswered) → There n r l i w → (b : Bool) → FileKept (r .head) (l .grace) a (cond b (g w) w)
+      → Matches (putFile r i a .after) (cond b (onRow l n g) l)
+  stored i w a z true k = record {
+    old = ap (λ (d : Head). d .old) (k .head) ∙ m .old;
+    grace = ap (λ (d : Head). d .grace) (k .head) ∙ m .grace;
+    long = length-set (r .files) i (a .file) ∙ m .long;
+    rows = z .put (a .file) g (k .file);
     rising = rw (amend-numbers (isRow n) g same-number (l .rows)) (m .rising);
   }
-  stored i w f z false k = record { old = m .old; grace = m .grace; long = length-set (r .files) i f ∙ m .long; rows = z .keep f k; rising = m .rising }
+  stored i w a z false k = record {
+    old = ap (λ (d : Head). d .old) (k .head) ∙ m .old;
+    grace = ap (λ (d : Head). d .grace) (k .head) ∙ m .grace;
+    long = length-set (r .files) i (a .file) ∙ m .long;
+    rows = z .keep (a .file) (k .file);
+    rising = m .rising;
+  }
 
   on-found : AtFile n r l → RecordAgrees (onPlace n h r) l (onRow l n g) (cond (not (registered n l)) 70 (t (rowOf n l)))
   unfolding registered rowOf
   on-found (missing a b) = rw (still r n 70 (h (fileAt n r)) (on-none (fileAt n r) (not-there r n a)), b) (record { same = refl; kept = m })
   on-found (found i w z) =
       let k = on-one (getD (r .files) i noFile) w (it-is n r l i w z) (z .pair noFile) in
-      rw (here n r l i w z, z .there, z .the (newRow n [])) (record { same = k .same; kept = stored i w (h (getD (r .files) i noFile) .file) z (eqb (t w) 0) (k .kept) })
+      rw (here n r l i w z, z .there, z .the (newRow n [])) (record { same = k .same; kept = stored i w (h (getD (r .files) i noFile)) z (eqb (t w) 0) (k .kept) })
 
   pub on-file : RecordAgrees (onPlace n h r) l (onRow l n g) (cond (not (registered n l)) 70 (t (rowOf n l)))
   on-file = on-found (at-file n m)
@@ -110,7 +116,7 @@ module _ {r : Record} {l : Ledger} (m : Matches r l) (n c : ℕ) where
   unfolding openOf openedFile
   open-by true e = refused-any n (openedFile n (r .head) c) 10013 refl (λ f. rw (m .grace ∙ e)) m
   open-by false e = on-file n (openedFile n (r .head) c) (opened c) (λ w. refused (openRules c w)) (λ w. refl)
-      (λ f w i k. rw (m .grace ∙ e, i, e) (file-opened c (rw e at k))) (λ f i. rw (m .grace ∙ e, i)) m
+      (λ f w i k. rw (m .grace ∙ e, i, e) (file-opened _ c (rw e at k))) (λ f i. rw (m .grace ∙ e, i)) m
 
   pub open-agrees : RecordAgrees (openOf n c r) l (onRow l n (opened c)) (refused (l .grace ⇒ 10013 ∷ not (registered n l) ⇒ 70 ∷ openRules c (rowOf n l)))
   open-agrees = open-by (l .grace) refl
@@ -119,18 +125,18 @@ module _ {r : Record} {l : Ledger} (m : Matches r l) (n c : ℕ) where
   unfolding reclaimOf reclaimedFile
   reclaim-by false e = refused-any n (reclaimedFile n (r .head) c) 10033 refl (λ f. rw (m .grace ∙ e)) m
   reclaim-by true e = on-file n (reclaimedFile n (r .head) c) (hasReclaimed c) (λ w. refused (intentRules c w)) (λ w. refl)
-      (λ f w i k. rw (m .grace ∙ e, i, e) (file-reclaimed c (rw e at k))) (λ f i. rw (m .grace ∙ e, i)) m
+      (λ f w i k. rw (m .grace ∙ e, i, e) (file-reclaimed _ c (rw e at k))) (λ f i. rw (m .grace ∙ e, i)) m
 
   pub reclaim-agrees : RecordAgrees (reclaimOf n c r) l (onRow l n (hasReclaimed c)) (refused (not (l .grace) ⇒ 10033 ∷ not (registered n l) ⇒ 70 ∷ intentRules c (rowOf n l)))
   reclaim-agrees = reclaim-by (l .grace) refl
 
   pub close-agrees : RecordAgrees (closeOf n c r) l (onRow l n (closed c)) (refused (not (registered n l) ⇒ 70 ∷ closeRules (l .grace) c (rowOf n l)))
   unfolding closeOf closedFile
-  close-agrees = on-file n (closedFile n (r .head) c) (closed c) (λ w. refused (closeRules (l .grace) c w)) (λ w. refl) (λ f w i k. rw (i, m .grace) (file-closed c k)) (λ f i. rw i) m
+  close-agrees = on-file n (closedFile n (r .head) c) (closed c) (λ w. refused (closeRules (l .grace) c w)) (λ w. refl) (λ f w i k. rw i (file-closed (r .head) c (m .grace) k)) (λ f i. rw i) m
 
 pub repaired-agrees : {r : Record} {l : Ledger} → Matches r l → (n : ℕ) → RecordAgrees (repairedOf n r) l (onRow l n mended) (refused (not (registered n l) ⇒ 70 ∷ repairedRules (rowOf n l)))
 unfolding repairedOf repairedFile
-repaired-agrees {r} m n = on-file n (repairedFile n (r .head)) mended (λ w. refused (repairedRules w)) (λ w. refl) (λ f w i k. rw i (file-repaired k)) (λ f i. rw i) m
+repaired-agrees {r} m n = on-file n (repairedFile n (r .head)) mended (λ w. refused (repairedRules w)) (λ w. refl) (λ f w i k. rw i (file-repaired (r .head) k)) (λ f i. rw i) m
 
 -- ---- forget
 above-discard : (p : Row → Bool) (n : ℕ) (ws : List Row) → Above n (numbers ws) → Above n (numbers (discard p ws))

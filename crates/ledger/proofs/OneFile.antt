@@ -21,6 +21,7 @@ use Rattle.files.specs.File.{fileOf, fileAnswered, takes, opens, reclaims, leav
 use Rattle.intents.specs.declared.Intent.{Intent}
 use Rattle.mirroring.specs.declared.mirrors.Mirror.{Mirror}
 use Rattle.files.specs.declared.file.File.{File}
+use Rattle.files.specs.declared.head.Head.{Head}
 use Rattle.places.specs.declared.Found.{Found}
 use Rattle.places.specs.declared.Found.the-variants.{At, Nothing}
 use Rattle.places.proofs.Slots.{All, Pairs, Slots, Focus, Room, slots-left, slots-fill, slots-any, slots-chosen, focus, roomFor, pairs-as, all-replicate, fill-length, chosen-length, leftOut-length, missing, found, full, room}
@@ -55,25 +56,28 @@ pub some-taken : {g : Bool} {f : File} {w : Row} → FileIs g f w → firstTaken
 some-taken h = first-taken (h .intents .places)
 
 -- ---- open, out of grace
-takes-one : {f : File} {w : Row} (c : ℕ) → FileIs false f w → has c (w .intents) ≡ false
+takes-one : {f : File} {w : Row} (d : Head) (c : ℕ) → FileIs false f w → has c (w .intents) ≡ false
     → Room (IntentIs false (w .reclaimed)) NoIntent isFree (f .intents) (w .intents)
-    → FileAgrees false (takes c f (first isFree (f .intents))) w (opened c w) (cond (leb 8 (length (w .intents))) 28 0)
-takes-one {f} {w} c h e (full a b) = rw (a, le-leb 8 (length (w .intents)) (omega (arith, b, h .intents .eight))) (record { same = refl; kept = h })
-takes-one {f} {w} c h e (room i s) = rw (s .at, lt-leb 8 (length (w .intents)) (omega (arith, s .less, h .intents .eight)), with-new c (w .intents) e) (record {
+    → FileAgrees d false (takes c d f (first isFree (f .intents))) w (opened c w) (cond (leb 8 (length (w .intents))) 28 0)
+takes-one {f} {w} d c h e (full a b) = rw (a, le-leb 8 (length (w .intents)) (omega (arith, b, h .intents .eight))) (record { same = refl; kept = record { head = refl; file = h } })
+takes-one {f} {w} d c h e (room i s) = rw (s .at, lt-leb 8 (length (w .intents)) (omega (arith, s .less, h .intents .eight)), with-new c (w .intents) e) (record {
   same = refl;
-  kept = with-intents h (record {
-    places = s .put (intentOf c) c (record { taken = refl; client = refl; reclaimed = λ z. true-false (sym z) });
-    eight = simp length-set (h .intents .eight);
-  });
+  kept = record {
+    head = refl;
+    file = with-intents h (record {
+      places = s .put (intentOf c) c (record { taken = refl; client = refl; reclaimed = λ z. true-false (sym z) });
+      eight = simp length-set (h .intents .eight);
+    });
+  };
 })
 
-opens-at : {f : File} {w : Row} (c : ℕ) → FileIs false f w → AtIntent c false f w → FileAgrees false (opens c f (first (isIntent c) (f .intents))) w (opened c w) (refused (openRules c w))
+opens-at : {f : File} {w : Row} (d : Head) (c : ℕ) → FileIs false f w → AtIntent c false f w → FileAgrees d false (opens c d f (first (isIntent c) (f .intents))) w (opened c w) (refused (openRules c w))
 unfolding has
-opens-at {f} {w} c h (missing a b) = rw (a, b) (takes-one c h b (roomFor isFree (λ x d k. rw (k .taken)) (λ x k. rw k) (h .intents .places)))
-opens-at {f} {w} c h (found i y t) = rw (t .at, with-old c (w .intents) (t .there), t .there) (record { same = refl; kept = h })
+opens-at {f} {w} d c h (missing a b) = rw (a, b) (takes-one d c h b (roomFor isFree (λ x y k. rw (k .taken)) (λ x k. rw k) (h .intents .places)))
+opens-at {f} {w} d c h (found i y t) = rw (t .at, with-old c (w .intents) (t .there), t .there) (record { same = refl; kept = record { head = refl; file = h } })
 
-pub file-opened : {f : File} {w : Row} (c : ℕ) → FileIs false f w → FileAgrees false (opens c f (first (isIntent c) (f .intents))) w (opened c w) (refused (openRules c w))
-file-opened c h = opens-at c h (at-intent c h)
+pub file-opened : {f : File} {w : Row} (d : Head) (c : ℕ) → FileIs false f w → FileAgrees d false (opens c d f (first (isIntent c) (f .intents))) w (opened c w) (refused (openRules c w))
+file-opened d c h = opens-at d c h (at-intent c h)
 
 -- ---- reclaim, in grace
 reclaimed-intent : (rs : List ℕ) (c : ℕ) (x : Intent) (d : ℕ) → IntentIs true rs x d → IntentIs true (with c rs) (reclaimedIf c x) d
@@ -83,48 +87,51 @@ reclaimed-intent rs c x d h = record {
   reclaimed = λ z. rw (has-with c d rs, h .taken, h .client, h .reclaimed refl);
 }
 
-reclaims-at : {f : File} {w : Row} (c : ℕ) → FileIs true f w → AtIntent c true f w → FileAgrees true (reclaims c f (first (isIntent c) (f .intents))) w (hasReclaimed c w) (refused (intentRules c w))
+reclaims-at : {f : File} {w : Row} (d : Head) (c : ℕ) → FileIs true f w → AtIntent c true f w → FileAgrees d true (reclaims c d f (first (isIntent c) (f .intents))) w (hasReclaimed c w) (refused (intentRules c w))
 unfolding has
-reclaims-at c h (missing a b) = rw (a, b) (record { same = refl; kept = h })
-reclaims-at {f} {w} c h (found i y t) = rw (t .at, t .there) (record {
+reclaims-at d c h (missing a b) = rw (a, b) (record { same = refl; kept = record { head = refl; file = h } })
+reclaims-at {f} {w} d c h (found i y t) = rw (t .at, t .there) (record {
   same = refl;
   kept = record {
-    used = h .used;
-    number = h .number;
-    copies = h .copies;
-    intents = record {
-      places = slots-left (reclaimedIf c) (reclaimed-intent (w .reclaimed) c) (λ x k. k) (h .intents .places);
-      eight = length-map (f .intents) (reclaimedIf c) ∙ h .intents .eight;
+    head = refl;
+    file = record {
+      used = h .used;
+      number = h .number;
+      copies = h .copies;
+      intents = record {
+        places = slots-left (reclaimedIf c) (reclaimed-intent (w .reclaimed) c) (λ x k. k) (h .intents .places);
+        eight = length-map (f .intents) (reclaimedIf c) ∙ h .intents .eight;
+      };
+      marked = h .marked;
     };
-    marked = h .marked;
   };
 })
 
-pub file-reclaimed : {f : File} {w : Row} (c : ℕ) → FileIs true f w → FileAgrees true (reclaims c f (first (isIntent c) (f .intents))) w (hasReclaimed c w) (refused (intentRules c w))
-file-reclaimed c h = reclaims-at c h (at-intent c h)
+pub file-reclaimed : {f : File} {w : Row} (d : Head) (c : ℕ) → FileIs true f w → FileAgrees d true (reclaims c d f (first (isIntent c) (f .intents))) w (hasReclaimed c w) (refused (intentRules c w))
+file-reclaimed d c h = reclaims-at d c h (at-intent c h)
 
 -- ---- close
 grace-test : (g a b : Bool) → (g ≡ true → a ≡ b) → cond g (not a) false ≡ cond g (not b) false
 grace-test true a b h = ap not (h refl)
 grace-test false a b h = refl
 
-leaves-at : {g : Bool} {f : File} {w : Row} (c : ℕ) → FileIs g f w → AtIntent c g f w → FileAgrees g (leaves g f (first (isIntent c) (f .intents))) w (closed c w) (refused (closeRules g c w))
+leaves-at : {g : Bool} {f : File} {w : Row} (d : Head) (c : ℕ) → d .grace ≡ g → FileIs g f w → AtIntent c g f w → FileAgrees d g (leaves d f (first (isIntent c) (f .intents))) w (closed c w) (refused (closeRules g c w))
 unfolding has
-leaves-at {g} {f} {w} c h (missing a b) = rw (a, b) (record { same = refl; kept = h })
-leaves-at {g} {f} {w} c h (found i y t) = rw (t .at, t .there) (branch (cond g (not (has c (w .reclaimed))) false)
-    (grace-test g _ _ (λ z. t .pair noIntent .reclaimed z ∙ ap (λ d. has d (w .reclaimed)) (eqb-true y c (t .passes))))
-    (λ z. record { same = refl; kept = h })
-    (λ z. record { same = refl; kept = with-intents h (record { places = t .out noIntent refl; eight = leftOut-length noIntent i (f .intents) ∙ h .intents .eight }) }))
+leaves-at {g} {f} {w} d c e h (missing a b) = rw (a, b) (record { same = refl; kept = record { head = refl; file = h } })
+leaves-at {g} {f} {w} d c e h (found i y t) = rw (t .at, e, t .there) (branch (cond g (not (has c (w .reclaimed))) false)
+    (grace-test g _ _ (λ z. t .pair noIntent .reclaimed z ∙ ap (λ x. has x (w .reclaimed)) (eqb-true y c (t .passes))))
+    (λ z. record { same = refl; kept = record { head = refl; file = h } })
+    (λ z. record { same = refl; kept = record { head = refl; file = with-intents h (record { places = t .out noIntent refl; eight = leftOut-length noIntent i (f .intents) ∙ h .intents .eight }) } }))
 
-pub file-closed : {g : Bool} {f : File} {w : Row} (c : ℕ) → FileIs g f w → FileAgrees g (leaves g f (first (isIntent c) (f .intents))) w (closed c w) (refused (closeRules g c w))
-file-closed c h = leaves-at c h (at-intent c h)
+pub file-closed : {g : Bool} {f : File} {w : Row} (d : Head) (c : ℕ) → d .grace ≡ g → FileIs g f w → FileAgrees d g (leaves d f (first (isIntent c) (f .intents))) w (closed c w) (refused (closeRules g c w))
+file-closed d c e h = leaves-at d c e h (at-intent c h)
 
 -- ---- repaired
-pub file-repaired : {g : Bool} {f : File} {w : Row} → FileIs g f w
-    → FileAgrees g (cond (not (f .marked)) (fileAnswered 22 f) (cond (firstTaken (f .intents)) (fileAnswered 10008 f) (fileAnswered 0 (mendedFile f)))) w (mended w) (refused (repairedRules w))
-file-repaired {g} {f} {w} h = branch (not (w .marked)) (ap not (h .marked)) (λ z. record { same = refl; kept = h })
-    (λ z. branch (not (none (w .intents))) (some-taken h) (λ y. record { same = refl; kept = h })
-    (λ y. record { same = refl; kept = with-mark (with-copies h (copies-unblamed (h .copies))) refl }))
+pub file-repaired : {g : Bool} {f : File} {w : Row} (d : Head) → FileIs g f w
+    → FileAgrees d g (cond (not (f .marked)) (fileAnswered 22 d f) (cond (firstTaken (f .intents)) (fileAnswered 10008 d f) (fileAnswered 0 d (mendedFile f)))) w (mended w) (refused (repairedRules w))
+file-repaired {g} {f} {w} d h = branch (not (w .marked)) (ap not (h .marked)) (λ z. record { same = refl; kept = record { head = refl; file = h } })
+    (λ z. branch (not (none (w .intents))) (some-taken h) (λ y. record { same = refl; kept = record { head = refl; file = h } })
+    (λ y. record { same = refl; kept = record { head = refl; file = with-mark (with-copies h (copies-unblamed (h .copies))) refl } }))
 
 -- ---- restart
 pub file-restarted : (g : Bool) (f : File) (w : Row) → FileIs g f w → FileIs true (restartedFile f) (restarted w)
@@ -163,15 +170,15 @@ file-ended f w h = record {
 }
 
 -- ---- a report
-reports-at : {g : Bool} {f : File} {w : Row} (c : ℕ) (xs : List DeviceError) → FileIs g f w → AtIntent c g f w
-    → FileAgrees g (heeds f (ofClient (over (told (f .mirrors)) (heardNothing 0) xs) (first (isIntent c) (f .intents)))) w (reported Current xs w) (refused (intentRules c w))
+reports-at : {g : Bool} {f : File} {w : Row} (d : Head) (c : ℕ) (xs : List DeviceError) → FileIs g f w → AtIntent c g f w
+    → FileAgrees d g (heeds d f (ofClient (over (told (f .mirrors)) (heardNothing 0) xs) (first (isIntent c) (f .intents)))) w (reported Current xs w) (refused (intentRules c w))
 unfolding has
-reports-at {f} c xs h (missing a b) = rw (a, b, nothing-heeded 10034 f) (record { same = refl; kept = h })
-reports-at {f} c xs h (found i y t) = rw (t .at, t .there) (record { same = status-stays (f .mirrors) xs (heardNothing 0); kept = file-after-report xs h })
+reports-at {f} d c xs h (missing a b) = rw (a, b, nothing-heeded d 10034 f) (record { same = refl; kept = record { head = refl; file = h } })
+reports-at {f} d c xs h (found i y t) = rw (t .at, t .there) (record { same = status-stays (f .mirrors) xs (heardNothing 0); kept = record { head = refl; file = file-after-report xs h } })
 
-pub file-reported : {g : Bool} {f : File} {w : Row} (c : ℕ) (xs : List DeviceError) → FileIs g f w
-    → FileAgrees g (heeds f (ofClient (over (told (f .mirrors)) (heardNothing 0) xs) (first (isIntent c) (f .intents)))) w (reported Current xs w) (refused (intentRules c w))
-file-reported c xs h = reports-at c xs h (at-intent c h)
+pub file-reported : {g : Bool} {f : File} {w : Row} (d : Head) (c : ℕ) (xs : List DeviceError) → FileIs g f w
+    → FileAgrees d g (heeds d f (ofClient (over (told (f .mirrors)) (heardNothing 0) xs) (first (isIntent c) (f .intents)))) w (reported Current xs w) (refused (intentRules c w))
+file-reported d c xs h = reports-at d c xs h (at-intent c h)
 
 -- ---- the source
 abbrev sourceFromAt : ℕ → Found → ℕ

@@ -13,6 +13,7 @@ use Rattle.intents.specs.declared.Intent.{Intent}
 use Rattle.mirroring.specs.declared.mirrors.Mirror.{Mirror}
 use Rattle.files.specs.declared.file.File.{File}
 use Rattle.files.specs.declared.file.FileAnswered.{FileAnswered}
+use Rattle.files.specs.declared.head.Head.{Head}
 use Rattle.places.proofs.Slots.{Slots}
 use Rattle.mirroring.proofs.Copies.{Copies}
 use Rattle.ledger.specs.Ledger.{Row, Ledger, numbers, withIntents, withMark, withBlame}
@@ -73,8 +74,13 @@ pub branch : {X S L : Type 0} {M : S → L → Type 0} {st : X → ℕ} {af : X 
 branch true e h k = rw e (h refl)
 branch false e h k = rw e (k refl)
 
-abbrev pub FileAgrees : Bool → FileAnswered → Row → Row → ℕ → Type 0
-FileAgrees g a w w′ t = Agrees (FileIs g) (λ (a : FileAnswered). a .status) (λ (a : FileAnswered). a .file) a w w′ t
+-- the file goes with the row, and what stands beside the files is d
+pub record FileKept (d : Head) (g : Bool) (a : FileAnswered) (w : Row) : Type 0 where
+  pub head : a .head ≡ d
+  pub file : FileIs g (a .file) w
+
+abbrev pub FileAgrees : Head → Bool → FileAnswered → Row → Row → ℕ → Type 0
+FileAgrees d g a w w′ t = Agrees (FileKept d g) (λ (a : FileAnswered). a .status) (λ (a : FileAnswered). a) a w w′ t
 
 abbrev pub RecordAgrees : Answered → Ledger → Ledger → ℕ → Type 0
 RecordAgrees a l l′ t = Agrees Matches (λ (a : Answered). a .status) (λ (a : Answered). a .after) a l l′ t

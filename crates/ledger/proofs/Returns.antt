@@ -23,6 +23,7 @@ use Rattle.files.specs.declared.head.Edition.{Edition}
 use Rattle.files.specs.File.{isFile, fileAnswered, heededFile, heeds, ofIntent, ifWhole, reportHeard, asksHeard, handedOnCode}
 use Rattle.files.specs.declared.file.File.{File}
 use Rattle.files.specs.declared.file.FileAnswered.{FileAnswered}
+use Rattle.files.specs.declared.head.Head.{Head}
 use Rattle.files.proofs.Heeding.{nothing-heeded}
 use Rattle.recovery.specs.Calls.{Answer, replied, handedOn}
 use Rattle.ledger.specs.Ledger.{Row, Ledger, registered, rowOf, holds, refused, intentRules, reportRules, judgeRequest, reply, isFault, isStranger, blame, withMark, withBlame, reported, errorsOf, onRow}
@@ -58,19 +59,19 @@ reported-number o xs w = by (isOld o) (any (isStranger w) xs) (any isFault xs)
     by false false true = refl
     by false false false = refl
 
-reported-file : (n c : ℕ) (h : Heard) (f : File) → h .status ≡ 0 → heeds f (ifWhole h (ofIntent n c f h)) ≡ heeds f (ofIntent n c f h)
-reported-file n c h f e = ap (λ k. heeds f (cond (eqb k 0) (ofIntent n c f h) h)) e
+reported-file : (d : Head) (n c : ℕ) (h : Heard) (f : File) → h .status ≡ 0 → heeds d f (ifWhole h (ofIntent n c f h)) ≡ heeds d f (ofIntent n c f h)
+reported-file d n c h f e = ap (λ k. heeds d f (cond (eqb k 0) (ofIntent n c f h) h)) e
 
-abbrev reportsFile : ℕ → ℕ → Report → File → FileAnswered
-reportsFile n c p f = heeds f (reportHeard n c p f)
+abbrev reportsFile : Head → ℕ → ℕ → Report → File → FileAnswered
+reportsFile d n c p f = heeds d f (reportHeard n c p f)
 
-report-agrees : {r : Record} {l : Ledger} (n c : ℕ) (p : Report) → isOld (l .edition) ≡ false → Matches r l → RecordAgrees (onPlace n (reportsFile n c p) r) l (onRow l n (reported (l .edition) (errorsOf p))) (refused (reportRules l n c p))
+report-agrees : {r : Record} {l : Ledger} (n c : ℕ) (p : Report) → isOld (l .edition) ≡ false → Matches r l → RecordAgrees (onPlace n (reportsFile (r .head) n c p) r) l (onRow l n (reported (l .edition) (errorsOf p))) (refused (reportRules l n c p))
 unfolding reportHeard heardOf outcome
-report-agrees n c Malformed q m = refused-any n (reportsFile n c Malformed) 10036 refl (nothing-heeded 10036) m
-report-agrees n c Statistics q m = refused-any n (reportsFile n c Statistics) 10004 refl (nothing-heeded 10004) m
-report-agrees {r} {l} n c (Whole xs) q m = on-file n (reportsFile n c (Whole xs)) (reported (l .edition) xs) (λ w. refused (intentRules c w)) (reported-number (l .edition) xs)
-    (λ f w i k. rw (reported-file n c (over (told (f .mirrors)) (heardNothing 0) xs) f (status-stays (f .mirrors) xs (heardNothing 0)), i, q) (file-reported c xs k))
-    (λ f i. rw (reported-file n c (over (told (f .mirrors)) (heardNothing 0) xs) f (status-stays (f .mirrors) xs (heardNothing 0)), i) (nothing-heeded 70 f)) m
+report-agrees {r} n c Malformed q m = refused-any n (reportsFile (r .head) n c Malformed) 10036 refl (nothing-heeded (r .head) 10036) m
+report-agrees {r} n c Statistics q m = refused-any n (reportsFile (r .head) n c Statistics) 10004 refl (nothing-heeded (r .head) 10004) m
+report-agrees {r} {l} n c (Whole xs) q m = on-file n (reportsFile (r .head) n c (Whole xs)) (reported (l .edition) xs) (λ w. refused (intentRules c w)) (reported-number (l .edition) xs)
+    (λ f w i k. rw (reported-file (r .head) n c (over (told (f .mirrors)) (heardNothing 0) xs) f (status-stays (f .mirrors) xs (heardNothing 0)), i, q) (file-reported (r .head) c xs k))
+    (λ f i. rw (reported-file (r .head) n c (over (told (f .mirrors)) (heardNothing 0) xs) f (status-stays (f .mirrors) xs (heardNothing 0)), i) (nothing-heeded (r .head) 70 f)) m
 
 -- ---- steps 1 to 7: the status that the ledger says, or the number that stands for "handed on"
 abbrev codeOf : Ledger → ℕ → ℕ → List ℕ → Request → ℕ
@@ -81,7 +82,7 @@ codeOf l n c s (request.File false k) = cond (l .grace) 10013 handedOnCode
 
 module _ {r : Record} {l : Ledger} (m : Matches r l) (n c : ℕ) (s : List ℕ) where
   abbrev asks : Bool → Bool → Request → File → FileAnswered
-  asks o g q f = heeds f (asksHeard n (record { grace = g; old = o }) c s f q)
+  asks o g q f = heeds (r .head) f (asksHeard n (record { grace = g; old = o }) c s f q)
 
   abbrev Asked : Request → ℕ → Type 0
   Asked q t = RecordAgrees (onPlace n (asks (r .head .old) (r .head .grace) q) r) l (onRow l n (reported (l .edition) (errorsOf (reportOf (bodyOf s))))) t
@@ -90,17 +91,17 @@ module _ {r : Record} {l : Ledger} (m : Matches r l) (n c : ℕ) (s : List ℕ) 
   at-phase q o b u e h = rw (ap (λ z. onPlace n (asks z (r .head .grace) q) r) u ∙ ap (λ g. onPlace n (asks o g q) r) (m .grace ∙ e)) h
 
   ordinary-by : (k : ℕ) (b : Bool) → l .grace ≡ b → Asked (request.File false k) (cond b 10013 handedOnCode)
-  ordinary-by k true e = at-phase (request.File false k) (r .head .old) true refl e (refused-any n (asks (r .head .old) true (request.File false k)) 10013 refl (nothing-heeded 10013) m)
-  ordinary-by k false e = at-phase (request.File false k) (r .head .old) false refl e (refused-any n (asks (r .head .old) false (request.File false k)) handedOnCode refl (nothing-heeded handedOnCode) m)
+  ordinary-by k true e = at-phase (request.File false k) (r .head .old) true refl e (refused-any n (asks (r .head .old) true (request.File false k)) 10013 refl (nothing-heeded (r .head) 10013) m)
+  ordinary-by k false e = at-phase (request.File false k) (r .head .old) false refl e (refused-any n (asks (r .head .old) false (request.File false k)) handedOnCode refl (nothing-heeded (r .head) handedOnCode) m)
 
   anonymous-by : (k : ℕ) (o b : Bool) → isOld (l .edition) ≡ o → l .grace ≡ b → Asked (request.File true k) (cond o 10025 (cond (not b) 10033 (refused (reportRules l n c (reportOf (bodyOf s))))))
-  anonymous-by k true b u e = at-phase (request.File true k) true (l .grace) (m .old ∙ u) refl (refused-any n (asks true (l .grace) (request.File true k)) 10025 refl (nothing-heeded 10025) m)
-  anonymous-by k false false u e = at-phase (request.File true k) false false (m .old ∙ u) e (refused-any n (asks false false (request.File true k)) 10033 refl (nothing-heeded 10033) m)
+  anonymous-by k true b u e = at-phase (request.File true k) true (l .grace) (m .old ∙ u) refl (refused-any n (asks true (l .grace) (request.File true k)) 10025 refl (nothing-heeded (r .head) 10025) m)
+  anonymous-by k false false u e = at-phase (request.File true k) false false (m .old ∙ u) e (refused-any n (asks false false (request.File true k)) 10033 refl (nothing-heeded (r .head) 10033) m)
   anonymous-by k false true u e = at-phase (request.File true k) false true (m .old ∙ u) e (report-agrees n c (reportOf (bodyOf s)) u m)
 
   asks-agrees : (q : Request) → Read-as q → Asked q (codeOf l n c s q)
-  asks-agrees (request.Refused k) h = refused-any n (asks (r .head .old) (r .head .grace) (request.Refused k)) k (ne-eqb k 0 (h .nonzero)) (nothing-heeded k) m
-  asks-agrees request.Bulk h = refused-any n (asks (r .head .old) (r .head .grace) request.Bulk) handedOnCode refl (nothing-heeded handedOnCode) m
+  asks-agrees (request.Refused k) h = refused-any n (asks (r .head .old) (r .head .grace) (request.Refused k)) k (ne-eqb k 0 (h .nonzero)) (nothing-heeded (r .head) k) m
+  asks-agrees request.Bulk h = refused-any n (asks (r .head .old) (r .head .grace) request.Bulk) handedOnCode refl (nothing-heeded (r .head) handedOnCode) m
   asks-agrees (request.File true k) h = anonymous-by k (isOld (l .edition)) (l .grace) refl refl
   asks-agrees (request.File false k) h = ordinary-by k (l .grace) refl
 
@@ -130,7 +131,7 @@ answer-is l n c s d (request.File false k) h = by (l .grace)
 -- a LAYOUTRETURN whose reply buffer is long enough: t is its status or that number
 pub record ReturnAgrees (r : Record) (l : Ledger) (n c : ℕ) (s d : List ℕ) : Type 0 where
   pub code : ℕ
-  pub agrees : RecordAgrees (onPlace n (λ f. heeds f (asksHeard n (r .head) c s f (requestOf s))) r) l (onRow l n (reported (l .edition) (errorsOf (reportOf (bodyOf s))))) code
+  pub agrees : RecordAgrees (onPlace n (λ f. heeds (r .head) f (asksHeard n (r .head) c s f (requestOf s))) r) l (onRow l n (reported (l .edition) (errorsOf (reportOf (bodyOf s))))) code
   pub answer : handing code d ≡ judgeRequest l n c s d (requestOf s)
 
 pub return-agrees : {r : Record} {l : Ledger} → Matches r l → (n c : ℕ) (s d : List ℕ) → ReturnAgrees r l n c s d

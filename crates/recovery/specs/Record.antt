@@ -15,6 +15,7 @@ use Rattle.files.specs.declared.head.Edition.{Edition}
 use Rattle.files.specs.declared.head.Edition.the-variants.{Current}
 use Rattle.files.specs.declared.file.File.{File}
 use Rattle.files.specs.declared.file.FileAnswered.{FileAnswered}
+use Rattle.files.specs.declared.head.Head.{Head}
 use Rattle.mirroring.specs.declared.enrol.Enrolled.{Enrolled}
 use Rattle.recovery.specs.Calls.{Answer, lend}
 use Rattle.recovery.specs.declared.record.Record.{Record}
@@ -35,6 +36,9 @@ withFiles fs r = record { files = fs; head = r .head }
 abbrev pub withGrace : Bool → Record → Record
 withGrace g r = record { files = r .files; head = record { grace = g; old = r .head .old } }
 
+abbrev pub withHead : Head → Record → Record
+withHead h r = record { files = r .files; head = h }
+
 abbrev pub answered : ℕ → Record → Answered
 answered s r = record { status = s; after = r }
 
@@ -47,7 +51,7 @@ abbrev pub fileAt : ℕ → Record → File
 fileAt n r = getD (r .files) (placeIn n r) noFile
 
 abbrev pub putFile : Record → ℕ → FileAnswered → Answered
-putFile r i a = answered (a .status) (withFiles (set (r .files) i (a .file)) r)
+putFile r i a = answered (a .status) (withHead (a .head) (withFiles (set (r .files) i (a .file)) r))
 
 -- a call on the file at that place, which tests for itself whether it is the file n
 abbrev pub onPlace : ℕ → (File → FileAnswered) → Record → Answered

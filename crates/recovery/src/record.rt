@@ -160,13 +160,15 @@ impl Record {
         }
     }
 
-    // The record with a file as a call on it left it, and the call's status.
+    // The record with a file and its head as a call on that file left them, and the call's status.
     pub(crate) fn stored(mut self, at: usize, a: FileAnswered) -> Answered
         requires { ⌜ at < 64 ⌝ }
         ensures { λ r. ⌜ r ≡ putFile self at a ⌝ }
     {
         let f = a.file;
         self.files[at] = f;
+        let head = a.head;
+        self.head = head;
         Answered {
             status: a.status,
             after: self,
