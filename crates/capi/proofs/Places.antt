@@ -1,5 +1,5 @@
 -- What is done at the place that is sought is what the definitions of crate recovery say of it, in this order: the place; a call on one file;
--- LAYOUTRETURN with its reply.
+-- LAYOUTRETURN with its totals and its reply.
 use mathlib.Core.Path.{_≡_, refl, sym, ap, _∙_}
 use mathlib.Core.List.{List}
 use mathlib.Core.Bool.{Bool, true, false}
@@ -17,7 +17,7 @@ use Rattle.files.specs.declared.head.Head.{Head}
 use Rattle.places.specs.declared.Found.{Found}
 use Rattle.places.proofs.Loops.{Searching, searching, hit, miss, over}
 use Rattle.files.proofs.Heeding.{nothing-heeded}
-use Rattle.recovery.specs.Record.{placeIn, fileAt, putFile, onPlace, answered, returnedOf, layoutreturnOf, replyAfter}
+use Rattle.recovery.specs.Record.{placeIn, fileAt, putFile, onPlace, answered, returnedOf, returnedTotals, layoutreturnOf, replyAfter}
 use Rattle.recovery.specs.declared.record.Record.{Record}
 use Rattle.recovery.specs.declared.record.Answered.{Answered}
 use Rattle.recovery.specs.declared.layoutreturn.Returned.{Returned}
@@ -49,7 +49,7 @@ at-sought n q r = putFile r (soughtIn n r) (q (getD (r .files) (soughtIn n r) no
 pub on-sought : (n : ℕ) (q : File → FileAnswered) (r : Record) → length (r .files) ≡ 64 → at-sought n q r ≡ onPlace n q r
 on-sought n q r h = ap (λ i. putFile r i (q (getD (r .files) i noFile))) (sought-place n r h)
 
--- ---- LAYOUTRETURN with its reply
+-- ---- LAYOUTRETURN with its totals and its reply
 -- a file that is put back as it was changes nothing
 stays : (r : Record) (i s : ℕ) → putFile r i (fileAnswered s (r .head) (getD (r .files) i noFile)) ≡ answered s r
 stays r i s = ap (λ fs. answered s (record { files = fs; head = r .head })) (set-getD (r .files) i noFile)
@@ -66,6 +66,14 @@ returned-so n c s d r h = on-sought n (heedsAnswer n (r .head) c s d) r h ∙ by
   where
     by-room : (b : Bool) → b ≡ ltb (length d) 24 → onPlace n (heedsAnswer n (r .head) c s d) r ≡ numbered (layoutreturnOf n c s d r)
     by-room true e = rw (← e) (ap (putFile r (placeIn n r)) (nothing-heeded (r .head) 28 (fileAt n r)) ∙ stays r (placeIn n r) 28)
+    by-room false e = rw (← e)
+
+pub totals-so : (n c : ℕ) (s d : List ℕ) (r : Record) → length (r .files) ≡ 64 → answeredHeard n (r .head) c s d (getD (r .files) (soughtIn n r) noFile) .totals ≡ layoutreturnOf n c s d r .totals
+unfolding answeredHeard layoutreturnOf returnedTotals
+totals-so n c s d r h = ap (λ i. answeredHeard n (r .head) c s d (getD (r .files) i noFile) .totals) (sought-place n r h) ∙ by-room (ltb (length d) 24) refl
+  where
+    by-room : (b : Bool) → b ≡ ltb (length d) 24 → answeredHeard n (r .head) c s d (fileAt n r) .totals ≡ layoutreturnOf n c s d r .totals
+    by-room true e = rw (← e)
     by-room false e = rw (← e)
 
 pub reply-so : (n c : ℕ) (s d : List ℕ) (r : Record) → length (r .files) ≡ 64 → fileReply n (r .head) c s d (getD (r .files) (soughtIn n r) noFile) ≡ replyAfter n c s d r

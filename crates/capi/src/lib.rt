@@ -2,6 +2,8 @@
 // lies, with the promise of the method by value. A call on one file reads that file and what stands beside the files, and
 // changes both in their place; the others go by value.
 // First a file's place, then the functions by value that `recovery` and `files` lack, then the calls in the paper's order.
+mod totals;
+
 use files::file::File;
 use files::file::HANDED_ON;
 use files::head::Head;
@@ -16,6 +18,7 @@ ghost use Rattle.files.specs.declared.head.Edition.the-variants.{Old};
 ghost use Rattle.files.specs.File.{heededFile};
 ghost use Rattle.capi.specs.Place.{isNumbered, soughtIn};
 ghost use Rattle.capi.specs.Returned.{outcomeOf, answeredHeard, fileReply};
+ghost use Rattle.capi.specs.Lent.{columnOf, maskOf};
 
 // ---- The place of a file.
 // Whether a place with this flag and number is the file's.
@@ -62,7 +65,14 @@ impl Outcome {
 
 // LAYOUTRETURN on one file, but for the change, with its reply: a reply buffer under 24 bytes gets 28 before all else, and where it is handed on
 // none is written.
-fn heard(f: File, number: u64, head: Head, client: u64, request: &[u8], reply: &mut [u8]) -> Outcome
+fn replied(
+    f: File,
+    number: u64,
+    head: Head,
+    client: u64,
+    request: &[u8],
+    reply: &mut [u8],
+) -> Outcome
     ensures { λ o. ⌜ (o ≡ outcomeOf head (answeredHeard number head client (now (request .entry)) (now (reply .entry)) f)) × (now (reply .exit) ≡ fileReply number head client (now (request .entry)) (now (reply .entry)) f) ⌝ }
 {
     if reply.len() < 24 {
@@ -83,6 +93,36 @@ fn heeded(f: File, o: Outcome) -> File
 {
     let h = o.heard;
     f.heed(h)
+}
+
+// The same, with its totals handed out.
+fn heard(
+    f: File,
+    number: u64,
+    head: Head,
+    client: u64,
+    request: &[u8],
+    reply: &mut [u8],
+    read: &mut [u64],
+    written: &mut [u64],
+    read_over: &mut u32,
+    written_over: &mut u32,
+) -> Outcome
+    ensures { λ o. ⌜ (o ≡ outcomeOf head (answeredHeard number head client (now (request .entry)) (now (reply .entry)) f))
+        × (now (reply .exit) ≡ fileReply number head client (now (request .entry)) (now (reply .entry)) f)
+        × (now (read .exit) ≡ columnOf (o .heard .totals .read .bytes) (now (read .entry)))
+        × (now (written .exit) ≡ columnOf (o .heard .totals .written .bytes) (now (written .entry)))
+        × (now («read_over» .exit) ≡ maskOf (o .heard .totals .read .over))
+        × (now («written_over» .exit) ≡ maskOf (o .heard .totals .written .over)) ⌝ }
+{
+    let o = replied(f, number, head, client, request, reply);
+    let h = o.heard;
+    let t = h.totals;
+    let r = t.read;
+    let w = t.written;
+    *read_over = totals::hand_out(r, read);
+    *written_over = totals::hand_out(w, written);
+    o
 }
 
 // The resilver list, with its count through a pointer.
@@ -207,6 +247,8 @@ pub extern "C" fn sc_record_restart(r: &mut Record) -> u32
     s.status
 }
 
+// LAYOUTRETURN, with its totals in what the caller lends: place k of a slice gets mirror k's bytes, bit k of a mask says whether these passed 2^64 - 1.
+// All four are written on every call, with zeros unless the answer is 0.
 #[no_mangle]
 pub extern "C" fn sc_record_layoutreturn(
     r: &mut Record,
@@ -214,13 +256,32 @@ pub extern "C" fn sc_record_layoutreturn(
     client: u64,
     request: &[u8],
     reply: &mut [u8],
+    read: &mut [u64],
+    written: &mut [u64],
+    read_over: &mut u32,
+    written_over: &mut u32,
 ) -> u32
     ensures { λ s. ⌜ (s ≡ layoutreturnOf file client (now (request .entry)) (now (reply .entry)) (now (r .entry)) .status)
         × (now (r .exit) ≡ layoutreturnOf file client (now (request .entry)) (now (reply .entry)) (now (r .entry)) .after)
-        × (now (reply .exit) ≡ replyAfter file client (now (request .entry)) (now (reply .entry)) (now (r .entry))) ⌝ }
+        × (now (reply .exit) ≡ replyAfter file client (now (request .entry)) (now (reply .entry)) (now (r .entry)))
+        × (now (read .exit) ≡ columnOf (layoutreturnOf file client (now (request .entry)) (now (reply .entry)) (now (r .entry)) .totals .read .bytes) (now (read .entry)))
+        × (now (written .exit) ≡ columnOf (layoutreturnOf file client (now (request .entry)) (now (reply .entry)) (now (r .entry)) .totals .written .bytes) (now (written .entry)))
+        × (now («read_over» .exit) ≡ maskOf (layoutreturnOf file client (now (request .entry)) (now (reply .entry)) (now (r .entry)) .totals .read .over))
+        × (now («written_over» .exit) ≡ maskOf (layoutreturnOf file client (now (request .entry)) (now (reply .entry)) (now (r .entry)) .totals .written .over)) ⌝ }
 {
     let i = position(r, file);
-    let s = heard(r.files[i], file, r.head, client, request, reply);
+    let s = heard(
+        r.files[i],
+        file,
+        r.head,
+        client,
+        request,
+        reply,
+        read,
+        written,
+        read_over,
+        written_over,
+    );
     r.files[i] = heeded(r.files[i], s);
     r.head = s.head;
     s.status

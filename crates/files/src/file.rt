@@ -11,7 +11,7 @@ use wire::request::Request;
 ghost use mathlib.Core.Path.{_≡_};
 ghost use Prim.Native.Nat.{_<_};
 ghost use Rattle.reports.specs.Report.{reportOf};
-ghost use Rattle.files.specs.File.{noFile, blankFile, fileOf, isFile, isVacant, openedFile, reclaimedFile, closedFile, repairedFile, forgettable, restartedFile, endedFile, isListed, isReady, sourceOf, unreclaimedBar, heededFile, reportHeard, phaseOf, returnedHeard, returnedFile};
+ghost use Rattle.files.specs.File.{noFile, blankFile, fileOf, isFile, isVacant, openedFile, reclaimedFile, closedFile, repairedFile, forgettable, restartedFile, endedFile, isListed, isReady, sourceOf, unreclaimedBar, heededFile, reportHeard, phaseOf, returnedHeard};
 
 // The wide fields stand first. A place of the record is a file's if `used`.
 #[repr(C)]
@@ -264,7 +264,7 @@ impl File {
         0
     }
 
-    // Steps 5 to 7 of a LAYOUTRETURN: what its report says of the file, or 10036, 10004; 70; 10034.
+    // Steps 5 to 7 of a LAYOUTRETURN: what its report says of the file, with its totals, or 10036; 70; 10034.
     fn report(self, number: u64, client: u64, body: &[u8]) -> Heard
         ensures { λ r. ⌜ r ≡ reportHeard number client (reportOf (now (body .entry))) self ⌝ }
     {
@@ -320,19 +320,6 @@ impl File {
             return self;
         }
         self
-    }
-
-    // Steps 1 to 7 of a LAYOUTRETURN; HANDED_ON where it is handed on.
-    pub fn layoutreturn(self, number: u64, head: Head, client: u64, request: &[u8]) -> FileAnswered
-        ensures { λ r. ⌜ r ≡ returnedFile number head client (now (request .entry)) self ⌝ }
-    {
-        let h = self.heard(number, head, client, request);
-        let f = self.heed(h);
-        FileAnswered {
-            status: h.status,
-            head: head,
-            file: f,
-        }
     }
 
     // The file after a restart: nobody has reclaimed.

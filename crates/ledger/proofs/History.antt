@@ -14,8 +14,10 @@ use Rattle.files.specs.declared.head.Edition.{Edition}
 use Rattle.files.specs.declared.head.Edition.the-variants.{Current, Old}
 use Rattle.files.specs.Head.{isOld}
 use Rattle.recovery.specs.Calls.{Call, register, opening, reclaim, close, repaired, forget, endGrace, restart, layoutReturn, resilver, offered, Answer, said, replied, handedOn, listed, lend}
-use Rattle.ledger.specs.Ledger.{Ledger, noRows, judge, apply, accepted, feed, reply, isMarked, isOffered}
-use Rattle.recovery.specs.Record.{freshAs, returning, writing, returnedOf, layoutreturnOf, replyAfter}
+use Rattle.ledger.specs.Ledger.{Ledger, noRows, judge, apply, accepted, feed, isMarked, isOffered}
+use Rattle.recovery.specs.Record.{freshAs, returning, writing, returnedOf, returnedTotals, layoutreturnOf, replyAfter}
+use Rattle.mirroring.specs.Totals.{noTotals}
+use Rattle.mirroring.specs.declared.totals.Totals.{Totals}
 use Rattle.ledger.specs.History.{Step, stepOf, returnStep, step, answers, verdicts, recordAfter, ledgerAfter}
 use Rattle.ledger.specs.Demand3.{ledgerOf, Holds, Demand3}
 use Rattle.recovery.specs.declared.record.Record.{Record}
@@ -53,27 +55,28 @@ by-list : (t : Answer) (r : Record) (l : Ledger) (x : Call) (ns ss a b : List �
 by-list t r l x ns ss a b e m = rw e (by-nothing (lend ns ss a b) r l x (lend-changes-nothing ns ss a b) m)
 
 -- ---- LAYOUTRETURN
-handing-accepts : (t : ℕ) (d : List ℕ) (b : Bool) → eqb t handedOnCode ≡ b → accepted (cond b (handedOn d) (reply t d)) ≡ eqb t 0
-handing-accepts t d true e = rw (eqb-true t handedOnCode e)
-handing-accepts t d false e = refl
+handing-accepts : (t : ℕ) (ts : Totals) (d : List ℕ) (b : Bool) → eqb t handedOnCode ≡ b → accepted (cond b (handedOn ts d) (replied t ts (replyIn t d))) ≡ eqb t 0
+handing-accepts t ts d true e = rw (eqb-true t handedOnCode e)
+handing-accepts t ts d false e = refl
 
-by-return : (a : Answered) (l : Ledger) (x : Call) (t : ℕ) (d : List ℕ) → RecordAgrees a l (apply l x) t → StepIs (returnStep (returning a) (writing a d)) l x (handing t d)
+by-return : (a : Answered) (us : Totals) (l : Ledger) (x : Call) (t : ℕ) (ts : Totals) (d : List ℕ) → RecordAgrees a l (apply l x) t → us ≡ ts
+    → StepIs (returnStep (returning a us) (writing a d)) l x (handing t ts d)
 unfolding feed
-by-return a l x t d h = record { answer = ap (λ s. written s) (h .same) ∙ same-buffer (eqb t handedOnCode); after = rw (handing-accepts t d (eqb t handedOnCode) refl) (h .kept) }
+by-return a us l x t ts d h e = record { answer = ap₂ written (h .same) e ∙ same-buffer (eqb t handedOnCode); after = rw (handing-accepts t ts d (eqb t handedOnCode) refl) (h .kept) }
   where
-    written : ℕ → Answer
-    written s = cond (eqb s handedOnCode) (handedOn (cond (eqb s handedOnCode) d (replyIn s d))) (replied s (cond (eqb s handedOnCode) d (replyIn s d)))
+    written : ℕ → Totals → Answer
+    written s u = cond (eqb s handedOnCode) (handedOn u (cond (eqb s handedOnCode) d (replyIn s d))) (replied s u (cond (eqb s handedOnCode) d (replyIn s d)))
 
-    same-buffer : (b : Bool) → cond b (handedOn (cond b d (replyIn t d))) (replied t (cond b d (replyIn t d))) ≡ cond b (handedOn d) (reply t d)
+    same-buffer : (b : Bool) → cond b (handedOn ts (cond b d (replyIn t d))) (replied t ts (cond b d (replyIn t d))) ≡ cond b (handedOn ts d) (replied t ts (replyIn t d))
     same-buffer true = refl
     same-buffer false = refl
 
 return-by : (r : Record) (l : Ledger) (n c : ℕ) (s d : List ℕ) (b : Bool) → ltb (length d) 24 ≡ b → Matches r l → StepIs (step r (layoutReturn n c s d)) l (layoutReturn n c s d) (judge l (layoutReturn n c s d))
-unfolding step judge apply layoutreturnOf replyAfter returnedOf returnedHeard returnedFile
-return-by r l n c s d true e m = rw e (by-nothing (replied 28 d) r l (layoutReturn n c s d) refl m)
+unfolding step judge apply layoutreturnOf replyAfter returnedOf returnedTotals returnedHeard returnedFile
+return-by r l n c s d true e m = rw e (by-nothing (replied 28 noTotals d) r l (layoutReturn n c s d) refl m)
 return-by r l n c s d false e m =
     let z = return-agrees m n c s d in
-    rw (e, ← z .answer) (by-return _ l (layoutReturn n c s d) (z .code) d (z .agrees))
+    rw (e, ← z .answer) (by-return _ _ l (layoutReturn n c s d) (z .code) (z .totals) d (z .agrees) (z .same))
 
 -- ---- each call
 pub step-agrees : (r : Record) (l : Ledger) (x : Call) → Matches r l → StepIs (step r x) l x (judge l x)

@@ -2,6 +2,7 @@ pub mod Relation
 mod Reported
 mod OneFile
 mod Calls
+mod Totalled
 mod Returns
 pub mod Sentences
 pub mod History
@@ -9,3 +10,4 @@ mod Fed
 mod Within
 mod Worse
 pub mod RestartTwice
+pub mod OnlyTotals

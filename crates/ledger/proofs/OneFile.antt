@@ -9,11 +9,12 @@ use lib.ListN.{getD, length, length-set, length-map}
 use lib.Dec.{eqb, leb}
 use borrow.Author.Tests.{eqb-true, le-leb, lt-leb}
 use Rattle.reports.specs.Device.{Device}
-use Rattle.reports.specs.Report.{DeviceError, over}
+use Rattle.reports.specs.Statistics.{Statistic}
+use Rattle.reports.specs.Report.{DeviceError, Whole}
 use Rattle.places.specs.Lists.{any, chosen, has, with, none}
 use Rattle.places.specs.Places.{bump, first, placeOr}
 use Rattle.mirroring.specs.Mirrors.{noMirror, isGood, placedMirrors, sourceIn}
-use Rattle.mirroring.specs.Blame.{heardNothing, told}
+use Rattle.mirroring.specs.Blame.{heardOf}
 use Rattle.intents.specs.Intents.{noIntent, noIntents, intentOf, isIntent, isFree, isKept, isLost, firstTaken, reclaimedIf, unreclaimedIntent}
 use Rattle.files.specs.declared.head.Edition.the-variants.{Current}
 use Rattle.files.specs.File as file
@@ -30,7 +31,7 @@ use Rattle.mirroring.proofs.Copies.{MirrorIs, NoMirror, Copies, copies-unblamed
 use Rattle.files.proofs.Heeding.{nothing-heeded}
 use Rattle.ledger.specs.Ledger.{Row, newRow, source, sourceFrom, refused, openRules, intentRules, closeRules, repairedRules, opened, hasReclaimed, closed, mended, restarted, ended, reported, lost}
 use Rattle.ledger.proofs.Relation.{IntentIs, NoIntent, Intents, FileIs, with-intents, with-mark, with-copies, FileAgrees, branch}
-use Rattle.ledger.proofs.Reported.{file-after-report, status-stays}
+use Rattle.ledger.proofs.Reported.{file-after-report, heard-status}
 
 -- ---- tests of intents
 module _ (g : Bool) (rs : List ℕ) (c : ℕ) where
@@ -40,10 +41,10 @@ module _ (g : Bool) (rs : List ℕ) (c : ℕ) where
   is-no-intent : (x : Intent) → NoIntent x → isIntent c x ≡ false
   is-no-intent x h = rw h
 
-abbrev AtIntent : ℕ → Bool → File → Row → Type 0
+abbrev pub AtIntent : ℕ → Bool → File → Row → Type 0
 AtIntent c g f w = Focus (IntentIs g (w .reclaimed)) NoIntent (isIntent c) (λ d. eqb d c) (f .intents) (w .intents)
 
-at-intent : {g : Bool} {f : File} {w : Row} (c : ℕ) → FileIs g f w → AtIntent c g f w
+pub at-intent : {g : Bool} {f : File} {w : Row} (c : ℕ) → FileIs g f w → AtIntent c g f w
 at-intent {g} {f} {w} c h = focus (isIntent c) (λ d. eqb d c) (is-intent g (w .reclaimed) c) (is-no-intent g (w .reclaimed) c) (h .intents .places)
 
 first-taken : {g : Bool} {rs : List ℕ} {xs : List Intent} {cs : List ℕ} → Slots (IntentIs g rs) NoIntent xs cs → firstTaken xs ≡ not (none cs)
@@ -170,15 +171,15 @@ file-ended f w h = record {
 }
 
 -- ---- a report
-reports-at : {g : Bool} {f : File} {w : Row} (d : Head) (c : ℕ) (xs : List DeviceError) → FileIs g f w → AtIntent c g f w
-    → FileAgrees d g (heeds d f (ofClient (over (told (f .mirrors)) (heardNothing 0) xs) (first (isIntent c) (f .intents)))) w (reported Current xs w) (refused (intentRules c w))
+reports-at : {g : Bool} {f : File} {w : Row} (d : Head) (c : ℕ) (xs : List DeviceError) (ys : List Statistic) → FileIs g f w → AtIntent c g f w
+    → FileAgrees d g (heeds d f (ofClient (heardOf (f .mirrors) (Whole xs ys)) (first (isIntent c) (f .intents)))) w (reported Current xs w) (refused (intentRules c w))
 unfolding has
-reports-at {f} d c xs h (missing a b) = rw (a, b, nothing-heeded d 10034 f) (record { same = refl; kept = record { head = refl; file = h } })
-reports-at {f} d c xs h (found i y t) = rw (t .at, t .there) (record { same = status-stays (f .mirrors) xs (heardNothing 0); kept = record { head = refl; file = file-after-report xs h } })
+reports-at {f} d c xs ys h (missing a b) = rw (a, b, nothing-heeded d 10034 f) (record { same = refl; kept = record { head = refl; file = h } })
+reports-at {f} d c xs ys h (found i y t) = rw (t .at, t .there) (record { same = heard-status (f .mirrors) xs ys; kept = record { head = refl; file = file-after-report xs ys h } })
 
-pub file-reported : {g : Bool} {f : File} {w : Row} (d : Head) (c : ℕ) (xs : List DeviceError) → FileIs g f w
-    → FileAgrees d g (heeds d f (ofClient (over (told (f .mirrors)) (heardNothing 0) xs) (first (isIntent c) (f .intents)))) w (reported Current xs w) (refused (intentRules c w))
-file-reported d c xs h = reports-at d c xs h (at-intent c h)
+pub file-reported : {g : Bool} {f : File} {w : Row} (d : Head) (c : ℕ) (xs : List DeviceError) (ys : List Statistic) → FileIs g f w
+    → FileAgrees d g (heeds d f (ofClient (heardOf (f .mirrors) (Whole xs ys)) (first (isIntent c) (f .intents)))) w (reported Current xs w) (refused (intentRules c w))
+file-reported d c xs ys h = reports-at d c xs ys h (at-intent c h)
 
 -- ---- the source
 abbrev sourceFromAt : ℕ → Found → ℕ

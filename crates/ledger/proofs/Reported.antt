@@ -1,4 +1,5 @@
--- A file's report, beside the ledger's: what the walk of a report hears of a file's mirrors is what step 7 says of the row.
+-- A file's report, beside the ledger's: what the walk of a report hears of a file's mirrors is what step 7 says of the row. In this order: device errors; a
+-- whole report, heard and heeded; steps 5 and 6.
 use mathlib.Core.Path.{_≡_, refl, ap, sym, _∙_}
 use mathlib.Core.List.{List, [], _∷_}
 use mathlib.Core.Bool.{Bool, true, false, not, cond}
@@ -7,14 +8,16 @@ use native.Mathlib.Omega.{arith}
 use lib.ListN.{length, length-set}
 use lib.Dec.{eqb}
 use Rattle.reports.specs.Device.{Device}
-use Rattle.reports.specs.Report.{DeviceError, over}
+use Rattle.reports.specs.Statistics.{Statistic}
+use Rattle.reports.specs.Report.{DeviceError, Whole, Malformed, over}
 use Rattle.places.specs.Lists.{any, with}
 use Rattle.places.specs.Places.{first}
 use Rattle.mirroring.specs.Devices.{deviceOf, isMirror, placeOf}
 use Rattle.mirroring.specs.Mirrors.{isDevice, accused}
-use Rattle.mirroring.specs.Blame.{heardNothing, faultAt, toldAt, toldOf, told}
+use Rattle.mirroring.specs.Blame.{heardNothing, faultAt, toldAt, toldOf, told, errorsHeard, heardOf}
+use Rattle.mirroring.specs.TotalsSteps.{mirrorTotals}
 use Rattle.files.specs.File as file
-use Rattle.files.specs.File.{heededFile}
+use Rattle.files.specs.File.{heededFile, ofIntent, reportHeard}
 use Rattle.mirroring.specs.declared.mirrors.Mirror.{Mirror}
 use Rattle.mirroring.specs.declared.blame.Heard.{Heard}
 use Rattle.files.specs.declared.file.File.{File}
@@ -24,6 +27,7 @@ use Rattle.places.proofs.Sets.{true-false, none-first}
 use Rattle.places.proofs.Slots.{Slots}
 use Rattle.mirroring.proofs.Copies.{Copies, MirrorIs, NoMirror, known, placed, none-accused, flag-raised}
 use Rattle.files.specs.declared.head.Edition.the-variants.{Current}
+use Rattle.mirroring.proofs.Hearing.{status-kept}
 use Rattle.ledger.specs.Ledger.{Row, names, isFault, isStranger, blame, reported, withMark, withBlame}
 use Rattle.ledger.proofs.Relation.{FileIs, with-mark, with-copies}
 
@@ -103,7 +107,10 @@ module _ (ms : List Mirror) (w : Row) (s : Slots MirrorIs NoMirror ms (w .mirror
       last false = refl
   heard-all (x ∷ xs) h bs b k = heard-item h x xs bs b (names w (deviceOf x)) refl k (λ cs c j. heard-all xs (told ms h x) cs c j)
 
--- ---- a file that heard a whole report
+-- ---- a whole report
+pub heeds-report : {g : Bool} {f : File} {w : Row} (xs : List DeviceError) → FileIs g f w → Heeds (f .mirrors) (over (told (f .mirrors)) (heardNothing 0) xs) w xs (w .blamed) false
+heeds-report {g} {f} {w} xs k = heard-all (f .mirrors) w (k .copies .mirrors) xs (heardNothing 0) (w .blamed) false (record { copies = rw (none-accused 4 (f .mirrors)) (k .copies); flags = sym (k .copies .four); unknown = refl; failed = refl })
+
 after-report : {g : Bool} {f : File} {w : Row} (h : Heard) (xs : List DeviceError) → FileIs g f w → Heeds (f .mirrors) h w xs (w .blamed) false → FileIs g (heededFile h f) (reported Current xs w)
 unfolding heededFile
 after-report h xs k (named p q) = rw (p, q) (with-mark k refl)
@@ -115,20 +122,22 @@ after-report {g} {f} {w} h xs k (mirrors-only p q) = rw (p, q .unknown) (by (any
     by true e = rw e (with-mark (with-copies k (q .copies)) refl)
     by false e = rw e k
 
-pub file-after-report : {g : Bool} {f : File} {w : Row} (xs : List DeviceError) → FileIs g f w → FileIs g (heededFile (over (told (f .mirrors)) (heardNothing 0) xs) f) (reported Current xs w)
-file-after-report {g} {f} {w} xs k =
-    after-report _ xs k
-    (heard-all (f .mirrors) w (k .copies .mirrors) xs (heardNothing 0) (w .blamed) false (record { copies = rw (none-accused 4 (f .mirrors)) (k .copies); flags = sym (k .copies .four); unknown = refl; failed = refl }))
+pub file-after-report : {g : Bool} {f : File} {w : Row} (xs : List DeviceError) (ys : List Statistic) → FileIs g f w
+    → FileIs g (heededFile (heardOf (f .mirrors) (Whole xs ys)) f) (reported Current xs w)
+unfolding heededFile heardOf errorsHeard
+file-after-report {g} {f} {w} xs ys k = after-report (over (told (f .mirrors)) (heardNothing 0) xs) xs k (heeds-report xs k)
 
-pub status-stays : (ms : List Mirror) (xs : List DeviceError) (h : Heard) → over (told ms) h xs .status ≡ h .status
-unfolding over toldOf
-status-stays ms [] h = refl
-status-stays ms (x ∷ xs) h = status-stays ms xs (told ms h x) ∙ one (first (isDevice (deviceOf x)) ms)
-  where
-    one : (o : Found) → toldAt h (x .status) o .status ≡ h .status
-    one Nothing = refl
-    one (At i) = by (eqb (x .status) 0)
-      where
-        by : (b : Bool) → cond b h (faultAt h i) .status ≡ h .status
-        by true = refl
-        by false = refl
+-- ---- steps 5 and 6
+pub heard-status : (ms : List Mirror) (xs : List DeviceError) (ys : List Statistic) → heardOf ms (Whole xs ys) .status ≡ 0
+unfolding heardOf errorsHeard
+heard-status ms xs ys = status-kept ms xs (heardNothing 0)
+
+pub whole-heard : (n c : ℕ) (xs : List DeviceError) (ys : List Statistic) (f : File) → reportHeard n c (Whole xs ys) f ≡ ofIntent n c f (heardOf (f .mirrors) (Whole xs ys))
+unfolding reportHeard
+whole-heard n c xs ys f =
+    let h = heardOf (f .mirrors) (Whole xs ys) in
+    ap (λ (k : ℕ). cond (eqb k 0) (ofIntent n c f h) h) (heard-status (f .mirrors) xs ys)
+
+pub malformed-heard : (n c : ℕ) (f : File) → reportHeard n c Malformed f ≡ heardNothing 10036
+unfolding reportHeard heardOf errorsHeard mirrorTotals
+malformed-heard n c f = refl

@@ -9,7 +9,7 @@ use native.Mathlib.Omega.{arith}
 use lib.ListN.{getD, length, take, replicate, length-map, List·getD-eq-default}
 use lib.Dec.{eqb, ltb}
 use borrow.Author.Tests.{ne-eqb, le-leb, ltb-true, ltb-false}
-use Rattle.reports.specs.Report.{Report, Whole, Malformed, Statistics, reportOf}
+use Rattle.reports.specs.Report.{Report, Whole, Malformed, reportOf}
 use Rattle.wire.specs.Request.{requestOf, bodyOf}
 use Rattle.wire.specs.declared.request.Request.{Request}
 use Rattle.wire.specs.declared.request.Request.the-variants as request
@@ -18,6 +18,7 @@ use Rattle.places.specs.Lists.{any, has, none, amend, firstOr, fill}
 use Rattle.places.proofs.Slots.{All, Pairs, Slots, chosen-length, missing, found}
 use Rattle.places.proofs.Sets.{true-false, first-no, rest-no}
 use Rattle.mirroring.specs.Mirrors.{noMirror}
+use Rattle.mirroring.specs.Totals.{noTotals}
 use Rattle.mirroring.specs.declared.mirrors.Mirror.{Mirror}
 use Rattle.files.specs.File.{noFile}
 use Rattle.files.specs.declared.head.Edition.{Edition}
@@ -112,8 +113,7 @@ return-side Current n c s d (request.File true k) e {ws} {vs} h = by (reportOf (
     by : (p : Report)
         → Side (cond (eqb (refused (reportRules (inGrace Current ws) n c p)) 0) (onRow (inGrace Current ws) n (reported Current (errorsOf p))) (inGrace Current ws)) (cond (eqb (refused (reportRules (inGrace Current vs) n c p)) 0) (onRow (inGrace Current vs) n (reported Current (errorsOf p))) (inGrace Current vs))
     by Malformed = side h
-    by Statistics = side h
-    by (Whole xs) = one-file Current n (λ w. refused (intentRules c w)) (reported Current xs) (report-kept c xs) h
+    by (Whole xs ys) = one-file Current n (λ w. refused (intentRules c w)) (reported Current xs) (report-kept c xs) h
 
 step-side : (o : Edition) (x : Call) {ws vs : List Row} → (x ≡ endGrace → ⊥) → Pairs Worse ws vs → Side (feed (inGrace o ws) x (judge (inGrace o ws) x)) (feed (inGrace o vs) x (judge (inGrace o vs) x))
 unfolding feed judge apply registered rowOf
@@ -127,7 +127,7 @@ step-side o endGrace k h = absurd (k refl)
 step-side o restart k h = side (pairs-both restarted restart-kept h)
 step-side o (layoutReturn n c s d) {ws} {vs} k h = by (ltb (length d) 24)
   where
-    by : (b : Bool) → Side (feed (inGrace o ws) (layoutReturn n c s d) (cond b (replied 28 d) (judgeRequest (inGrace o ws) n c s d (requestOf s)))) (feed (inGrace o vs) (layoutReturn n c s d) (cond b (replied 28 d) (judgeRequest (inGrace o vs) n c s d (requestOf s))))
+    by : (b : Bool) → Side (feed (inGrace o ws) (layoutReturn n c s d) (cond b (replied 28 noTotals d) (judgeRequest (inGrace o ws) n c s d (requestOf s)))) (feed (inGrace o vs) (layoutReturn n c s d) (cond b (replied 28 noTotals d) (judgeRequest (inGrace o vs) n c s d (requestOf s))))
     by true = side h
     by false = return-side o n c s d (requestOf s) refl h
 step-side o (resilver a b) {ws} {vs} k h = rw (lend-changes-nothing _ _ a b, lend-changes-nothing _ _ a b) (side h)

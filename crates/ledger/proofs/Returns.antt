@@ -7,7 +7,7 @@ use Prim.Native.Nat.{ℕ, _<_}
 use native.Mathlib.Omega.{arith}
 use lib.Dec.{eqb, leb}
 use borrow.Author.Tests.{eqb-true, ne-eqb}
-use Rattle.reports.specs.Report.{DeviceError, Report, Whole, Malformed, Statistics, reportOf, over, outcome}
+use Rattle.reports.specs.Report.{DeviceError, Report, Whole, Malformed, reportOf}
 use Rattle.wire.specs.Request.{requestOf, bodyOf}
 use Rattle.wire.specs.Reply.{replyIn}
 use Rattle.wire.specs.declared.request.Request.{Request}
@@ -16,35 +16,36 @@ use Rattle.wire.proofs.Requests.{cond-below, refused-number, refused-small}
 use Rattle.places.specs.Lists.{any}
 use Rattle.places.specs.Places.{first}
 use Rattle.intents.specs.Intents.{isIntent}
-use Rattle.mirroring.specs.declared.blame.Heard.{Heard}
-use Rattle.mirroring.specs.Blame.{heardNothing, told, heardOf}
+use Rattle.mirroring.specs.Totals.{noTotals}
+use Rattle.mirroring.specs.declared.totals.Totals.{Totals}
 use Rattle.files.specs.Head.{isOld}
 use Rattle.files.specs.declared.head.Edition.{Edition}
-use Rattle.files.specs.File.{isFile, fileAnswered, heededFile, heeds, ofIntent, ifWhole, reportHeard, asksHeard, handedOnCode}
+use Rattle.files.specs.File.{isFile, fileAnswered, heededFile, heeds, reportHeard, asksHeard, handedOnCode}
 use Rattle.files.specs.declared.file.File.{File}
 use Rattle.files.specs.declared.file.FileAnswered.{FileAnswered}
 use Rattle.files.specs.declared.head.Head.{Head}
 use Rattle.files.proofs.Heeding.{nothing-heeded}
 use Rattle.recovery.specs.Calls.{Answer, replied, handedOn}
-use Rattle.ledger.specs.Ledger.{Row, Ledger, registered, rowOf, holds, refused, intentRules, reportRules, judgeRequest, reply, isFault, isStranger, blame, withMark, withBlame, reported, errorsOf, onRow}
-use Rattle.recovery.specs.Record.{onPlace}
+use Rattle.ledger.specs.Ledger.{Row, Ledger, registered, rowOf, holds, refused, intentRules, reportRules, judgeRequest, refusal, rowTotals, isFault, isStranger, blame, withMark, withBlame, reported, errorsOf, onRow}
+use Rattle.recovery.specs.Record.{fileAt, onPlace}
 use Rattle.recovery.specs.declared.record.Record.{Record}
 use Rattle.ledger.proofs.Relation.{Matches, RecordAgrees}
-use Rattle.ledger.proofs.Reported.{status-stays}
+use Rattle.ledger.proofs.Reported.{whole-heard, malformed-heard}
 use Rattle.ledger.proofs.OneFile.{file-reported}
 use Rattle.ledger.proofs.Calls.{refused-any, on-file}
+use Rattle.ledger.proofs.Totalled.{totalsIn, asked-totals}
 
 -- ---- a request as steps 1 and 2 leave it
-record Refusal (k : ℕ) : Type 0 where
-  nonzero : k ≡ 0 → ⊥
-  small : k < 20000
+pub record Refusal (k : ℕ) : Type 0 where
+  pub nonzero : k ≡ 0 → ⊥
+  pub small : k < 20000
 
-abbrev Read-as : Request → Type 0
+abbrev pub Read-as : Request → Type 0
 Read-as (request.Refused k) = Refusal k
 Read-as request.Bulk = Unit {0}
 Read-as (request.File a n) = Unit {0}
 
-read-as : (s : List ℕ) (q : Request) → requestOf s ≡ q → Read-as q
+pub read-as : (s : List ℕ) (q : Request) → requestOf s ≡ q → Read-as q
 read-as s (request.Refused k) e = record { nonzero = refused-number s e; small = refused-small s e }
 read-as s request.Bulk e = tt
 read-as s (request.File a n) e = tt
@@ -59,19 +60,14 @@ reported-number o xs w = by (isOld o) (any (isStranger w) xs) (any isFault xs)
     by false false true = refl
     by false false false = refl
 
-reported-file : (d : Head) (n c : ℕ) (h : Heard) (f : File) → h .status ≡ 0 → heeds d f (ifWhole h (ofIntent n c f h)) ≡ heeds d f (ofIntent n c f h)
-reported-file d n c h f e = ap (λ k. heeds d f (cond (eqb k 0) (ofIntent n c f h) h)) e
-
 abbrev reportsFile : Head → ℕ → ℕ → Report → File → FileAnswered
 reportsFile d n c p f = heeds d f (reportHeard n c p f)
 
 report-agrees : {r : Record} {l : Ledger} (n c : ℕ) (p : Report) → isOld (l .edition) ≡ false → Matches r l → RecordAgrees (onPlace n (reportsFile (r .head) n c p) r) l (onRow l n (reported (l .edition) (errorsOf p))) (refused (reportRules l n c p))
-unfolding reportHeard heardOf outcome
-report-agrees {r} n c Malformed q m = refused-any n (reportsFile (r .head) n c Malformed) 10036 refl (nothing-heeded (r .head) 10036) m
-report-agrees {r} n c Statistics q m = refused-any n (reportsFile (r .head) n c Statistics) 10004 refl (nothing-heeded (r .head) 10004) m
-report-agrees {r} {l} n c (Whole xs) q m = on-file n (reportsFile (r .head) n c (Whole xs)) (reported (l .edition) xs) (λ w. refused (intentRules c w)) (reported-number (l .edition) xs)
-    (λ f w i k. rw (reported-file (r .head) n c (over (told (f .mirrors)) (heardNothing 0) xs) f (status-stays (f .mirrors) xs (heardNothing 0)), i, q) (file-reported (r .head) c xs k))
-    (λ f i. rw (reported-file (r .head) n c (over (told (f .mirrors)) (heardNothing 0) xs) f (status-stays (f .mirrors) xs (heardNothing 0)), i) (nothing-heeded (r .head) 70 f)) m
+report-agrees {r} n c Malformed q m = refused-any n (reportsFile (r .head) n c Malformed) 10036 refl (λ f. rw (malformed-heard n c f) (nothing-heeded (r .head) 10036 f)) m
+report-agrees {r} {l} n c (Whole xs ys) q m = on-file n (reportsFile (r .head) n c (Whole xs ys)) (reported (l .edition) xs) (λ w. refused (intentRules c w)) (reported-number (l .edition) xs)
+    (λ f w i k. rw (whole-heard n c xs ys f, i, q) (file-reported (r .head) c xs ys k))
+    (λ f i. rw (whole-heard n c xs ys f, i) (nothing-heeded (r .head) 70 f)) m
 
 -- ---- steps 1 to 7: the status that the ledger says, or the number that stands for "handed on"
 abbrev codeOf : Ledger → ℕ → ℕ → List ℕ → Request → ℕ
@@ -106,35 +102,42 @@ module _ {r : Record} {l : Ledger} (m : Matches r l) (n c : ℕ) (s : List ℕ) 
   asks-agrees (request.File false k) h = ordinary-by k (l .grace) refl
 
 -- ---- the answer
-abbrev pub handing : ℕ → List ℕ → Answer
-handing t d = cond (eqb t handedOnCode) (handedOn d) (reply t d)
+abbrev pub handing : ℕ → Totals → List ℕ → Answer
+handing t ts d = cond (eqb t handedOnCode) (handedOn ts d) (replied t ts (replyIn t d))
 
 not-handed : (t : ℕ) → t < 20000 → eqb t handedOnCode ≡ false
 not-handed t h = ne-eqb t handedOnCode (λ e. omega arith)
 
 rules-low : (l : Ledger) (n c : ℕ) (p : Report) → refused (reportRules l n c p) < 20000
 rules-low l n c Malformed = omega arith
-rules-low l n c Statistics = omega arith
-rules-low l n c (Whole xs) = cond-below (not (registered n l)) 20000 70 (cond (not (holds c (rowOf n l))) 10034 0) (omega arith) (cond-below (not (holds c (rowOf n l))) 20000 10034 0 (omega arith) (omega arith))
+rules-low l n c (Whole xs ys) = cond-below (not (registered n l)) 20000 70 (cond (not (holds c (rowOf n l))) 10034 0) (omega arith) (cond-below (not (holds c (rowOf n l))) 20000 10034 0 (omega arith) (omega arith))
 
-answer-is : (l : Ledger) (n c : ℕ) (s d : List ℕ) (q : Request) → Read-as q → handing (codeOf l n c s q) d ≡ judgeRequest l n c s d q
+answer-is : (l : Ledger) (n c : ℕ) (s d : List ℕ) (q : Request) → Read-as q → handing (codeOf l n c s q) (totalsIn l n c s q) d ≡ judgeRequest l n c s d q
 answer-is l n c s d (request.Refused k) h = rw (not-handed k (h .small))
 answer-is l n c s d request.Bulk h = refl
 answer-is l n c s d (request.File true k) h =
     rw (not-handed _ (cond-below (isOld (l .edition)) 20000 10025 (cond (not (l .grace)) 10033 (refused (reportRules l n c (reportOf (bodyOf s))))) (omega arith) (cond-below (not (l .grace)) 20000 10033 (refused (reportRules l n c (reportOf (bodyOf s)))) (omega arith) (rules-low l n c (reportOf (bodyOf s))))))
 answer-is l n c s d (request.File false k) h = by (l .grace)
   where
-    by : (b : Bool) → handing (cond b 10013 handedOnCode) d ≡ cond b (reply 10013 d) (handedOn d)
+    by : (b : Bool) → handing (cond b 10013 handedOnCode) noTotals d ≡ cond b (refusal 10013 d) (handedOn noTotals d)
     by true = refl
     by false = refl
 
--- a LAYOUTRETURN whose reply buffer is long enough: t is its status or that number
+-- a LAYOUTRETURN whose reply buffer is long enough: its status or that number, and its totals
 pub record ReturnAgrees (r : Record) (l : Ledger) (n c : ℕ) (s d : List ℕ) : Type 0 where
   pub code : ℕ
+  pub totals : Totals
   pub agrees : RecordAgrees (onPlace n (λ f. heeds (r .head) f (asksHeard n (r .head) c s f (requestOf s))) r) l (onRow l n (reported (l .edition) (errorsOf (reportOf (bodyOf s))))) code
-  pub answer : handing code d ≡ judgeRequest l n c s d (requestOf s)
+  pub same : asksHeard n (r .head) c s (fileAt n r) (requestOf s) .totals ≡ totals
+  pub answer : handing code totals d ≡ judgeRequest l n c s d (requestOf s)
 
 pub return-agrees : {r : Record} {l : Ledger} → Matches r l → (n c : ℕ) (s d : List ℕ) → ReturnAgrees r l n c s d
 return-agrees {r} {l} m n c s d =
     let h = read-as s (requestOf s) refl in
-    record { code = codeOf l n c s (requestOf s); agrees = asks-agrees m n c s (requestOf s) h; answer = answer-is l n c s d (requestOf s) h }
+    record {
+      code = codeOf l n c s (requestOf s);
+      totals = totalsIn l n c s (requestOf s);
+      agrees = asks-agrees m n c s (requestOf s) h;
+      same = asked-totals m n c s (requestOf s);
+      answer = answer-is l n c s d (requestOf s) h;
+    }

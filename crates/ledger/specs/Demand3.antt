@@ -15,8 +15,9 @@ use Rattle.ledger.specs.History.{answers, recordAfter, verdicts, ledgerA
 abbrev pub ledgerOf : Edition → List Call → Ledger
 ledgerOf e calls = ledgerAfter (noRows e) calls (answers (freshAs e) calls)
 
--- each answer is what the ledger before that call says, every lent byte included; after all calls both listings are the ledger's; and the ledger's two
--- lists are those that the paper's sentences mean, and no other lists are; and the record's edition is the one that it was set up with
+-- each answer is what the ledger before that call says, every lent byte and all totals of a LAYOUTRETURN (Ticket 3) included; after all calls both listings are
+-- the ledger's, and the ledger's two lists are those that the paper's sentences mean, and no other lists are; and the record's edition is the one that it was
+-- set up with
 pub record Holds (e : Edition) (calls : List Call) : Type 0 where
   pub answered : answers (freshAs e) calls ≡ verdicts (noRows e) calls (answers (freshAs e) calls)
   pub resilvers : (a b : List ℕ) → listingOf false (recordAfter (freshAs e) calls) a b ≡ judge (ledgerOf e calls) (resilver a b)

@@ -20,7 +20,7 @@ stepOf a = record { answer = said (a .status); after = a .after }
 
 -- d is the reply buffer afterwards
 abbrev pub returnStep : Returned → List ℕ → Step
-returnStep a d = record { answer = cond (a .handed) (handedOn d) (replied (a .status) d); after = a .after }
+returnStep a d = record { answer = cond (a .handed) (handedOn (a .totals) d) (replied (a .status) (a .totals) d); after = a .after }
 
 unfoldable pub step : Record → Call → Step
 step r (register n s) = stepOf (registerOf n s r)

@@ -7,13 +7,15 @@ use Prim.Native.Nat.{ℕ, suc}
 use lib.ListN.{length}
 use lib.Dec.{eqb, leb, ltb}
 use Rattle.reports.specs.Device.{Device}
-use Rattle.reports.specs.Report.{DeviceError, Report, Whole, Malformed, Statistics, reportOf}
+use Rattle.reports.specs.Report.{DeviceError, Report, Whole, Malformed, reportOf}
 use Rattle.wire.specs.Request.{requestOf, bodyOf}
 use Rattle.wire.specs.Reply.{replyIn}
 use Rattle.wire.specs.declared.request.Request.{Request}
 use Rattle.wire.specs.declared.request.Request.the-variants as request
-use Rattle.places.specs.Lists.{any, chosen, has, with, none, amend, discard, firstOr, fill}
+use Rattle.places.specs.Lists.{any, chosen, has, with, none, amend, discard, firstOr}
 use Rattle.mirroring.specs.Devices.{deviceOf, mirrorsIn, isMirror, placeOf, badMirrors}
+use Rattle.mirroring.specs.Totals.{totalsOf, noTotals}
+use Rattle.mirroring.specs.declared.totals.Totals.{Totals}
 use Rattle.files.specs.Head.{isOld}
 use Rattle.files.specs.declared.head.Edition.{Edition}
 use Rattle.recovery.specs.Calls.{Call, register, opening, reclaim, close, repaired, forget, endGrace, restart, layoutReturn, resilver, offered, Answer, said, replied, handedOn, listed, lend}
@@ -77,6 +79,9 @@ names w d = isMirror d (w .mirrors)
 
 abbrev pub placeIn : Row → Device → ℕ
 placeIn w d = placeOf d (w .mirrors)
+
+abbrev pub isStranger : Row → DeviceError → Bool
+isStranger w x = not (names w (deviceOf x))
 
 -- whether a client has an intent, whether anybody has, and whether a client has reclaimed
 abbrev pub holds : ℕ → Row → Bool
@@ -154,14 +159,22 @@ abbrev pub listOf : List Row → List ℕ → List ℕ → Answer
 listOf ws a b = lend (numbers ws) (sources ws) a b
 
 -- ---- LAYOUTRETURN
-abbrev pub reply : ℕ → List ℕ → Answer
-reply s d = replied s (replyIn s d)
+-- the totals of a report, by mirror (Ticket 3); none if a named device is no mirror
+abbrev pub rowTotals : Report → Row → Totals
+rowTotals Malformed w = noTotals
+rowTotals (Whole xs ys) w = cond (any (isStranger w) xs) noTotals (totalsOf ys (w .mirrors))
+
+-- an answer with a reply; only with status 0 does it have totals
+abbrev pub refusal : ℕ → List ℕ → Answer
+refusal s d = replied s noTotals (replyIn s d)
+
+abbrev pub reply : ℕ → Totals → List ℕ → Answer
+reply s t d = replied s (cond (eqb s 0) t noTotals) (replyIn s d)
 
 -- step 5
 abbrev pub bodyRules : Report → List (Rule ℕ)
 bodyRules Malformed = true ⇒ 10036 ∷ []
-bodyRules Statistics = true ⇒ 10004 ∷ []
-bodyRules (Whole xs) = []
+bodyRules (Whole xs ys) = []
 
 -- steps 5 and 6
 abbrev pub reportRules : Ledger → ℕ → ℕ → Report → List (Rule ℕ)
@@ -170,10 +183,11 @@ reportRules l n c p = bodyRules p ++ not (registered n l) ⇒ 70 ∷ intentRules
 -- steps 1 to 6: s is the request, d the reply buffer. Step 4: all zeros get 10025 from a record set up as old, and 10033 if not in grace; in grace a stateid that
 -- is not all zeros gets 10013
 abbrev pub judgeRequest : Ledger → ℕ → ℕ → List ℕ → List ℕ → Request → Answer
-judgeRequest l n c s d (request.Refused k) = reply k d
-judgeRequest l n c s d request.Bulk = handedOn d
-judgeRequest l n c s d (request.File true k) = reply (refused (isOld (l .edition) ⇒ 10025 ∷ not (l .grace) ⇒ 10033 ∷ reportRules l n c (reportOf (bodyOf s)))) d
-judgeRequest l n c s d (request.File false k) = firstOf (l .grace ⇒ reply 10013 d ∷ []) (handedOn d)
+judgeRequest l n c s d (request.Refused k) = refusal k d
+judgeRequest l n c s d request.Bulk = handedOn noTotals d
+judgeRequest l n c s d (request.File true k) =
+    reply (refused (isOld (l .edition) ⇒ 10025 ∷ not (l .grace) ⇒ 10033 ∷ reportRules l n c (reportOf (bodyOf s)))) (rowTotals (reportOf (bodyOf s)) (rowOf n l)) d
+judgeRequest l n c s d (request.File false k) = firstOf (l .grace ⇒ refusal 10013 d ∷ []) (handedOn noTotals d)
 
 -- ---- what the ledger before a call says that it is answered
 unfoldable pub judge : Ledger → Call → Answer
@@ -185,7 +199,7 @@ judge l (repaired n) = said (refused (not (registered n l) ⇒ 70 ∷ repairedRu
 judge l (forget n) = said (refused (l .grace ⇒ 10013 ∷ not (registered n l) ⇒ 70 ∷ forgetRules (rowOf n l)))
 judge l endGrace = said (refused (not (l .grace) ⇒ 10033 ∷ []))
 judge l restart = said 0
-judge l (layoutReturn n c s d) = firstOf (ltb (length d) 24 ⇒ replied 28 d ∷ []) (judgeRequest l n c s d (requestOf s))
+judge l (layoutReturn n c s d) = firstOf (ltb (length d) 24 ⇒ replied 28 noTotals d ∷ []) (judgeRequest l n c s d (requestOf s))
 judge l (resilver a b) = listOf (needRepair l) a b
 judge l (offered a b) = listOf (forCopying l) a b
 
@@ -217,9 +231,6 @@ unfoldable pub blame : Row → List DeviceError → List ℕ → List ℕ
 blame w [] bs = bs
 blame w (x ∷ xs) bs = blame w xs (cond (isFault x) (with (placeIn w (deviceOf x)) bs) bs)
 
-abbrev pub isStranger : Row → DeviceError → Bool
-isStranger w x = not (names w (deviceOf x))
-
 -- an old record takes no report; else, if a named device is no mirror, the file is marked and nobody blamed; else each fault is blamed, and one such marks
 abbrev pub reported : Edition → List DeviceError → Row → Row
 reported e xs w =
@@ -230,8 +241,7 @@ reported e xs w =
 -- the device errors of an accepted request
 abbrev pub errorsOf : Report → List DeviceError
 errorsOf Malformed = []
-errorsOf Statistics = []
-errorsOf (Whole xs) = xs
+errorsOf (Whole xs ys) = xs
 
 -- a row among others, before the first that is greater
 unfoldable pub insert : Row → List Row → List Row
@@ -258,8 +268,8 @@ apply l (offered a b) = l
 -- a call that is refused or handed on, and a listing, change nothing
 abbrev pub accepted : Answer → Bool
 accepted (said s) = eqb s 0
-accepted (replied s d) = eqb s 0
-accepted (handedOn d) = false
+accepted (replied s t d) = eqb s 0
+accepted (handedOn t d) = false
 accepted (listed s n a b) = false
 
 unfoldable pub feed : Ledger → Call → Answer → Ledger

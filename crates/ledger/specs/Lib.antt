@@ -3,3 +3,4 @@ pub mod Lists
 pub mod History
 pub mod Demand3
 pub mod RestartTwice
+pub mod OnlyTotals

@@ -24,8 +24,8 @@ inGraceThrough r (x ∷ xs) = cond (r .head .grace) (inGraceThrough (step r x .a
 -- the files of a listing: the places that it filled
 abbrev pub filesOf : Answer → List ℕ
 filesOf (said s) = []
-filesOf (replied s d) = []
-filesOf (handedOn d) = []
+filesOf (replied s t d) = []
+filesOf (handedOn t d) = []
 filesOf (listed s count a b) = take count a
 
 -- the files that the record's resilver list gives after some calls; it is lent room for 64, and a record has no more

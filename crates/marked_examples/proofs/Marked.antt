@@ -5,9 +5,11 @@ use Rattle.extents.specs.Extents.{listFrom, tooFar, outOfOrder, clash, anyOf, r
 use Rattle.layouts.specs.Layout.{checkBody}
 use Rattle.reports.specs.Reader.{sameBytes, number, opaque, boolean, bounded, inTurn}
 use Rattle.wire.specs.Reply.{replyBytes, replyIn}
-use Rattle.reports.specs.Report.{deviceError, ioerr, layoutreturn, joined, reportOf, over, outcome}
+use Rattle.reports.specs.Report.{deviceError, ioerr, layoutreturn, joined, reportOf, over}
 use Rattle.wire.specs.Request.{fileReturn, returnOf, arguments, refusalOf, isAnonymous, unless, requestOf, bodyOf}
-use Rattle.mirroring.specs.Blame.{toldOf, heardOf}
+use Rattle.mirroring.specs.Blame.{toldOf, errorsHeard, heardOf}
+use Rattle.mirroring.specs.Totals.{sumOf, totalsOf}
+use Rattle.mirroring.specs.TotalsSteps.{mirrorTotals}
 use Rattle.mirroring.specs.Devices.{devicesIn, mirrorsIn, isMirror, placeOf, twice, badMirrors}
 use Rattle.files.specs.File.{openedFile, reclaimedFile, closedFile, repairedFile, heededFile, reportHeard, returnedHeard, returnedFile, restartedFile, endedFile, sourceOf}
 use Rattle.places.specs.Lists.{any, chosen, has, with, none, amend, discard, firstOr, fill}
@@ -15,7 +17,7 @@ use Rattle.mirroring.specs.Mirrors.{accused, sourceIn, enrolledOf}
 use Rattle.places.specs.Places.{first, pull}
 use Rattle.ledger.specs.History.{step, answers}
 use Rattle.ledger.specs.Ledger.{registered, rowOf, sourceFrom, judge, blame, insert, apply, feed}
-use Rattle.recovery.specs.Record.{placeIn, openOf, reclaimOf, closeOf, enter, registerOf, endOf, restartOf, listingOf, returnedOf, layoutreturnOf, replyAfter}
+use Rattle.recovery.specs.Record.{placeIn, openOf, reclaimOf, closeOf, enter, registerOf, endOf, restartOf, listingOf, returnedOf, returnedTotals, layoutreturnOf, replyAfter}
 use Rattle.epochs.specs.Epochs.{judged, joinOf, startOf, finishOf}
 use Rattle.epochs.specs.History.{after}
 use Rattle.masks.specs.Mask.{has as node-has, setOf, all, plus, minus, empty}
@@ -46,35 +48,35 @@ k4-to-k9 = refl
 
 -- ---- histories
 record-k10 : byRecord (started ++ endGrace ∷ list ∷ []) ≡ said 0 ∷ said 0 ∷ said 0 ∷ said 0 ∷ seven 0 ∷ []
-unfolding beNat beBytes sameBytes number opaque boolean bounded inTurn replyBytes replyIn deviceError ioerr layoutreturn joined reportOf over outcome fileReturn returnOf arguments refusalOf isAnonymous unless requestOf bodyOf toldOf heardOf devicesIn mirrorsIn isMirror placeOf twice badMirrors openedFile reclaimedFile closedFile repairedFile accused heededFile reportHeard returnedHeard returnedFile restartedFile endedFile sourceOf any chosen has with none amend discard firstOr fill sourceIn enrolledOf first pull step answers registered rowOf sourceFrom lend judge blame insert apply feed placeIn openOf reclaimOf closeOf enter registerOf endOf restartOf listingOf returnedOf layoutreturnOf replyAfter
+unfolding beNat beBytes sameBytes number opaque boolean bounded inTurn replyBytes replyIn deviceError ioerr layoutreturn joined reportOf over fileReturn returnOf arguments refusalOf isAnonymous unless requestOf bodyOf toldOf errorsHeard sumOf totalsOf mirrorTotals heardOf devicesIn mirrorsIn isMirror placeOf twice badMirrors openedFile reclaimedFile closedFile repairedFile accused heededFile reportHeard returnedHeard returnedFile restartedFile endedFile sourceOf any chosen has with none amend discard firstOr fill sourceIn enrolledOf first pull step answers registered rowOf sourceFrom lend judge blame insert apply feed placeIn openOf reclaimOf closeOf enter registerOf endOf restartOf listingOf returnedOf returnedTotals layoutreturnOf replyAfter
 record-k10 = refl
 
 ledger-k10 : byLedger (started ++ endGrace ∷ list ∷ []) ≡ said 0 ∷ said 0 ∷ said 0 ∷ said 0 ∷ seven 0 ∷ []
-unfolding beNat beBytes sameBytes number opaque boolean bounded inTurn replyBytes replyIn deviceError ioerr layoutreturn joined reportOf over outcome fileReturn returnOf arguments refusalOf isAnonymous unless requestOf bodyOf toldOf heardOf devicesIn mirrorsIn isMirror placeOf twice badMirrors openedFile reclaimedFile closedFile repairedFile accused heededFile reportHeard returnedHeard returnedFile restartedFile endedFile sourceOf any chosen has with none amend discard firstOr fill sourceIn enrolledOf first pull step answers registered rowOf sourceFrom lend judge blame insert apply feed placeIn openOf reclaimOf closeOf enter registerOf endOf restartOf listingOf returnedOf layoutreturnOf replyAfter ledgerFrom
+unfolding beNat beBytes sameBytes number opaque boolean bounded inTurn replyBytes replyIn deviceError ioerr layoutreturn joined reportOf over fileReturn returnOf arguments refusalOf isAnonymous unless requestOf bodyOf toldOf errorsHeard sumOf totalsOf mirrorTotals heardOf devicesIn mirrorsIn isMirror placeOf twice badMirrors openedFile reclaimedFile closedFile repairedFile accused heededFile reportHeard returnedHeard returnedFile restartedFile endedFile sourceOf any chosen has with none amend discard firstOr fill sourceIn enrolledOf first pull step answers registered rowOf sourceFrom lend judge blame insert apply feed placeIn openOf reclaimOf closeOf enter registerOf endOf restartOf listingOf returnedOf returnedTotals layoutreturnOf replyAfter ledgerFrom
 ledger-k10 = refl
 
 record-k11 : byRecord (reclaimed ++ endGrace ∷ list ∷ []) ≡ said 0 ∷ said 0 ∷ said 0 ∷ said 0 ∷ said 0 ∷ none-listed ∷ []
-unfolding beNat beBytes sameBytes number opaque boolean bounded inTurn replyBytes replyIn deviceError ioerr layoutreturn joined reportOf over outcome fileReturn returnOf arguments refusalOf isAnonymous unless requestOf bodyOf toldOf heardOf devicesIn mirrorsIn isMirror placeOf twice badMirrors openedFile reclaimedFile closedFile repairedFile accused heededFile reportHeard returnedHeard returnedFile restartedFile endedFile sourceOf any chosen has with none amend discard firstOr fill sourceIn enrolledOf first pull step answers registered rowOf sourceFrom lend judge blame insert apply feed placeIn openOf reclaimOf closeOf enter registerOf endOf restartOf listingOf returnedOf layoutreturnOf replyAfter
+unfolding beNat beBytes sameBytes number opaque boolean bounded inTurn replyBytes replyIn deviceError ioerr layoutreturn joined reportOf over fileReturn returnOf arguments refusalOf isAnonymous unless requestOf bodyOf toldOf errorsHeard sumOf totalsOf mirrorTotals heardOf devicesIn mirrorsIn isMirror placeOf twice badMirrors openedFile reclaimedFile closedFile repairedFile accused heededFile reportHeard returnedHeard returnedFile restartedFile endedFile sourceOf any chosen has with none amend discard firstOr fill sourceIn enrolledOf first pull step answers registered rowOf sourceFrom lend judge blame insert apply feed placeIn openOf reclaimOf closeOf enter registerOf endOf restartOf listingOf returnedOf returnedTotals layoutreturnOf replyAfter
 record-k11 = refl
 
 ledger-k11 : byLedger (reclaimed ++ endGrace ∷ list ∷ []) ≡ said 0 ∷ said 0 ∷ said 0 ∷ said 0 ∷ said 0 ∷ none-listed ∷ []
-unfolding beNat beBytes sameBytes number opaque boolean bounded inTurn replyBytes replyIn deviceError ioerr layoutreturn joined reportOf over outcome fileReturn returnOf arguments refusalOf isAnonymous unless requestOf bodyOf toldOf heardOf devicesIn mirrorsIn isMirror placeOf twice badMirrors openedFile reclaimedFile closedFile repairedFile accused heededFile reportHeard returnedHeard returnedFile restartedFile endedFile sourceOf any chosen has with none amend discard firstOr fill sourceIn enrolledOf first pull step answers registered rowOf sourceFrom lend judge blame insert apply feed placeIn openOf reclaimOf closeOf enter registerOf endOf restartOf listingOf returnedOf layoutreturnOf replyAfter ledgerFrom
+unfolding beNat beBytes sameBytes number opaque boolean bounded inTurn replyBytes replyIn deviceError ioerr layoutreturn joined reportOf over fileReturn returnOf arguments refusalOf isAnonymous unless requestOf bodyOf toldOf errorsHeard sumOf totalsOf mirrorTotals heardOf devicesIn mirrorsIn isMirror placeOf twice badMirrors openedFile reclaimedFile closedFile repairedFile accused heededFile reportHeard returnedHeard returnedFile restartedFile endedFile sourceOf any chosen has with none amend discard firstOr fill sourceIn enrolledOf first pull step answers registered rowOf sourceFrom lend judge blame insert apply feed placeIn openOf reclaimOf closeOf enter registerOf endOf restartOf listingOf returnedOf returnedTotals layoutreturnOf replyAfter ledgerFrom
 ledger-k11 = refl
 
 record-k12 : byRecord (reclaimed ++ reports A ∷ endGrace ∷ list ∷ offers ∷ close 7 1 ∷ offers ∷ []) ≡ said 0 ∷ said 0 ∷ said 0 ∷ said 0 ∷ accepted ∷ said 0 ∷ seven 1 ∷ none-listed ∷ said 0 ∷ seven 1 ∷ []
-unfolding beNat beBytes sameBytes number opaque boolean bounded inTurn replyBytes replyIn deviceError ioerr layoutreturn joined reportOf over outcome fileReturn returnOf arguments refusalOf isAnonymous unless requestOf bodyOf toldOf heardOf devicesIn mirrorsIn isMirror placeOf twice badMirrors openedFile reclaimedFile closedFile repairedFile accused heededFile reportHeard returnedHeard returnedFile restartedFile endedFile sourceOf any chosen has with none amend discard firstOr fill sourceIn enrolledOf first pull step answers registered rowOf sourceFrom lend judge blame insert apply feed placeIn openOf reclaimOf closeOf enter registerOf endOf restartOf listingOf returnedOf layoutreturnOf replyAfter
+unfolding beNat beBytes sameBytes number opaque boolean bounded inTurn replyBytes replyIn deviceError ioerr layoutreturn joined reportOf over fileReturn returnOf arguments refusalOf isAnonymous unless requestOf bodyOf toldOf errorsHeard sumOf totalsOf mirrorTotals heardOf devicesIn mirrorsIn isMirror placeOf twice badMirrors openedFile reclaimedFile closedFile repairedFile accused heededFile reportHeard returnedHeard returnedFile restartedFile endedFile sourceOf any chosen has with none amend discard firstOr fill sourceIn enrolledOf first pull step answers registered rowOf sourceFrom lend judge blame insert apply feed placeIn openOf reclaimOf closeOf enter registerOf endOf restartOf listingOf returnedOf returnedTotals layoutreturnOf replyAfter
 record-k12 = refl
 
 ledger-k12 : byLedger (reclaimed ++ reports A ∷ endGrace ∷ list ∷ offers ∷ close 7 1 ∷ offers ∷ []) ≡ said 0 ∷ said 0 ∷ said 0 ∷ said 0 ∷ accepted ∷ said 0 ∷ seven 1 ∷ none-listed ∷ said 0 ∷ seven 1 ∷ []
-unfolding beNat beBytes sameBytes number opaque boolean bounded inTurn replyBytes replyIn deviceError ioerr layoutreturn joined reportOf over outcome fileReturn returnOf arguments refusalOf isAnonymous unless requestOf bodyOf toldOf heardOf devicesIn mirrorsIn isMirror placeOf twice badMirrors openedFile reclaimedFile closedFile repairedFile accused heededFile reportHeard returnedHeard returnedFile restartedFile endedFile sourceOf any chosen has with none amend discard firstOr fill sourceIn enrolledOf first pull step answers registered rowOf sourceFrom lend judge blame insert apply feed placeIn openOf reclaimOf closeOf enter registerOf endOf restartOf listingOf returnedOf layoutreturnOf replyAfter ledgerFrom
+unfolding beNat beBytes sameBytes number opaque boolean bounded inTurn replyBytes replyIn deviceError ioerr layoutreturn joined reportOf over fileReturn returnOf arguments refusalOf isAnonymous unless requestOf bodyOf toldOf errorsHeard sumOf totalsOf mirrorTotals heardOf devicesIn mirrorsIn isMirror placeOf twice badMirrors openedFile reclaimedFile closedFile repairedFile accused heededFile reportHeard returnedHeard returnedFile restartedFile endedFile sourceOf any chosen has with none amend discard firstOr fill sourceIn enrolledOf first pull step answers registered rowOf sourceFrom lend judge blame insert apply feed placeIn openOf reclaimOf closeOf enter registerOf endOf restartOf listingOf returnedOf returnedTotals layoutreturnOf replyAfter ledgerFrom
 ledger-k12 = refl
 
 record-k13 : byRecord (reclaimed ++ reports C ∷ endGrace ∷ list ∷ []) ≡ said 0 ∷ said 0 ∷ said 0 ∷ said 0 ∷ accepted ∷ said 0 ∷ seven 0 ∷ []
-unfolding beNat beBytes sameBytes number opaque boolean bounded inTurn replyBytes replyIn deviceError ioerr layoutreturn joined reportOf over outcome fileReturn returnOf arguments refusalOf isAnonymous unless requestOf bodyOf toldOf heardOf devicesIn mirrorsIn isMirror placeOf twice badMirrors openedFile reclaimedFile closedFile repairedFile accused heededFile reportHeard returnedHeard returnedFile restartedFile endedFile sourceOf any chosen has with none amend discard firstOr fill sourceIn enrolledOf first pull step answers registered rowOf sourceFrom lend judge blame insert apply feed placeIn openOf reclaimOf closeOf enter registerOf endOf restartOf listingOf returnedOf layoutreturnOf replyAfter
+unfolding beNat beBytes sameBytes number opaque boolean bounded inTurn replyBytes replyIn deviceError ioerr layoutreturn joined reportOf over fileReturn returnOf arguments refusalOf isAnonymous unless requestOf bodyOf toldOf errorsHeard sumOf totalsOf mirrorTotals heardOf devicesIn mirrorsIn isMirror placeOf twice badMirrors openedFile reclaimedFile closedFile repairedFile accused heededFile reportHeard returnedHeard returnedFile restartedFile endedFile sourceOf any chosen has with none amend discard firstOr fill sourceIn enrolledOf first pull step answers registered rowOf sourceFrom lend judge blame insert apply feed placeIn openOf reclaimOf closeOf enter registerOf endOf restartOf listingOf returnedOf returnedTotals layoutreturnOf replyAfter
 record-k13 = refl
 
 ledger-k13 : byLedger (reclaimed ++ reports C ∷ endGrace ∷ list ∷ []) ≡ said 0 ∷ said 0 ∷ said 0 ∷ said 0 ∷ accepted ∷ said 0 ∷ seven 0 ∷ []
-unfolding beNat beBytes sameBytes number opaque boolean bounded inTurn replyBytes replyIn deviceError ioerr layoutreturn joined reportOf over outcome fileReturn returnOf arguments refusalOf isAnonymous unless requestOf bodyOf toldOf heardOf devicesIn mirrorsIn isMirror placeOf twice badMirrors openedFile reclaimedFile closedFile repairedFile accused heededFile reportHeard returnedHeard returnedFile restartedFile endedFile sourceOf any chosen has with none amend discard firstOr fill sourceIn enrolledOf first pull step answers registered rowOf sourceFrom lend judge blame insert apply feed placeIn openOf reclaimOf closeOf enter registerOf endOf restartOf listingOf returnedOf layoutreturnOf replyAfter ledgerFrom
+unfolding beNat beBytes sameBytes number opaque boolean bounded inTurn replyBytes replyIn deviceError ioerr layoutreturn joined reportOf over fileReturn returnOf arguments refusalOf isAnonymous unless requestOf bodyOf toldOf errorsHeard sumOf totalsOf mirrorTotals heardOf devicesIn mirrorsIn isMirror placeOf twice badMirrors openedFile reclaimedFile closedFile repairedFile accused heededFile reportHeard returnedHeard returnedFile restartedFile endedFile sourceOf any chosen has with none amend discard firstOr fill sourceIn enrolledOf first pull step answers registered rowOf sourceFrom lend judge blame insert apply feed placeIn openOf reclaimOf closeOf enter registerOf endOf restartOf listingOf returnedOf returnedTotals layoutreturnOf replyAfter ledgerFrom
 ledger-k13 = refl
 
 -- ---- epochs

@@ -9,6 +9,7 @@ use Rattle.xdr.specs.Be.{beBytes}
 use Rattle.extents.specs.declared.Verdict.{Verdict}
 use Rattle.extents.specs.declared.Verdict.the-variants.{Accepted, Refused}
 use Rattle.layouts.specs.Layout.{checkBody}
+use Rattle.mirroring.specs.Totals.{noTotals}
 use Rattle.recovery.specs.Calls.{Call, register, opening, reclaim, close, endGrace, restart, layoutReturn, resilver, offered, Answer, said, replied, listed}
 use Rattle.ledger.specs.Ledger.{Ledger, noRows, judge, feed}
 use Rattle.files.specs.declared.head.Edition.the-variants.{Current}
@@ -132,9 +133,9 @@ empty = listed 0 0 (0 ∷ 0 ∷ []) (9 ∷ 9 ∷ [])
 abbrev pub both : List Answer → Row
 both given = history given given
 
--- the reply to an accepted report: status 0, boolean 1, sixteen zero bytes
+-- the answer to an accepted report without statistics: status 0, boolean 1, sixteen zero bytes, and no totals
 abbrev pub accepted : Answer
-accepted = replied 0 (beBytes 4 0 ++ beBytes 4 1 ++ replicate 16 0)
+accepted = replied 0 noTotals (beBytes 4 0 ++ beBytes 4 1 ++ replicate 16 0)
 
 -- what the paper prints
 unfoldable pub printed : List Row

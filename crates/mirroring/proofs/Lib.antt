@@ -1,4 +1,5 @@
 pub mod Copies
 pub mod Enrolling
-mod Hearing
 mod Flags
+mod Summing
+pub mod Hearing

@@ -2,3 +2,4 @@
 pub mod blame;
 pub mod enrol;
 pub mod mirrors;
+pub mod totals;

@@ -1,11 +1,12 @@
 -- DEFINITION. The calls of a history, with what the host passes and the buffers that it lends, what each call is answered, and how a listing fills its
--- slices (paper 01, "Histories").
+-- slices (paper 01, "Histories"), in this order.
 use mathlib.Core.List.{List}
 use mathlib.Core.Bool.{cond}
 use Prim.Native.Nat.{ℕ}
 use lib.ListN.{length}
 use lib.Dec.{leb}
 use Rattle.places.specs.Lists.{fill}
+use Rattle.mirroring.specs.declared.totals.Totals.{Totals}
 
 -- mirrors, request and reply are bytes, 16 a device; a listing is lent a slice of file numbers and a slice of sources
 pub data Call : Type 0 where
@@ -16,11 +17,12 @@ pub data Call : Type 0 where
   layoutReturn : (file client : ℕ) (request reply : List ℕ) → Call
   resilver offered : (numbers sources : List ℕ) → Call
 
--- a LAYOUTRETURN answers a status, or is handed on, with the reply buffer afterwards; a listing its status, its count and both slices afterwards
+-- a LAYOUTRETURN answers a status, or is handed on, with its report's totals by mirror (Ticket 3) and the reply buffer afterwards; a listing its status, its
+-- count and both slices afterwards
 pub data Answer : Type 0 where
   said : (status : ℕ) → Answer
-  replied : (status : ℕ) (reply : List ℕ) → Answer
-  handedOn : (reply : List ℕ) → Answer
+  replied : (status : ℕ) (totals : Totals) (reply : List ℕ) → Answer
+  handedOn : (totals : Totals) (reply : List ℕ) → Answer
   listed : (status count : ℕ) (numbers sources : List ℕ) → Answer
 
 -- a listing fills the two slices that it is lent, a and b, or neither; later places stay

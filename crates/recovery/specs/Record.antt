@@ -9,7 +9,9 @@ use Rattle.wire.specs.Reply.{replyIn}
 use Rattle.places.specs.Lists.{chosen}
 use Rattle.places.specs.Places.{first, placeOr, leftOut}
 use Rattle.mirroring.specs.Mirrors.{enrolledOf}
-use Rattle.files.specs.File.{noFile, blankFile, fileOf, isFile, isVacant, openedFile, reclaimedFile, closedFile, repairedFile, forgettable, returnedFile, handedOnCode, restartedFile, endedFile, isListed, isReady, sourceOf}
+use Rattle.mirroring.specs.Totals.{noTotals}
+use Rattle.mirroring.specs.declared.totals.Totals.{Totals}
+use Rattle.files.specs.File.{noFile, blankFile, fileOf, isFile, isVacant, openedFile, reclaimedFile, closedFile, repairedFile, forgettable, returnedHeard, returnedFile, handedOnCode, restartedFile, endedFile, isListed, isReady, sourceOf}
 use Rattle.files.specs.Head.{freshHead}
 use Rattle.files.specs.declared.head.Edition.{Edition}
 use Rattle.files.specs.declared.head.Edition.the-variants.{Current}
@@ -120,11 +122,18 @@ returnedOf n c s r = onPlace n (returnedFile n (r .head) c s) r
 abbrev pub isHanded : Answered → Bool
 isHanded a = eqb (a .status) handedOnCode
 
-abbrev pub returning : Answered → Returned
-returning a = record { status = a .status; handed = isHanded a; after = a .after }
+-- the totals that go with the answer
+unfoldable pub returnedTotals : ℕ → ℕ → List ℕ → Record → Totals
+returnedTotals n c s r = returnedHeard n (r .head) c s (fileAt n r) .totals
+
+abbrev pub returning : Answered → Totals → Returned
+returning a ts = record { status = a .status; handed = isHanded a; totals = ts; after = a .after }
+
+abbrev pub returnedWith : ℕ → ℕ → List ℕ → Record → Returned
+returnedWith n c s r = returning (returnedOf n c s r) (returnedTotals n c s r)
 
 unfoldable pub layoutreturnOf : ℕ → ℕ → List ℕ → List ℕ → Record → Returned
-layoutreturnOf n c s d r = cond (ltb (length d) 24) (record { status = 28; handed = false; after = r }) (returning (returnedOf n c s r))
+layoutreturnOf n c s d r = cond (ltb (length d) 24) (record { status = 28; handed = false; totals = noTotals; after = r }) (returnedWith n c s r)
 
 -- the reply buffer afterwards
 abbrev pub writing : Answered → List ℕ → List ℕ

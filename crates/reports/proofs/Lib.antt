@@ -1,6 +1,11 @@
--- The error report. Readers: fields read one after another. Devices: device ids. Reports, ReportModel: the report. ReportExamples: computed examples.
+-- The body of a LAYOUTRETURN. Readers: fields read one after another. Bytes: equal bytes. Ends: the place past what is read. Devices: device ids.
+-- ReportModel, Reports: the error records. Opaques: an opaque field. StatisticsWalk: the statistics records. ReportExamples: computed examples.
 pub mod Readers
+pub mod Bytes
+pub mod Ends
 pub mod Devices
-pub mod Reports
 pub mod ReportModel
+pub mod Opaques
+pub mod StatisticsWalk
+pub mod Reports
 pub mod ReportExamples

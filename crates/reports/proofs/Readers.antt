@@ -1,7 +1,8 @@
--- Structures of fields of fixed size: a reader that begins with them tests once that all their bytes are there.
-use Prim.Native.Nat.{ℕ, _+_, _-_, _≤_, _<_}
+-- Structures of fields of fixed size: a reader that begins with them tests once that all their bytes are there. Then opaque fields of variable size, and
+-- rows of values.
+use Prim.Native.Nat.{ℕ, zero, suc, _+_, _-_, _*_, _≤_, _<_}
 use mathlib.Core.Path.{_≡_, refl, sym, ap, _∙_}
-use mathlib.Core.List.{List}
+use mathlib.Core.List.{List, [], _∷_}
 use mathlib.Core.Bool.{Bool, true, false, cond}
 use native.Mathlib.Omega.{arith}
 use borrow.Author.Tests.{lt-ltb, le-ltb, le-leb, lt-leb, eq-eqb, ne-eqb, ltb-true, ltb-false, eqb-true, eqb-false}
@@ -9,7 +10,7 @@ use lib.ListN.{length, take, drop, length-drop}
 use lib.Seq.{drop-drop}
 use lib.Dec.{ltb, leb, eqb}
 use Rattle.xdr.specs.Be.{beNat}
-use Rattle.reports.specs.Reader.{Read, Got, Bad, Reader, onward, _>>=_, give, only, number, opaque, boolean}
+use Rattle.reports.specs.Reader.{sameBytes, zeros, padding, Read, Got, Bad, Reader, onward, _>>=_, give, only, number, opaque, boolean, bounded, inTurn}
 
 -- ---- tests that say the same
 -- fewer bytes than v are left after w of them exactly where there are fewer than w + v
@@ -99,3 +100,47 @@ unfolding boolean
 boolean-first k q h =
     let g = then (number-first 4) (λ x. tested (leb x 1) x k (q x) (h x)) in
     record { reads = λ s. regrouped (number 4 s) (λ x. only (leb x 1) x) k ∙ g .reads s }
+
+-- ---- an opaque field of variable size: four bytes of length, and then its bytes and its padding
+-- a reader and what follows it, by the reader's test
+pub after-test : {A B : Type 0} (b : Bool) (a : A) (t : List ℕ) (k : A → Reader B) → onward (cond b Bad (Got a t)) k ≡ cond b Bad (k a t)
+after-test true a t k = refl
+after-test false a t k = refl
+
+pub after-only : {A B : Type 0} (b : Bool) (a : A) (t : List ℕ) (k : A → Reader B) → onward (cond b (Got a t) Bad) k ≡ cond b (k a t) Bad
+after-only true a t k = refl
+after-only false a t k = refl
+
+unfoldable pub boundedRest : ℕ → ℕ → Reader (List ℕ)
+boundedRest limit n = do
+  size ← only (leb n limit) n
+  bytes ← opaque size
+  pad ← opaque (padding size)
+  only (sameBytes pad (zeros (padding size))) bytes
+
+pub bounded-first : {B : Type 0} (limit : ℕ) (k : List ℕ → Reader B)
+    → Leads 4 (bounded limit >>= k) (λ s t. onward (boundedRest limit (beNat 4 s) t) k)
+unfolding bounded boundedRest
+bounded-first limit k =
+    let g = then (number-first 4) (λ n. no-bytes (boundedRest limit n >>= k)) in
+    record { reads = λ s. regrouped (number 4 s) (boundedRest limit) k ∙ g .reads s }
+
+pub rest-tests : (limit n : ℕ) (u : List ℕ) → boundedRest limit n u
+    ≡ cond (ltb limit n) Bad
+    (cond (ltb (length u) n) Bad
+    (cond (ltb (length (drop n u)) (padding n)) Bad
+    (cond (sameBytes (take (padding n) (drop n u)) (zeros (padding n))) (Got (take n u) (drop (padding n) (drop n u))) Bad)))
+unfolding boundedRest opaque
+rest-tests limit n u =
+    rw (after-only (leb n limit), at-most n limit, after-test (ltb (length u) n), after-test (ltb (length (drop n u)) (padding n)))
+
+-- ---- rows: places do not matter to a reader that is not told them
+pub any-place : {A : Type 0} (p : Reader A) (i j n : ℕ) (s : List ℕ) → inTurn i n (λ _. p) s ≡ inTurn j n (λ _. p) s
+unfolding inTurn
+any-place p i j zero s = refl
+any-place {A} p i j (suc n) s = by (p s) (any-place p (suc i) (suc j) n)
+  where
+    by : (r : Read A) → ((t : List ℕ) → inTurn (suc i) n (λ _. p) t ≡ inTurn (suc j) n (λ _. p) t)
+        → onward r (λ x. inTurn (suc i) n (λ _. p) >>= λ xs. give (x ∷ xs)) ≡ onward r (λ x. inTurn (suc j) n (λ _. p) >>= λ xs. give (x ∷ xs))
+    by Bad go = refl
+    by (Got x t) go = rw (go t)

@@ -1,18 +1,24 @@
--- The definition of a report and the model of the code are equal: `as-walked`. Device errors first, then error records, then the whole body.
-use Prim.Native.Nat.{ℕ, zero, suc, _+_, _-_, _≤_, _<_}
+-- The definition of a report and the model of the code's walk of its error records are equal: `as-walked`. Device errors first, then error records, then
+-- the whole body. Then the place past the error records, record by record.
+use Prim.Native.Nat.{ℕ, zero, suc, _+_, _-_, _*_, _≤_, _<_}
 use mathlib.Core.Path.{_≡_, refl, sym, ap, _∙_}
 use mathlib.Core.List.{List, [], _∷_, _++_}
 use mathlib.Core.Bool.{Bool, true, false, cond}
 use native.Mathlib.Omega.{arith}
-use borrow.Author.Tests.{ltb-false}
+use borrow.Author.Tests.{lt-ltb, le-ltb, ltb-false}
 use lib.ListN.{length, take, drop, length-drop}
 use lib.Seq.{drop-drop}
 use lib.Dec.{ltb, eqb}
 use Rattle.xdr.specs.Be.{beNat}
 use Rattle.reports.specs.Reader.{Read, Got, Bad, Reader, onward, _>>=_, give, number, inTurn, counted}
-use Rattle.reports.specs.Report.{Report, Whole, Malformed, Statistics, DeviceError, Contents, deviceError, ioerr, layoutreturn, joined, judged, reportOf}
+use Rattle.reports.specs.Report.{Report, Whole, Malformed, DeviceError, Contents, deviceError, ioerr, layoutreturn, joined, judged, reportOf, statusOf}
+use Rattle.reports.specs.Statistics.{Statistic, iostats}
+use Rattle.reports.specs.StatisticsSteps.{pastOf, statisticsOf, tailOf}
+use Rattle.reports.specs.declared.fields.Past.{Past}
+use Rattle.reports.specs.declared.fields.Past.the-variants as past
 use Rattle.reports.specs.ReportSteps.{naming, errorIn, statistics, devices, records}
-use Rattle.reports.proofs.Readers.{Leads, no-bytes, number-first, opaque-first, then, none-left}
+use Rattle.reports.proofs.Readers.{Leads, no-bytes, number-first, opaque-first, then}
+use Rattle.reports.proofs.Ends.{Ends, number-ends, opaque-ends, give-ends, then-ends, counted-ends, Reached}
 
 -- a device error is 24 bytes
 device-read : (i : ℕ) → Leads 24 (deviceError i) (λ s. give (errorIn i s))
@@ -33,13 +39,9 @@ all-malformed : (xs : List DeviceError) → nameAll xs Malformed ≡ Malformed
 all-malformed [] = refl
 all-malformed (x ∷ xs) = ap (naming x) (all-malformed xs)
 
-all-statistics : (xs : List DeviceError) → nameAll xs Statistics ≡ Statistics
-all-statistics [] = refl
-all-statistics (x ∷ xs) = ap (naming x) (all-statistics xs)
-
-all-whole : (xs : List DeviceError) → nameAll xs (Whole []) ≡ Whole xs
-all-whole [] = refl
-all-whole (x ∷ xs) = ap (naming x) (all-whole xs)
+all-whole : (xs : List DeviceError) (ys : List Statistic) → nameAll xs (Whole [] ys) ≡ Whole xs ys
+all-whole [] ys = refl
+all-whole (x ∷ xs) ys = ap (naming x) (all-whole xs ys)
 
 all-append : (xs ys : List DeviceError) (p : Report) → nameAll (xs ++ ys) p ≡ nameAll xs (nameAll ys p)
 all-append [] ys p = refl
@@ -106,36 +108,133 @@ records-read total (suc n) i s e =
     by-size false r e = e
 
 -- ---- the whole body
-with-count : List (List DeviceError) → Reader Contents
-with-count rs = number 4 >>= λ n. give (record { records = rs; statistics = n })
+with-statistics : List (List DeviceError) → Reader Contents
+with-statistics rs = counted (λ _. iostats) >>= λ ys. give (record { records = rs; statistics = ys })
 
-last-read : (rs : List (List DeviceError)) (t : List ℕ) → judged (with-count rs t) ≡ nameAll (joined rs) (statistics t)
-unfolding with-count number statistics
-last-read rs t = by-size (ltb (length t) 4) refl
+last-read : (rs : List (List DeviceError)) (t : List ℕ) → judged (with-statistics rs t) ≡ nameAll (joined rs) (statistics t)
+unfolding with-statistics statistics
+last-read rs t = by-rest (counted (λ _. iostats) t)
   where
-    by-rest : (a b c : Bool) → b ≡ c
-        → cond a (cond b (Whole (joined rs)) Malformed) Statistics ≡ nameAll (joined rs) (cond a (cond c (Whole []) Malformed) Statistics)
-    by-rest false b c e = sym (all-statistics (joined rs))
-    by-rest true true c e = rw (← e) (sym (all-whole (joined rs)))
-    by-rest true false c e = rw (← e) (sym (all-malformed (joined rs)))
+    by-end : (ys : List Statistic) (b : Bool) → cond b (Whole (joined rs) ys) Malformed ≡ nameAll (joined rs) (cond b (Whole [] ys) Malformed)
+    by-end ys true = sym (all-whole (joined rs) ys)
+    by-end ys false = sym (all-malformed (joined rs))
 
-    by-size : (b : Bool) → ltb (length t) 4 ≡ b
-        → judged (onward (cond b Bad (Got (beNat 4 t) (drop 4 t))) (λ n. give (record { records = rs; statistics = n })))
-        ≡ nameAll (joined rs) (cond b Malformed (cond (eqb (beNat 4 t) 0) (cond (eqb (length t) 4) (Whole []) Malformed) Statistics))
-    by-size true e = sym (all-malformed (joined rs))
-    by-size false e = by-rest (eqb (beNat 4 t) 0) (eqb (length (drop 4 t)) 0) (eqb (length t) 4) (rw length-drop (none-left (length t) 4 (ltb-false (length t) 4 e)))
+    by-rest : (r : Read (List Statistic)) → judged (onward r (λ ys. give (record { records = rs; statistics = ys }))) ≡ nameAll (joined rs) (tailOf r)
+    by-rest Bad = sym (all-malformed (joined rs))
+    by-rest (Got ys u) = by-end ys (eqb (length u) 0)
 
-all-read : (r : Read (List (List DeviceError))) → judged (onward r with-count) ≡ ended r
+all-read : (r : Read (List (List DeviceError))) → judged (onward r with-statistics) ≡ ended r
 all-read Bad = refl
 all-read (Got rs t) = last-read rs t
 
--- a report is its error records and its statistics count, as the code walks them
+-- a report is its error records as the code walks them, and then its statistics records
 pub as-walked : (s : List ℕ) → reportOf s ≡ cond (ltb (length s) 4) Malformed (records (beNat 4 s) (beNat 4 s) (drop 4 s))
-unfolding reportOf layoutreturn number with-count
+unfolding reportOf layoutreturn number with-statistics
 as-walked s =
     by-size (ltb (length s) 4) (all-read (inTurn 0 (beNat 4 s) ioerr (drop 4 s)) ∙ sym (records-read (beNat 4 s) (beNat 4 s) 0 (drop 4 s) (omega arith)))
   where
-    by-size : (b : Bool) {p : Report} → judged (onward (inTurn 0 (beNat 4 s) ioerr (drop 4 s)) with-count) ≡ p
-        → judged (onward (onward (cond b Bad (Got (beNat 4 s) (drop 4 s))) (λ n. inTurn 0 n ioerr)) with-count) ≡ cond b Malformed p
+    by-size : (b : Bool) {p : Report} → judged (onward (inTurn 0 (beNat 4 s) ioerr (drop 4 s)) with-statistics) ≡ p
+        → judged (onward (onward (cond b Bad (Got (beNat 4 s) (drop 4 s))) (λ n. inTurn 0 n ioerr)) with-statistics) ≡ cond b Malformed p
     by-size true e = refl
     by-size false e = e
+
+-- ---- by what the error records leave
+pub no-errors-read : (s : List ℕ) → counted ioerr s ≡ Bad → reportOf s ≡ Malformed
+unfolding reportOf layoutreturn
+no-errors-read s e = rw e
+
+statistics-read : (rs : List (List DeviceError)) (t : List ℕ) → statisticsOf (judged (with-statistics rs t)) ≡ tailOf (counted (λ _. iostats) t)
+unfolding with-statistics
+statistics-read rs t = by-rest (counted (λ _. iostats) t)
+  where
+    by-end : (ys : List Statistic) (b : Bool) → statisticsOf (cond b (Whole (joined rs) ys) Malformed) ≡ cond b (Whole [] ys) Malformed
+    by-end ys true = refl
+    by-end ys false = refl
+
+    by-rest : (r : Read (List Statistic)) → statisticsOf (judged (onward r (λ ys. give (record { records = rs; statistics = ys })))) ≡ tailOf r
+    by-rest Bad = refl
+    by-rest (Got ys u) = by-end ys (eqb (length u) 0)
+
+-- the statistics of a report are those of what its error records leave
+pub rest-is : (s : List ℕ) {rs : List (List DeviceError)} {t : List ℕ} → counted ioerr s ≡ Got rs t → statisticsOf (reportOf s) ≡ tailOf (counted (λ _. iostats) t)
+unfolding reportOf layoutreturn with-statistics
+rest-is s {rs} {t} e = rw e (statistics-read rs t)
+
+-- ---- the place past the error records
+error-ends : (i : ℕ) → Ends (deviceError i)
+unfolding deviceError
+error-ends i = then-ends (opaque-ends 16) (λ device. then-ends (number-ends 4) (λ status. then-ends (number-ends 4) (λ operation. give-ends _)))
+
+pub ioerr-ends : (i : ℕ) → Ends (ioerr i)
+unfolding ioerr
+ioerr-ends i =
+    then-ends (number-ends 8) (λ offset. then-ends (number-ends 8) (λ len. then-ends (opaque-ends 16) (λ stateid. counted-ends (λ _. deviceError i) (λ _. error-ends i))))
+
+-- d device errors take 24 bytes each
+device-row : (i j d : ℕ) (s : List ℕ) → 24 * d ≤ length s → Reached (inTurn j d (λ _. deviceError i) s) (drop (24 * d) s)
+unfolding inTurn
+device-row i j zero s h = record { value = []; is = refl }
+device-row i j (suc d) s h =
+    let n : 24 + 24 * d ≡ 24 * suc d = omega arith in
+    let r = device-row i (suc j) d (drop 24 s) (rw length-drop (omega arith)) in
+    record { value = errorIn i s ∷ r .value; is = rw (device-read i .reads s, le-ltb (length s) 24 (omega arith), r .is, drop-drop, n) }
+
+device-row-cut : (i j d : ℕ) (s : List ℕ) → length s < 24 * d → inTurn j d (λ _. deviceError i) s ≡ Bad
+unfolding inTurn
+device-row-cut i j zero s h = absurd (omega arith)
+device-row-cut i j (suc d) s h = rw (device-read i .reads s) (by-size (ltb (length s) 24) refl (λ g. device-row-cut i (suc j) d (drop 24 s) (rw length-drop (omega arith))))
+  where
+    more : DeviceError → Reader (List DeviceError)
+    more x = inTurn (suc j) d (λ _. deviceError i) >>= λ xs. give (x ∷ xs)
+
+    by-size : (b : Bool) → ltb (length s) 24 ≡ b → (24 ≤ length s → inTurn (suc j) d (λ _. deviceError i) (drop 24 s) ≡ Bad)
+        → onward (cond b Bad (Got (errorIn i s) (drop 24 s))) more ≡ Bad
+    by-size true e go = refl
+    by-size false e go = rw (go (ltb-false (length s) 24 e))
+
+past-kept : {A B : Type 0} (n : ℕ) (f : A → B) (r : Read A) → pastOf n (onward r (λ x. give (f x))) ≡ pastOf n r
+past-kept n f Bad = refl
+past-kept n f (Got x t) = refl
+
+-- with the invariant `pastOf n (inTurn i r ioerr (drop at s)) ≡ answer` a turn keeps the answer, and each way out gives it
+module _ (s : List ℕ) (at : ℕ) where
+  pub errors-done : (i : ℕ) {r : ℕ} {answer : Past} → pastOf (length s) (inTurn i r ioerr (drop at s)) ≡ answer → r ≡ 0 → at ≤ length s → past.At at ≡ answer
+  unfolding inTurn
+  errors-done i {r = zero} inv z h =
+      let q : length s - (length s - at) ≡ at = omega arith in
+      rw (length-drop, q) at inv
+  errors-done i {r = suc r} inv z h = absurd (omega arith)
+
+  pub errors-cut : (i : ℕ) {r : ℕ} {answer : Past} → pastOf (length s) (inTurn i r ioerr (drop at s)) ≡ answer → (r ≡ 0 → ⊥) → length s - at < 36 → past.Malformed ≡ answer
+  unfolding inTurn
+  errors-cut i {r = zero} inv z h = absurd (z refl)
+  errors-cut i {r = suc r} inv z h = rw (record-read i .reads (drop at s), lt-ltb (length (drop at s)) 36 (rw length-drop h)) at inv
+
+  module _ {n : ℕ} (e : n ≡ beNat 4 (drop (at + 32) s)) (h : 36 ≤ length s - at) where
+    record-at : (i : ℕ) → ioerr i (drop at s) ≡ inTurn 0 n (λ _. deviceError i) (drop (at + 36) s)
+    record-at i =
+        let k : at + 8 + 8 + 16 ≡ at + 32 = omega arith in
+        let c : drop 16 (drop 8 (drop 8 (drop at s))) ≡ drop (at + 32) s = simp (drop-drop, k) in
+        rw (record-read i .reads (drop at s), le-ltb (length (drop at s)) 36 (rw length-drop h), c, ← e, drop-drop)
+
+    pub errors-over : (i : ℕ) {r : ℕ} {answer : Past} → pastOf (length s) (inTurn i r ioerr (drop at s)) ≡ answer → (r ≡ 0 → ⊥) → length s - at - 36 < 24 * n → past.Malformed ≡ answer
+    unfolding inTurn
+    errors-over i {r = zero} inv z g = absurd (z refl)
+    errors-over i {r = suc r} inv z g = rw (record-at i, device-row-cut i 0 n (drop (at + 36) s) (rw length-drop (omega arith))) at inv
+
+    pub errors-on : (i : ℕ) {r : ℕ} {answer : Past} → pastOf (length s) (inTurn i r ioerr (drop at s)) ≡ answer → (r ≡ 0 → ⊥) → 24 * n ≤ length s - at - 36
+        → pastOf (length s) (inTurn (suc i) (r - 1) ioerr (drop (at + 36 + 24 * n) s)) ≡ answer
+    unfolding inTurn
+    errors-on i {r = zero} inv z g = absurd (z refl)
+    errors-on i {r = suc r} inv z g =
+        let p : suc r - 1 ≡ r = omega arith in
+        let d = device-row i 0 n (drop (at + 36) s) (rw length-drop (omega arith)) in
+        rw p (sym (past-kept (length s) (λ rs. d .value ∷ rs) (inTurn (suc i) r ioerr (drop (at + 36 + 24 * n) s))) ∙ rw (record-at i, d .is, drop-drop) at inv)
+
+pub errors-short : (s : List ℕ) → length s < 4 → past.Malformed ≡ pastOf (length s) (counted ioerr s)
+unfolding number
+errors-short s h = rw (lt-ltb (length s) 4 h)
+
+pub errors-begin : (s : List ℕ) → 4 ≤ length s → {n : ℕ} → n ≡ beNat 4 s → pastOf (length s) (inTurn 0 n ioerr (drop 4 s)) ≡ pastOf (length s) (counted ioerr s)
+unfolding number
+errors-begin s h e = rw (le-ltb (length s) 4 h, e)

@@ -1,7 +1,7 @@
--- The steps of a cursor visit the device errors of a report, in their order: from each cursor on, the report is what stands at the cursor
--- and then the report from the next cursor on. Each step goes forward, within the bytes.
+-- The steps of a cursor visit the device errors of a report, in their order, and come to its statistics records: from each cursor on, the report is what
+-- stands at the cursor and then the report from the next cursor on. Each step goes forward, within the bytes.
 -- In order: that law; what the code's tests say of a step; a caller's fold; the walk as a list; the first device error from a cursor on;
--- the status, record by record.
+-- the status.
 use Prim.Native.Nat.{ℕ, zero, suc, _+_, _-_, _*_, _≤_, _<_}
 use mathlib.Core.Path.{_≡_, refl, sym, ap, _∙_}
 use mathlib.Core.List.{List, [], _∷_}
@@ -14,39 +14,39 @@ use lib.Dec.{ltb, eqb}
 use borrow.Author.Tests.{lt-ltb, le-ltb, eq-eqb, ne-eqb, ltb-true, ltb-false, eqb-false}
 use Rattle.xdr.specs.Be.{beNat}
 use Rattle.reports.specs.Device.{halves}
-use Rattle.reports.specs.Report.{Report, DeviceError, reportOf, statusOf, over, outcome}
+use Rattle.reports.specs.Reader.{Read, Got, Bad, inTurn, counted, number}
+use Rattle.reports.specs.Statistics.{Statistic, iostats}
+use Rattle.reports.specs.StatisticsSteps.{pastOf, errorsOf, statisticsOf, tailOf, tailAt, statisticsFrom, tally}
+use Rattle.reports.specs.Report.{Report, DeviceError, ioerr, reportOf, statusOf, over, outcome}
 use Rattle.reports.specs.Report as report
-use Rattle.reports.specs.ReportSteps.{naming, errorIn, statistics, devices, records, startOf, stepAt, ending, lastStep, recordStep, placeOf, deviceStep, nextBy, nextPast, nextAt, errorAt, reportFrom, after, afterNext, endOf}
+use Rattle.reports.specs.ReportSteps.{naming, errorIn, statistics, devices, records, startOf, stepAt, recordStep, placeOf, deviceStep, nextBy, nextPast, nextAt, errorAt, reportFrom, errorsFrom, after, afterNext, endOf}
 use Rattle.reports.specs.declared.report.Cursor.{Cursor}
 use Rattle.reports.specs.declared.report.Entry.{Entry}
-use Rattle.reports.specs.declared.report.Entry.the-variants.{Device, Record, End, Statistics, Malformed}
+use Rattle.reports.specs.declared.report.Entry.the-variants.{Device, Record, Statistics, Malformed}
 use Rattle.reports.specs.declared.report.Found.{Found}
 use Rattle.reports.specs.declared.report.Found.the-variants.{Error, Done}
 use Rattle.reports.proofs.Devices.{halves-taken}
-use Rattle.reports.proofs.ReportModel.{as-walked}
+use Rattle.reports.proofs.ReportModel.{as-walked, rest-is, no-errors-read, ioerr-ends}
+use Rattle.reports.proofs.Ends.{reached, unread, counted-ends}
+use Rattle.reports.specs.declared.fields.Past.{Past}
+use Rattle.reports.specs.declared.fields.Past.the-variants as past
+use Rattle.reports.specs.declared.statistics.Tail.{Tail}
 use Rattle.reports.proofs.Readers.{by-test}
+use Rattle.reports.proofs.StatisticsWalk.{tail-begins, tally-rest}
 
 -- ---- the law of a walk
 after-cond : (s : List ℕ) (c : Cursor) (b : Bool) (x y : Entry) → after s c (cond b x y) ≡ cond b (after s c x) (after s c y)
 after-cond s c true x y = refl
 after-cond s c false x y = refl
 
-at-last : (s : List ℕ) (c : Cursor) → statistics (drop (c .at) s) ≡ after s c (lastStep s (c .at))
-unfolding statistics after lastStep
-at-last s c = by-tests (ltb (length (drop (c .at) s)) 4) (eqb (beNat 4 (drop (c .at) s)) 0) (eqb (length (drop (c .at) s)) 4)
-  where
-    found : Bool → Bool → Bool → Report
-    found short none whole = cond short report.Malformed (cond none (cond whole (report.Whole []) report.Malformed) report.Statistics)
-
-    by-tests : (x y z : Bool) → found x y z ≡ after s c (ending (statusOf (found x y z)))
-    by-tests true y z = refl
-    by-tests false true true = refl
-    by-tests false true false = refl
-    by-tests false false z = refl
+-- the statistics records are those from the cursor on that stands after the last error record
+at-last : (s : List ℕ) (at : ℕ) → statistics (drop at s) ≡ statisticsFrom s (tailAt s at)
+unfolding statistics
+at-last s at = sym (tail-begins s at)
 
 at-record : (s : List ℕ) (c : Cursor) (r : ℕ) → records (beNat 4 s) r (drop (c .at) s) ≡ after s c (recordStep s (c .at) r)
 unfolding records after reportFrom recordStep
-at-record s c zero = at-last s c
+at-record s c zero = at-last s (c .at)
 at-record s c (suc r) =
     let n : eqb (suc r) 0 ≡ false = ne-eqb (suc r) 0 (λ h. omega arith) in
     let p : suc r - 1 ≡ r = omega arith in
@@ -67,11 +67,16 @@ pub unrolled : (s : List ℕ) (c : Cursor) → reportFrom s c ≡ after s c (ste
 unfolding reportFrom stepAt
 unrolled s c = at-device s c (c .devices)
 
+-- where the body is too short for its count, so are the statistics records that `start` goes to
+no-count : (s : List ℕ) → length s < 4 → statistics s ≡ report.Malformed
+unfolding statistics number
+no-count s h = rw (lt-ltb (length s) 4 h)
+
 starts : (s : List ℕ) (b : Bool) → ltb (length s) 4 ≡ b
     → reportFrom s (cond b (record { at = 0; records = 0; devices = 0 }) (record { at = 4; records = beNat 4 s; devices = 0 }))
     ≡ cond b report.Malformed (records (beNat 4 s) (beNat 4 s) (drop 4 s))
-unfolding reportFrom devices records statistics
-starts s true e = rw e
+unfolding reportFrom devices records
+starts s true e = no-count s (ltb-true (length s) 4 e)
 starts s false e = refl
 
 -- the walk begins with the whole report
@@ -81,41 +86,9 @@ begins s = starts s (ltb (length s) 4) refl ∙ sym (as-walked s)
 
 -- ---- what the code's tests say of a step
 module _ (s : List ℕ) (at : ℕ) where
-  pub last-short : length s - at < 4 → 10036 ≡ statusOf (statistics (drop at s))
-  unfolding statistics
-  last-short h = simp (lt-ltb (length (drop at s)) 4 (rw length-drop h))
-
-  module _ (h : 4 ≤ length s - at) {n : ℕ} (e : n ≡ beNat 4 (drop at s)) where
-    pub statistics-found : (n ≡ 0 → ⊥) → 10004 ≡ statusOf (statistics (drop at s))
-    unfolding statistics
-    statistics-found z = simp (← e, le-ltb (length (drop at s)) 4 (rw length-drop h), ne-eqb n 0 z)
-
-    pub end-found : n ≡ 0 → length s - at ≡ 4 → 0 ≡ statusOf (statistics (drop at s))
-    unfolding statistics
-    end-found z x = simp (← e, le-ltb (length (drop at s)) 4 (rw length-drop h), eq-eqb n 0 z, eq-eqb (length (drop at s)) 4 (rw length-drop x))
-
-    pub spare-bytes : n ≡ 0 → (length s - at ≡ 4 → ⊥) → 10036 ≡ statusOf (statistics (drop at s))
-    unfolding statistics
-    spare-bytes z x =
-        simp (← e, le-ltb (length (drop at s)) 4 (rw length-drop h), eq-eqb n 0 z, ne-eqb (length (drop at s)) 4 (λ y. x (rw length-drop at y)))
-
-  -- by the status of what is left
-  module _ {k : ℕ} (e : k ≡ statusOf (statistics (drop at s))) where
-    pub ends-well : k ≡ 0 → End ≡ lastStep s at
-    unfolding lastStep
-    ends-well z = simp (← e, eq-eqb k 0 z)
-
-    pub ends-counted : k ≡ 10004 → Statistics ≡ lastStep s at
-    unfolding lastStep
-    ends-counted z = simp (← e, ne-eqb k 0 (λ y. omega arith), eq-eqb k 10004 z)
-
-    pub ends-badly : (k ≡ 0 → ⊥) → (k ≡ 10004 → ⊥) → Malformed ≡ lastStep s at
-    unfolding lastStep
-    ends-badly y z = simp (← e, ne-eqb k 0 y, ne-eqb k 10004 z)
-
-  pub no-record : {r : ℕ} → r ≡ 0 → {x : Entry} → x ≡ lastStep s at → x ≡ recordStep s at r
+  pub no-record : {r : ℕ} → r ≡ 0 → {t : Tail} → t ≡ tailAt s at → Statistics t ≡ recordStep s at r
   unfolding recordStep
-  no-record {r} z x = simp (eq-eqb r 0 z, x)
+  no-record {r} z e = simp (eq-eqb r 0 z, e)
 
   module _ {r : ℕ} (z : r ≡ 0 → ⊥) where
     pub record-short : length s - at < 36 → Malformed ≡ recordStep s at r
@@ -157,24 +130,18 @@ pub record Given (x : DeviceError) (i h l st : ℕ) : Type 0 where
 abbrev Stepped : List ℕ → Cursor → Entry → Type 0
 Stepped s c (Device i h l st next) = Forward s c next × Given (errorAt s c) i h l st × (next .at ≡ c .at + 24)
 Stepped s c (Record next) = Forward s c next × (c .records ≡ suc (next .records))
-Stepped s c End = Unit
-Stepped s c Statistics = Unit
+Stepped s c (Statistics t) = Unit
 Stepped s c Malformed = Unit
-
-ends-stepped : (s : List ℕ) (c : Cursor) (k : ℕ) → Stepped s c (ending k)
-ends-stepped s c k =
-    by-test (Stepped s c) (eqb k 0) End (cond (eqb k 10004) Statistics Malformed) (λ _. tt)
-    (λ _. by-test (Stepped s c) (eqb k 10004) Statistics Malformed (λ _. tt) (λ _. tt))
 
 given-at : (s : List ℕ) (c : Cursor)
     → Given (errorAt s c) (placeOf s (c .records)) (beNat 8 (drop (c .at) s)) (beNat 8 (drop (c .at + 8) s)) (beNat 4 (drop (c .at + 16) s))
 given-at s c = record { place = refl; device = simp (halves-taken, drop-drop); status = simp drop-drop }
 
 stepped : (s : List ℕ) (c : Cursor) → Stepped s c (stepAt s c)
-unfolding stepAt recordStep lastStep
+unfolding stepAt recordStep
 stepped s c =
     by-test (Stepped s c) (eqb (c .devices) 0) _ _
-    (λ _. by-test (Stepped s c) (eqb (c .records) 0) _ _ (λ _. ends-stepped s c (statusOf (statistics (drop (c .at) s))))
+    (λ _. by-test (Stepped s c) (eqb (c .records) 0) _ _ (λ _. tt)
     (λ z. by-test (Stepped s c) (ltb (length s - c .at) 36) _ _ (λ _. tt)
     (λ h. (record { further = omega arith; within = omega (arith, ltb-false (length s - c .at) 36 h) }, one-less z))))
     (λ _. by-test (Stepped s c) (ltb (length s - c .at) 24) _ _ (λ _. tt)
@@ -201,97 +168,131 @@ module _ (s : List ℕ) (c : Cursor) {next : Cursor} where
   record-next : stepAt s c ≡ Record next → c .records ≡ suc (next .records)
   record-next e = (rw e at (stepped s c)) .1
 
--- ---- what a caller folds over the device errors: the laws of one turn, for any state `A` and any `f`. With the invariant
--- `outcome f bad more a (reportFrom s c) ≡ answer` a turn keeps the answer, and each way out gives it. `device-given` says which
--- place, halves and status the device error `errorAt s c` has.
-one-named : {A : Type 0} (f : A → DeviceError → A) (bad more a : A) (x : DeviceError) (p : Report)
-    → outcome f bad more a (naming x p) ≡ outcome f bad more (f a x) p
+-- ---- what a caller folds over the device errors and then over the statistics records: the laws of one turn, for any state `A` and any `f` and `g`. With
+-- the invariant `outcome f g bad a (reportFrom s c) ≡ answer` a turn keeps the answer, and each way out gives it; past the error records the laws of
+-- StatisticsWalk.antt go on. `device-given` says which place, halves and status the device error `errorAt s c` has.
+one-named : {A : Type 0} (f : A → DeviceError → A) (g : A → Statistic → A) (bad a : A) (x : DeviceError) (p : Report)
+    → outcome f g bad a (naming x p) ≡ outcome f g bad (f a x) p
 unfolding outcome over
-one-named f bad more a x (report.Whole xs) = refl
-one-named f bad more a x report.Malformed = refl
-one-named f bad more a x report.Statistics = refl
+one-named f g bad a x (report.Whole xs ys) = refl
+one-named f g bad a x report.Malformed = refl
 
 turn : (s : List ℕ) (c : Cursor) {e : Entry} → stepAt s c ≡ e → reportFrom s c ≡ after s c e
 turn s c h = unrolled s c ∙ ap (after s c) h
 
-module _ {A : Type 0} (f : A → DeviceError → A) (bad more a : A) (s : List ℕ) (c : Cursor) {answer : A} (inv : outcome f bad more a (reportFrom s c) ≡ answer) where
-  pub fold-device : {i h l st : ℕ} {next : Cursor} → stepAt s c ≡ Device i h l st next → outcome f bad more (f a (errorAt s c)) (reportFrom s next) ≡ answer
+module _ {A : Type 0} (f : A → DeviceError → A) (g : A → Statistic → A) (bad a : A) (s : List ℕ) (c : Cursor) {answer : A} (inv : outcome f g bad a (reportFrom s c) ≡ answer) where
+  pub fold-device : {i h l st : ℕ} {next : Cursor} → stepAt s c ≡ Device i h l st next → outcome f g bad (f a (errorAt s c)) (reportFrom s next) ≡ answer
   unfolding after
-  fold-device {next = next} e = sym (one-named f bad more a (errorAt s c) (reportFrom s next)) ∙ sym (ap (outcome f bad more a) (turn s c e)) ∙ inv
+  fold-device {next = next} e = sym (one-named f g bad a (errorAt s c) (reportFrom s next)) ∙ sym (ap (outcome f g bad a) (turn s c e)) ∙ inv
 
-  pub fold-record : {next : Cursor} → stepAt s c ≡ Record next → outcome f bad more a (reportFrom s next) ≡ answer
+  pub fold-record : {next : Cursor} → stepAt s c ≡ Record next → outcome f g bad a (reportFrom s next) ≡ answer
   unfolding after
-  fold-record e = sym (ap (outcome f bad more a) (turn s c e)) ∙ inv
+  fold-record e = sym (ap (outcome f g bad a) (turn s c e)) ∙ inv
 
-  pub fold-end : stepAt s c ≡ End → a ≡ answer
-  unfolding after outcome over
-  fold-end e = sym (ap (outcome f bad more a) (turn s c e)) ∙ inv
-
-  pub fold-statistics : stepAt s c ≡ Statistics → more ≡ answer
-  unfolding after outcome
-  fold-statistics e = sym (ap (outcome f bad more a) (turn s c e)) ∙ inv
+  pub fold-statistics : {t : Tail} → stepAt s c ≡ Statistics t → tally g bad a (statisticsFrom s t) ≡ answer
+  unfolding after
+  fold-statistics {t} e = sym (tally-rest f g bad a s t) ∙ sym (ap (outcome f g bad a) (turn s c e)) ∙ inv
 
   pub fold-malformed : stepAt s c ≡ Malformed → bad ≡ answer
   unfolding after outcome
-  fold-malformed e = sym (ap (outcome f bad more a) (turn s c e)) ∙ inv
+  fold-malformed e = sym (ap (outcome f g bad a) (turn s c e)) ∙ inv
 
--- a walk begins
-pub fold-begins : {A : Type 0} (f : A → DeviceError → A) (bad more a : A) (s : List ℕ) {c : Cursor} → c ≡ startOf s
-    → outcome f bad more a (reportFrom s c) ≡ outcome f bad more a (reportOf s)
-fold-begins f bad more a s e = ap (λ (x : Cursor). outcome f bad more a (reportFrom s x)) e ∙ ap (outcome f bad more a) (begins s)
+pub fold-begins : {A : Type 0} (f : A → DeviceError → A) (g : A → Statistic → A) (bad a : A) (s : List ℕ) {c : Cursor} → c ≡ startOf s
+    → outcome f g bad a (reportFrom s c) ≡ outcome f g bad a (reportOf s)
+fold-begins f g bad a s e = ap (λ (x : Cursor). outcome f g bad a (reportFrom s x)) e ∙ ap (outcome f g bad a) (begins s)
 
 -- ---- the walk as a list: the device errors that the steps from a cursor on give, where they end well, are those of the report
 pub data Walk (s : List ℕ) : Cursor → List DeviceError → Type 0 where
-  ends : {c : Cursor} → stepAt s c ≡ End → Walk s c []
+  ends : {c : Cursor} {t : Tail} → stepAt s c ≡ Statistics t → statusOf (statisticsFrom s t) ≡ 0 → Walk s c []
   gives : {c next : Cursor} {i h l st : ℕ} {xs : List DeviceError} → stepAt s c ≡ Device i h l st next → Walk s next xs → Walk s c (errorAt s c ∷ xs)
   enters : {c next : Cursor} {xs : List DeviceError} → stepAt s c ≡ Record next → Walk s next xs → Walk s c xs
 
-visits : (s : List ℕ) {c : Cursor} {xs : List DeviceError} → Walk s c xs → reportFrom s c ≡ report.Whole xs
-unfolding after
-visits s {c} (ends e) = turn s c e
-visits s {c} (gives e w) = turn s c e ∙ ap (naming (errorAt s c)) (visits s w)
-visits s {c} (enters e w) = turn s c e ∙ visits s w
+-- the statistics records name no device errors: those alone are none, if the records are well formed
+no-errors : (s : List ℕ) (t : Tail) → errorsOf (statisticsFrom s t) ≡ endOf (statusOf (statisticsFrom s t))
+unfolding statisticsFrom
+no-errors s t = by-read (inTurn 0 (t .left) (λ _. iostats) (drop (t .at) s))
+  where
+    by-end : (ys : List Statistic) (b : Bool)
+        → errorsOf (cond b (report.Whole [] ys) report.Malformed) ≡ endOf (statusOf (cond b (report.Whole [] ys) report.Malformed))
+    by-end ys true = refl
+    by-end ys false = refl
 
-pub visits-all : (s : List ℕ) {xs : List DeviceError} → Walk s (startOf s) xs → reportOf s ≡ report.Whole xs
-visits-all s w = sym (begins s) ∙ visits s w
+    by-read : (r : Read (List Statistic)) → errorsOf (tailOf r) ≡ endOf (statusOf (tailOf r))
+    by-read Bad = refl
+    by-read (Got ys u) = by-end ys (eqb (length u) 0)
+
+errors-named : (x : DeviceError) (p : Report) → errorsOf (naming x p) ≡ naming x (errorsOf p)
+errors-named x (report.Whole xs ys) = refl
+errors-named x report.Malformed = refl
+
+-- a turn, by the device errors alone
+module _ (s : List ℕ) (c : Cursor) where
+  errors-turn : {e : Entry} → stepAt s c ≡ e → errorsFrom s c ≡ errorsOf (after s c e)
+  errors-turn e = ap errorsOf (turn s c e)
+
+  device-turn : {i h l st : ℕ} {next : Cursor} → stepAt s c ≡ Device i h l st next → errorsFrom s c ≡ naming (errorAt s c) (errorsFrom s next)
+  unfolding after
+  device-turn {next = next} e = errors-turn e ∙ errors-named (errorAt s c) (reportFrom s next)
+
+  record-turn : {next : Cursor} → stepAt s c ≡ Record next → errorsFrom s c ≡ errorsFrom s next
+  unfolding after
+  record-turn e = errors-turn e
+
+  last-turn : {t : Tail} → stepAt s c ≡ Statistics t → errorsFrom s c ≡ endOf (statusOf (statisticsFrom s t))
+  unfolding after
+  last-turn {t} e = errors-turn e ∙ no-errors s t
+
+  bad-turn : stepAt s c ≡ Malformed → errorsFrom s c ≡ report.Malformed
+  unfolding after
+  bad-turn e = errors-turn e
+
+visits : (s : List ℕ) {c : Cursor} {xs : List DeviceError} → Walk s c xs → errorsFrom s c ≡ report.Whole xs []
+visits s {c} (ends e z) = last-turn s c e ∙ rw z
+visits s {c} (gives e w) = device-turn s c e ∙ ap (naming (errorAt s c)) (visits s w)
+visits s {c} (enters e w) = record-turn s c e ∙ visits s w
+
+pub visits-all : (s : List ℕ) {xs : List DeviceError} → Walk s (startOf s) xs → errorsOf (reportOf s) ≡ report.Whole xs []
+visits-all s w = sym (ap errorsOf (begins s)) ∙ visits s w
 
 -- and a report that is whole is walked to its end
-same-rest : (x : DeviceError) (p : Report) (xs : List DeviceError) (P : List DeviceError → Type 0) → naming x p ≡ report.Whole xs
-    → ((ys : List DeviceError) → p ≡ report.Whole ys → P (x ∷ ys)) → P xs
-same-rest x (report.Whole ys) xs P e k =
+same-rest : (x : DeviceError) (p : Report) (xs : List DeviceError) (P : List DeviceError → Type 0) → naming x p ≡ report.Whole xs []
+    → ((ys : List DeviceError) → p ≡ report.Whole ys [] → P (x ∷ ys)) → P xs
+same-rest x (report.Whole ys zs) xs P e k =
     let q : x ∷ ys ≡ xs = cc in
-    rw q at (k ys refl)
+    let z : zs ≡ [] = cc in
+    rw q at (k ys (ap (report.Whole ys) z))
 same-rest x report.Malformed xs P e k = let z : _≡_ {A = ℕ} 0 1 = cc in absurd (omega arith)
-same-rest x report.Statistics xs P e k = let z : _≡_ {A = ℕ} 0 1 = cc in absurd (omega arith)
 
-step-on : (n : ℕ) (s : List ℕ) (c : Cursor) (xs : List DeviceError) → length s - c .at < suc n → reportFrom s c ≡ report.Whole xs
-    → ((next : Cursor) (ys : List DeviceError) → length s - next .at < n → reportFrom s next ≡ report.Whole ys → Walk s next ys)
+ends-at : (s : List ℕ) (c : Cursor) (xs : List DeviceError) (t : Tail) → stepAt s c ≡ Statistics t → (p : Report) → statisticsFrom s t ≡ p → endOf (statusOf p) ≡ report.Whole xs [] → Walk s c xs
+ends-at s c xs t q (report.Whole us ys) h e =
+    let z : [] ≡ xs = cc in
+    rw z at (ends {c = c} q (ap statusOf h))
+ends-at s c xs t q report.Malformed h e = let z : _≡_ {A = ℕ} 0 1 = cc in absurd (omega arith)
+
+step-on : (n : ℕ) (s : List ℕ) (c : Cursor) (xs : List DeviceError) → length s - c .at < suc n → errorsFrom s c ≡ report.Whole xs []
+    → ((next : Cursor) (ys : List DeviceError) → length s - next .at < n → errorsFrom s next ≡ report.Whole ys [] → Walk s next ys)
     → (t : Entry) → stepAt s c ≡ t → Walk s c xs
-unfolding after
 step-on n s c xs h e go (Device i hi lo st next) q =
     let f = device-forward s c q in
-    same-rest (errorAt s c) (reportFrom s next) xs (Walk s c) (sym (turn s c q) ∙ e) (λ ys r. gives q (go next ys (omega arith) r))
+    same-rest (errorAt s c) (errorsFrom s next) xs (Walk s c) (sym (device-turn s c q) ∙ e) (λ ys r. gives q (go next ys (omega arith) r))
 step-on n s c xs h e go (Record next) q =
     let f = record-forward s c q in
-    enters q (go next xs (omega arith) (sym (turn s c q) ∙ e))
-step-on n s c xs h e go End q =
-    let z : [] ≡ xs = cc (turn s c q) in
-    rw z at (ends {c = c} q)
-step-on n s c xs h e go Statistics q = let z : _≡_ {A = ℕ} 0 1 = cc (turn s c q) in absurd (omega arith)
-step-on n s c xs h e go Malformed q = let z : _≡_ {A = ℕ} 0 1 = cc (turn s c q) in absurd (omega arith)
+    enters q (go next xs (omega arith) (sym (record-turn s c q) ∙ e))
+step-on n s c xs h e go (Statistics t) q = ends-at s c xs t q (statisticsFrom s t) refl (sym (last-turn s c q) ∙ e)
+step-on n s c xs h e go Malformed q = let z : _≡_ {A = ℕ} 0 1 = cc (bad-turn s c q) in absurd (omega arith)
 
-walked : (n : ℕ) (s : List ℕ) (c : Cursor) (xs : List DeviceError) → length s - c .at < n → reportFrom s c ≡ report.Whole xs → Walk s c xs
+walked : (n : ℕ) (s : List ℕ) (c : Cursor) (xs : List DeviceError) → length s - c .at < n → errorsFrom s c ≡ report.Whole xs [] → Walk s c xs
 walked zero s c xs h e = absurd (omega arith)
 walked (suc n) s c xs h e = step-on n s c xs h e (λ next ys. walked n s next ys) (stepAt s c) refl
 
-pub all-visited : (s : List ℕ) {xs : List DeviceError} → reportOf s ≡ report.Whole xs → Walk s (startOf s) xs
-all-visited s {xs} e = walked (suc (length s - startOf s .at)) s (startOf s) xs (omega arith) (begins s ∙ e)
+pub all-visited : (s : List ℕ) {xs : List DeviceError} → errorsOf (reportOf s) ≡ report.Whole xs [] → Walk s (startOf s) xs
+all-visited s {xs} e = walked (suc (length s - startOf s .at)) s (startOf s) xs (omega arith) (ap errorsOf (begins s) ∙ e)
 
 -- ---- the first device error from a cursor on, past records that have none
-next-now : (n : ℕ) (s : List ℕ) (c : Cursor) (e : Entry) (f : Found) → stepAt s c ≡ e → ((k : Cursor → Found) → nextBy e k ≡ f) → nextPast n s c ≡ f
+next-now : (n : ℕ) (s : List ℕ) (c : Cursor) (e : Entry) (f : Found) → stepAt s c ≡ e → ((k : Cursor → Found) → nextBy s e k ≡ f) → nextPast n s c ≡ f
 unfolding nextPast
-next-now zero s c e f h g = ap (λ (x : Entry). nextBy x (λ _. Done 10036)) h ∙ g (λ _. Done 10036)
-next-now (suc n) s c e f h g = ap (λ (x : Entry). nextBy x (nextPast n s)) h ∙ g (nextPast n s)
+next-now zero s c e f h g = ap (λ (x : Entry). nextBy s x (λ _. Done 10036)) h ∙ g (λ _. Done 10036)
+next-now (suc n) s c e f h g = ap (λ (x : Entry). nextBy s x (nextPast n s)) h ∙ g (nextPast n s)
 
 module _ (s : List ℕ) (c : Cursor) where
   pub next-device : {i h l st : ℕ} {next : Cursor} → stepAt s c ≡ Device i h l st next → nextAt s c ≡ Error i h l st next
@@ -309,13 +310,9 @@ module _ (s : List ℕ) (c : Cursor) where
   unfolding nextAt
   next-record {next} e = one-past (c .records) (next .records) (record-next s c e) e
 
-  pub next-end : stepAt s c ≡ End → nextAt s c ≡ Done 0
+  pub next-last : {t : Tail} → stepAt s c ≡ Statistics t → nextAt s c ≡ Done (statusOf (statisticsFrom s t))
   unfolding nextAt
-  next-end e = next-now (c .records) s c End (Done 0) e (λ k. refl)
-
-  pub next-statistics : stepAt s c ≡ Statistics → nextAt s c ≡ Done 10004
-  unfolding nextAt
-  next-statistics e = next-now (c .records) s c Statistics (Done 10004) e (λ k. refl)
+  next-last {t} e = next-now (c .records) s c (Statistics t) (Done (statusOf (statisticsFrom s t))) e (λ k. refl)
 
   pub next-malformed : stepAt s c ≡ Malformed → nextAt s c ≡ Done 10036
   unfolding nextAt
@@ -338,17 +335,9 @@ stepped-by s c z e h = ap entryOf (sym h ∙ e) ∙ by-room (ltb (length s - c .
         rw (next-device s c (sym q)) q
 
 -- what the code's tests say of it
-over-by : (p : Report) (k : Cursor → Found) → nextBy (ending (statusOf p)) k ≡ Done (statusOf p)
-over-by (report.Whole xs) k = refl
-over-by report.Malformed k = refl
-over-by report.Statistics k = refl
-
 module _ (s : List ℕ) (c : Cursor) (z : c .devices ≡ 0) where
   pub next-over : c .records ≡ 0 → {k : ℕ} → k ≡ statusOf (statistics (drop (c .at) s)) → Done k ≡ nextAt s c
-  unfolding nextAt lastStep
-  next-over r e =
-      ap Done e
-      ∙ sym (next-now (c .records) s c (lastStep s (c .at)) (Done (statusOf (statistics (drop (c .at) s)))) (sym (no-device s c z (no-record s (c .at) r refl))) (over-by (statistics (drop (c .at) s))))
+  next-over r e = ap Done (e ∙ ap statusOf (at-last s (c .at))) ∙ sym (next-last s c (sym (no-device s c z (no-record s (c .at) r refl))))
 
   module _ (r : c .records ≡ 0 → ⊥) where
     pub next-cut : length s - c .at < 36 → Done 10036 ≡ nextAt s c
@@ -364,7 +353,7 @@ Comes s c (Error i h l st next) = Forward s c next × Given (errorIn i (drop (ne
 Comes s c (Done k) = k ≡ 1 → ⊥
 
 record Coming (s : List ℕ) (c : Cursor) (f : Found) : Type 0 where
-  walks : reportFrom s c ≡ afterNext s f
+  walks : errorsFrom s c ≡ afterNext s f
   comes : Comes s c f
 
 later : {s : List ℕ} {c next : Cursor} (f : Found) → Forward s c next → Comes s next f → Comes s c f
@@ -373,27 +362,30 @@ later (Error i h l st d) a b =
     (record { further = omega arith; within = f .within }, b .1)
 later (Done k) a b = b
 
+-- a status is not the 1 that C is answered with a device error
+no-one : (p : Report) → statusOf p ≡ 1 → ⊥
+no-one (report.Whole xs ys) z = omega arith
+no-one report.Malformed z = omega arith
+
 come-by : (n : ℕ) (s : List ℕ) (c : Cursor) → c .records < suc n → ((next : Cursor) → next .records < n → Coming s next (nextAt s next))
     → (t : Entry) → stepAt s c ≡ t → Coming s c (nextAt s c)
-unfolding after
 come-by n s c h go (Device i hi lo st next) e =
     let g = device-given s c e in
     let p : next .at - 24 ≡ c .at = omega (arith, device-next s c e) in
     rw (next-device s c e)
-    (record { walks = turn s c e ∙ rw (p, ← g .place); comes = (device-forward s c e, rw p (record { place = refl; device = g .device; status = g .status })) })
+    (record { walks = device-turn s c e ∙ rw (p, ← g .place); comes = (device-forward s c e, rw p (record { place = refl; device = g .device; status = g .status })) })
 come-by n s c h go (Record next) e =
     let r = go next (omega (arith, record-next s c e)) in
-    rw (next-record s c e) (record { walks = turn s c e ∙ r .walks; comes = later (nextAt s next) (record-forward s c e) (r .comes) })
-come-by n s c h go End e = rw (next-end s c e) (record { walks = turn s c e; comes = λ z. omega arith })
-come-by n s c h go Statistics e = rw (next-statistics s c e) (record { walks = turn s c e; comes = λ z. omega arith })
-come-by n s c h go Malformed e = rw (next-malformed s c e) (record { walks = turn s c e; comes = λ z. omega arith })
+    rw (next-record s c e) (record { walks = record-turn s c e ∙ r .walks; comes = later (nextAt s next) (record-forward s c e) (r .comes) })
+come-by n s c h go (Statistics t) e = rw (next-last s c e) (record { walks = last-turn s c e; comes = no-one (statisticsFrom s t) })
+come-by n s c h go Malformed e = rw (next-malformed s c e) (record { walks = bad-turn s c e; comes = λ z. omega arith })
 
 coming : (n : ℕ) (s : List ℕ) (c : Cursor) → c .records < n → Coming s c (nextAt s c)
 coming zero s c h = absurd (omega arith)
 coming (suc n) s c h = come-by n s c h (λ next. coming n s next) (stepAt s c) refl
 
 module _ (s : List ℕ) (c : Cursor) where
-  pub next-walks : reportFrom s c ≡ afterNext s (nextAt s c)
+  pub next-walks : errorsFrom s c ≡ afterNext s (nextAt s c)
   next-walks = coming (suc (c .records)) s c (omega arith) .walks
 
   pub next-forward : {i h l st : ℕ} {next : Cursor} → nextAt s c ≡ Error i h l st next → Forward s c next
@@ -405,60 +397,17 @@ module _ (s : List ℕ) (c : Cursor) where
   pub next-done : {k : ℕ} → nextAt s c ≡ Done k → k ≡ 1 → ⊥
   next-done e = rw e at (coming (suc (c .records)) s c (omega arith) .comes)
 
--- ---- the status, record by record: device errors are passed by their count
-named-status : (x : DeviceError) (p : Report) → statusOf (naming x p) ≡ statusOf p
-named-status x (report.Whole xs) = refl
-named-status x report.Malformed = refl
-named-status x report.Statistics = refl
+-- ---- the status of a report whose error records are read is that of what they leave
+statistics-status : (p : Report) → statusOf (statisticsOf p) ≡ statusOf p
+statistics-status (report.Whole xs ys) = refl
+statistics-status report.Malformed = refl
 
-devices-passed : (i d : ℕ) (rest : List ℕ → Report) (s : List ℕ) → 24 * d ≤ length s → statusOf (devices i d rest s) ≡ statusOf (rest (drop (24 * d) s))
-unfolding devices
-devices-passed i zero rest s h = refl
-devices-passed i (suc d) rest s h =
-    let n : 24 + 24 * d ≡ 24 * suc d = omega arith in
-    rw (le-ltb (length s) 24 (omega arith), named-status (errorIn i s) (devices i d rest (drop 24 s)), devices-passed i d rest (drop 24 s) (rw length-drop (omega arith)), drop-drop, n)
+module _ (s : List ℕ) {r : Past} (i : r ≡ pastOf (length s) (counted ioerr s)) where
+  pub status-past : {at : ℕ} → r ≡ past.At at → {k : ℕ} → k ≡ statusOf (statistics (drop at s)) → k ≡ statusOf (reportOf s)
+  unfolding statistics
+  status-past {at} h {k} e =
+      let g = reached s 0 (counted ioerr s) (counted-ends ioerr ioerr-ends .leaves s) (sym h ∙ i) in
+      e ∙ sym (ap statusOf (rest-is s (g .is))) ∙ statistics-status (reportOf s)
 
-devices-cut : (i d : ℕ) (rest : List ℕ → Report) (s : List ℕ) → length s < 24 * d → statusOf (devices i d rest s) ≡ 10036
-unfolding devices
-devices-cut i zero rest s h = absurd (omega arith)
-devices-cut i (suc d) rest s h = by-size (ltb (length s) 24) refl (λ g. devices-cut i d rest (drop 24 s) (rw length-drop (omega arith)))
-  where
-    by-size : (b : Bool) → ltb (length s) 24 ≡ b → (24 ≤ length s → statusOf (devices i d rest (drop 24 s)) ≡ 10036)
-        → statusOf (cond b report.Malformed (naming (errorIn i s) (devices i d rest (drop 24 s)))) ≡ 10036
-    by-size true e go = refl
-    by-size false e go = named-status (errorIn i s) (devices i d rest (drop 24 s)) ∙ go (ltb-false (length s) 24 e)
-
-pub status-short : (s : List ℕ) → length s < 4 → 10036 ≡ statusOf (reportOf s)
-status-short s h = rw (as-walked s, lt-ltb (length s) 4 h)
-
-pub status-begins : (s : List ℕ) → 4 ≤ length s → {n : ℕ} → n ≡ beNat 4 s → statusOf (records (beNat 4 s) n (drop 4 s)) ≡ statusOf (reportOf s)
-status-begins s h e = rw (as-walked s, le-ltb (length s) 4 h, e)
-
--- with the invariant `statusOf (records total r (drop at s)) ≡ answer` a turn keeps the answer, and each way out gives it
-pub status-last : (s : List ℕ) (total at r : ℕ) {answer : ℕ} → statusOf (records total r (drop at s)) ≡ answer → r ≡ 0 → {k : ℕ} → k ≡ statusOf (statistics (drop at s)) → k ≡ answer
-unfolding records
-status-last s total at zero inv z e = e ∙ inv
-status-last s total at (suc r) inv z e = absurd (omega arith)
-
-pub status-cut : (s : List ℕ) (total at r : ℕ) {answer : ℕ} → statusOf (records total r (drop at s)) ≡ answer → (r ≡ 0 → ⊥) → length s - at < 36 → 10036 ≡ answer
-unfolding records
-status-cut s total at zero inv z h = absurd (z refl)
-status-cut s total at (suc r) inv z h = rw (lt-ltb (length (drop at s)) 36 (rw length-drop h)) at inv
-
-module _ (s : List ℕ) (total at n : ℕ) (e : n ≡ beNat 4 (drop (at + 32) s)) (h : 36 ≤ length s - at) where
-  record-status : (r : ℕ) → statusOf (records total (suc r) (drop at s)) ≡ statusOf (devices (total - suc r) n (records total r) (drop (at + 36) s))
-  unfolding records
-  record-status r = rw (le-ltb (length (drop at s)) 36 (rw length-drop h), drop-drop 32 at s, ← e, drop-drop 36 at s)
-
-  pub status-over : (r : ℕ) {answer : ℕ} → statusOf (records total r (drop at s)) ≡ answer → (r ≡ 0 → ⊥) → length s - at - 36 < 24 * n → 10036 ≡ answer
-  status-over zero inv z g = absurd (z refl)
-  status-over (suc r) inv z g =
-      sym (devices-cut (total - suc r) n (records total r) (drop (at + 36) s) (rw length-drop (omega arith))) ∙ sym (record-status r) ∙ inv
-
-  pub status-on : (r : ℕ) {answer : ℕ} → statusOf (records total r (drop at s)) ≡ answer → (r ≡ 0 → ⊥) → 24 * n ≤ length s - at - 36
-      → statusOf (records total (r - 1) (drop (at + 36 + 24 * n) s)) ≡ answer
-  status-on zero inv z g = absurd (z refl)
-  status-on (suc r) inv z g =
-      let p : suc r - 1 ≡ r = omega arith in
-      rw (p, ← drop-drop (24 * n) (at + 36) s, ← devices-passed (total - suc r) n (records total r) (drop (at + 36) s) (rw length-drop (omega arith)))
-      (sym (record-status r) ∙ inv)
+  pub status-none : r ≡ past.Malformed → 10036 ≡ statusOf (reportOf s)
+  status-none h = sym (ap statusOf (no-errors-read s (unread (length s) (counted ioerr s) (sym h ∙ i))))

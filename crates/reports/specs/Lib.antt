@@ -1,5 +1,7 @@
--- The error report: Reader (fields read one after another), Device, Report; ReportSteps is a model of the code.
+-- The body of a LAYOUTRETURN: Reader (fields read one after another), Device, Statistics, Report; ReportSteps and StatisticsSteps are models of the code.
 pub mod Reader
 pub mod Device
+pub mod Statistics
 pub mod Report
+pub mod StatisticsSteps
 pub mod ReportSteps

@@ -8,6 +8,7 @@ use mathlib.Core.Bool.{cond}
 use lib.ListN.{length}
 use lib.Dec.{eqb}
 use Rattle.reports.specs.Reader.{Read, Got, Bad, Reader, _>>=_, give, number, opaque, counted}
+use Rattle.reports.specs.Statistics.{Statistic, iostats}
 
 -- a device error: the place of its error record in the report, the device's sixteen bytes, and the status
 pub record DeviceError : Type 0 where
@@ -31,23 +32,22 @@ ioerr i = do
   stateid ← opaque 16
   counted (λ _. deviceError i)
 
--- ff_layoutreturn4, up to the count of its statistics records
+-- ff_layoutreturn4: its error records, then its statistics records
 pub record Contents : Type 0 where
   pub records : List (List DeviceError)
-  pub statistics : ℕ
+  pub statistics : List Statistic
 
 unfoldable pub layoutreturn : Reader Contents
 layoutreturn = do
   records ← counted ioerr
-  statistics ← number 4
+  statistics ← counted (λ _. iostats)
   give (record { records = records; statistics = statistics })
 
 -- ---- step 5
--- well formed, with its device errors in their order; or malformed; or well formed up to a statistics count that isn't 0
+-- well formed, with its device errors and its statistics records in their order; or malformed
 pub data Report : Type 0 where
-  Whole : List DeviceError → Report
+  Whole : List DeviceError → List Statistic → Report
   Malformed : Report
-  Statistics : Report
 
 unfoldable pub joined : List (List DeviceError) → List DeviceError
 joined [] = []
@@ -55,23 +55,22 @@ joined (r ∷ rs) = r ++ joined rs
 
 abbrev pub judged : Read Contents → Report
 judged Bad = Malformed
-judged (Got r rest) = cond (eqb (r .statistics) 0) (cond (eqb (length rest) 0) (Whole (joined (r .records))) Malformed) Statistics
+judged (Got r rest) = cond (eqb (length rest) 0) (Whole (joined (r .records)) (r .statistics)) Malformed
 
 unfoldable pub reportOf : List ℕ → Report
 reportOf s = judged (layoutreturn s)
 
--- 0, 10036 BADXDR, 10004 NOTSUPP
+-- 0, 10036 BADXDR
 abbrev pub statusOf : Report → ℕ
-statusOf (Whole xs) = 0
+statusOf (Whole xs ys) = 0
 statusOf Malformed = 10036
-statusOf Statistics = 10004
 
--- ---- what a caller makes of a report: `f` over its device errors in their order, from `a` on; `bad` and `more` where it has none to give
-unfoldable pub over : {A : Type 0} → (A → DeviceError → A) → A → List DeviceError → A
+-- ---- what a caller makes of a report: `f` over its device errors and then `g` over its statistics records, in their order, from `a` on; `bad` where it is
+-- malformed
+unfoldable pub over : {A B : Type 0} → (A → B → A) → A → List B → A
 over f a [] = a
 over f a (x ∷ xs) = over f (f a x) xs
 
-unfoldable pub outcome : {A : Type 0} → (A → DeviceError → A) → A → A → A → Report → A
-outcome f bad more a (Whole xs) = over f a xs
-outcome f bad more a Malformed = bad
-outcome f bad more a Statistics = more
+unfoldable pub outcome : {A : Type 0} → (A → DeviceError → A) → (A → Statistic → A) → A → A → Report → A
+outcome f g bad a (Whole xs ys) = over g (over f a xs) ys
+outcome f g bad a Malformed = bad

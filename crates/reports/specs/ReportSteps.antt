@@ -3,35 +3,37 @@
 --     devices, records    the device errors and the error records still to come, and then the rest
 --     startOf, stepAt     what `start` and `step` answer
 --     nextAt              what `next` answers
---     reportFrom          the report from a cursor on; `after` and `afterNext` say the same by what stands there and by what comes next
+--     reportFrom          the report from a cursor on; `after` says the same by what stands there
+--     errorsFrom          its device errors alone; `afterNext` says the same by what comes next
 use Prim.Native.Nat.{ℕ, zero, suc, _+_, _-_}
 use mathlib.Core.List.{List, [], _∷_}
 use mathlib.Core.Bool.{cond}
 use lib.ListN.{length, take, drop}
 use lib.Dec.{ltb, eqb}
 use Rattle.xdr.specs.Be.{beNat}
+use Rattle.reports.specs.Reader.{counted}
+use Rattle.reports.specs.Statistics.{iostats}
+use Rattle.reports.specs.StatisticsSteps.{errorsOf, tailOf, tailAt, statisticsFrom}
 use Rattle.reports.specs.Report as report
 use Rattle.reports.specs.Report.{Report, DeviceError}
 use Rattle.reports.specs.declared.report.Cursor.{Cursor}
 use Rattle.reports.specs.declared.report.Entry.{Entry}
-use Rattle.reports.specs.declared.report.Entry.the-variants.{Device, Record, End, Statistics, Malformed}
+use Rattle.reports.specs.declared.report.Entry.the-variants.{Device, Record, Statistics, Malformed}
 use Rattle.reports.specs.declared.report.Found.{Found}
 use Rattle.reports.specs.declared.report.Found.the-variants.{Error, Done}
 
 -- ---- a report as it is walked
 abbrev pub naming : DeviceError → Report → Report
-naming x (report.Whole xs) = report.Whole (x ∷ xs)
+naming x (report.Whole xs ys) = report.Whole (x ∷ xs) ys
 naming x report.Malformed = report.Malformed
-naming x report.Statistics = report.Statistics
 
 -- the device error that the first 24 bytes hold, in the record at place i
 abbrev pub errorIn : ℕ → List ℕ → DeviceError
 errorIn i s = record { inRecord = i; device = take 16 s; status = beNat 4 (drop 16 s) }
 
--- the statistics count, and nothing after it
+-- the statistics records, with which the report ends
 unfoldable pub statistics : List ℕ → Report
-statistics s =
-    cond (ltb (length s) 4) report.Malformed (cond (eqb (beNat 4 s) 0) (cond (eqb (length s) 4) (report.Whole []) report.Malformed) report.Statistics)
+statistics s = tailOf (counted (λ _. iostats) s)
 
 -- n device errors of the record at place i, and then what `rest` makes of the bytes after them
 unfoldable pub devices : ℕ → ℕ → (List ℕ → Report) → List ℕ → Report
@@ -48,16 +50,9 @@ unfoldable pub startOf : List ℕ → Cursor
 startOf s =
     cond (ltb (length s) 4) (record { at = 0; records = 0; devices = 0 }) (record { at = 4; records = beNat 4 s; devices = 0 })
 
--- where no record is to come, by the status of what is left
-abbrev pub ending : ℕ → Entry
-ending k = cond (eqb k 0) End (cond (eqb k 10004) Statistics Malformed)
-
-unfoldable pub lastStep : List ℕ → ℕ → Entry
-lastStep s at = ending (report.statusOf (statistics (drop at s)))
-
 unfoldable pub recordStep : List ℕ → ℕ → ℕ → Entry
 recordStep s at r =
-    cond (eqb r 0) (lastStep s at)
+    cond (eqb r 0) (Statistics (tailAt s at))
     (cond (ltb (length s - at) 36) Malformed (Record (record { at = at + 36; records = r - 1; devices = beNat 4 (drop (at + 32) s) })))
 
 -- the place of the record at hand: all but those to come, less one
@@ -75,17 +70,16 @@ stepAt s c = deviceStep s (c .at) (c .records) (c .devices)
 
 -- ---- the first device error from a cursor on
 -- by what stands at a cursor; `k` goes on past a record's head
-abbrev pub nextBy : Entry → (Cursor → Found) → Found
-nextBy (Device i h l st next) k = Error i h l st next
-nextBy (Record next) k = k next
-nextBy End k = Done 0
-nextBy Statistics k = Done 10004
-nextBy Malformed k = Done 10036
+abbrev pub nextBy : List ℕ → Entry → (Cursor → Found) → Found
+nextBy s (Device i h l st next) k = Error i h l st next
+nextBy s (Record next) k = k next
+nextBy s (Statistics t) k = Done (report.statusOf (statisticsFrom s t))
+nextBy s Malformed k = Done 10036
 
 -- past at most n records' heads
 unfoldable pub nextPast : ℕ → List ℕ → Cursor → Found
-nextPast zero s c = nextBy (stepAt s c) (λ _. Done 10036)
-nextPast (suc n) s c = nextBy (stepAt s c) (nextPast n s)
+nextPast zero s c = nextBy s (stepAt s c) (λ _. Done 10036)
+nextPast (suc n) s c = nextBy s (stepAt s c) (nextPast n s)
 
 unfoldable pub nextAt : List ℕ → Cursor → Found
 nextAt s c = nextPast (c .records) s c
@@ -102,15 +96,18 @@ reportFrom s c = devices (placeOf s (c .records)) (c .devices) (records (beNat 4
 unfoldable pub after : List ℕ → Cursor → Entry → Report
 after s c (Device i h l st next) = naming (errorAt s c) (reportFrom s next)
 after s c (Record next) = reportFrom s next
-after s c End = report.Whole []
-after s c Statistics = report.Statistics
+after s c (Statistics t) = statisticsFrom s t
 after s c Malformed = report.Malformed
+
+-- its device errors alone
+abbrev pub errorsFrom : List ℕ → Cursor → Report
+errorsFrom s c = errorsOf (reportFrom s c)
 
 -- the report without device errors that has a status
 abbrev pub endOf : ℕ → Report
-endOf k = cond (eqb k 0) (report.Whole []) (cond (eqb k 10004) report.Statistics report.Malformed)
+endOf k = cond (eqb k 0) (report.Whole [] []) report.Malformed
 
 -- the same by what comes next: the device error stands in the 24 bytes before the next cursor
 abbrev pub afterNext : List ℕ → Found → Report
-afterNext s (Error i h l st next) = naming (errorIn i (drop (next .at - 24) s)) (reportFrom s next)
+afterNext s (Error i h l st next) = naming (errorIn i (drop (next .at - 24) s)) (errorsFrom s next)
 afterNext s (Done k) = endOf k

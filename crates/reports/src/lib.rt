@@ -1,4 +1,8 @@
-// The error report of a LAYOUTRETURN (RFC 8435), from bytes. Paper 01, "LAYOUTRETURN".
-//     report     step 5, and the report's device errors in order
+// The body of a LAYOUTRETURN (RFC 8435), from bytes. Paper 01, "LAYOUTRETURN"; Ticket 3.
+//     fields         an opaque field and its padding
+//     report         step 5, and the error records' device errors in order
+//     statistics     the statistics records in order
 // What C calls of it stands in crate `wire`.
+pub mod fields;
 pub mod report;
+pub mod statistics;

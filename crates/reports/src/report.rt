@@ -1,11 +1,18 @@
 // The error report of a LAYOUTRETURN, which is its body: ff_layoutreturn4 of RFC 8435 (paper 01, "LAYOUTRETURN", step 5).
-// In order: the cursor and what stands at one; `start`, `step` and `next`, by which a caller walks the device errors; `check`, the status of
-// step 5. What C calls of it stands in crate `wire`.
+// In order: the cursor and what stands at one; `start` and `step`, by which a caller walks the body up to its statistics records; `next`, for one that
+// wants the device errors alone; `statistics`, for one that wants the statistics records alone; `check`, the status of step 5. What C calls of it stands
+// in crate `wire`.
+use crate::fields::Past;
+use crate::fields::left;
+use crate::statistics;
+use crate::statistics::Tail;
 ghost use mathlib.Core.Path.{_≡_};
 ghost use Prim.Native.Nat.{_-_, _≤_};
-ghost use lib.ListN.{length, drop};
-ghost use Rattle.reports.specs.Report.{reportOf, statusOf};
-ghost use Rattle.reports.specs.ReportSteps.{statistics, startOf, lastStep, recordStep, stepAt, nextAt};
+ghost use lib.ListN.{length};
+ghost use Rattle.reports.specs.Reader.{counted};
+ghost use Rattle.reports.specs.Report.{ioerr, reportOf, statusOf};
+ghost use Rattle.reports.specs.ReportSteps.{startOf, recordStep, stepAt, nextAt};
+ghost use Rattle.reports.specs.StatisticsSteps.{pastOf, statisticsStart};
 
 // A place in a report: where the next byte is, the records still to come, and the device errors still to come of the record at hand.
 pub struct Cursor {
@@ -26,10 +33,8 @@ pub enum Entry {
     },
     // A record's head, whose device errors follow.
     Record(Cursor),
-    // The report is whole.
-    End,
-    // A count of statistics records that is not 0.
-    Statistics,
+    // No record is to come: the cursor at the first statistics record, which `statistics::next` goes on from.
+    Statistics(Tail),
     Malformed,
 }
 
@@ -45,13 +50,6 @@ pub enum Found {
     },
     // None: the status of step 5.
     Done(u32),
-}
-
-// The bytes from `at` on.
-fn left(s: &[u8], at: usize) -> usize
-    ensures { λ r. ⌜ r ≡ length (now (s .entry)) - at ⌝ }
-{
-    if at < s.len() { s.len() - at } else { 0 }
 }
 
 // The place of the record at hand, of `total` records, when `records` are still to come.
@@ -83,40 +81,12 @@ pub fn start(s: &[u8]) -> Cursor
     }
 }
 
-// The status of what is left after the last record: a count of statistics records that is 0, and nothing more.
-fn last_status(s: &[u8], at: usize) -> u32
-    ensures { λ r. ⌜ r ≡ statusOf (statistics (drop at (now (s .entry)))) ⌝ }
-{
-    let room = left(s, at);
-    if room < 4 {
-        return 10036;
-    }
-    if xdr::be32(s, at) != 0 {
-        return 10004;
-    }
-    if room == 4 {
-        return 0;
-    }
-    10036
-}
-
-// What stands where no record is to come.
-fn last_step(s: &[u8], at: usize) -> Entry
-    ensures { λ r. ⌜ r ≡ lastStep (now (s .entry)) at ⌝ }
-{
-    match last_status(s, at) {
-        0 => Entry::End,
-        10004 => Entry::Statistics,
-        _ => Entry::Malformed,
-    }
-}
-
 // What stands where no device error is to come.
 fn record_step(s: &[u8], at: usize, records: u32) -> Entry
     ensures { λ r. ⌜ r ≡ recordStep (now (s .entry)) at records ⌝ }
 {
     if records == 0 {
-        return last_step(s, at);
+        return Entry::Statistics(statistics::begin(s, at));
     }
     if left(s, at) < 36 {
         return Entry::Malformed;
@@ -186,7 +156,7 @@ pub fn next(s: &[u8], c: Cursor) -> Found
     let mut devices = c.devices;
     while devices == 0 {
         if records == 0 {
-            return Found::Done(last_status(s, at));
+            return Found::Done(statistics::check(s, at));
         }
         if left(s, at) < 36 {
             return Found::Done(10036);
@@ -198,26 +168,46 @@ pub fn next(s: &[u8], c: Cursor) -> Found
     device_at(s, at, records, devices)
 }
 
-// Step 5: 0, 10036 where the report is malformed, 10004 where statistics follow. One turn a record: its device errors are passed by their count.
-pub fn check(s: &[u8]) -> u32
-    ensures { λ r. ⌜ r ≡ statusOf (reportOf (now (s .entry))) ⌝ }
+// The place past the error records. One turn a record: its device errors are passed by their count.
+fn past_errors(s: &[u8]) -> Past
+    ensures { λ r. ⌜ r ≡ pastOf (length (now (s .entry))) (counted ioerr (now (s .entry))) ⌝ }
 {
     if s.len() < 4 {
-        return 10036;
+        return Past::Malformed;
     }
     let mut records = xdr::be32(s, 0);
     let mut at = 4;
     while records != 0 {
         let room = s.len() - at;
         if room < 36 {
-            return 10036;
+            return Past::Malformed;
         }
         let size = 24 * (xdr::be32(s, at + 32) as usize);
         if room - 36 < size {
-            return 10036;
+            return Past::Malformed;
         }
         at = at + 36 + size;
         records -= 1;
     }
-    last_status(s, at)
+    Past::At(at)
+}
+
+// The cursor at a body's first statistics record. A body whose error records are malformed gets one at which `statistics::next` finds it malformed.
+pub fn statistics(s: &[u8]) -> Tail
+    ensures { λ r. ⌜ r ≡ statisticsStart (now (s .entry)) ⌝ }
+{
+    match past_errors(s) {
+        Past::At(at) => statistics::begin(s, at),
+        Past::Malformed => statistics::none(s),
+    }
+}
+
+// Step 5: 0, or 10036 where the report is malformed.
+pub fn check(s: &[u8]) -> u32
+    ensures { λ r. ⌜ r ≡ statusOf (reportOf (now (s .entry))) ⌝ }
+{
+    match past_errors(s) {
+        Past::At(at) => statistics::check(s, at),
+        Past::Malformed => 10036,
+    }
 }

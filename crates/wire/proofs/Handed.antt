@@ -1,35 +1,42 @@
--- C's calls walk a report, by the laws of crate `reports` for the first device error from a cursor on.
-use Prim.Native.Nat.{ℕ, _≤_}
+-- C's calls walk a report, by the laws of crate `reports` for the first device error from a cursor on, and for the statistics record at one.
+use Prim.Native.Nat.{ℕ, _+_, _≤_}
 use mathlib.Core.Path.{_≡_, refl, sym, ap, _∙_}
 use mathlib.Core.List.{List}
 use native.Mathlib.Omega.{arith}
-use lib.ListN.{drop}
+use lib.ListN.{take, drop}
+use lib.Seq.{drop-drop}
 use lib.Dec.{eqb}
 use borrow.Author.Tests.{ne-eqb}
 use Rattle.reports.specs.Report.{reportOf}
-use Rattle.reports.specs.ReportSteps.{errorIn, nextAt, reportFrom}
+use Rattle.reports.specs.StatisticsSteps.{errorsOf, statisticsOf, counting, nextOf, statisticsFrom, afterNext}
+use Rattle.reports.specs.ReportSteps.{errorIn, nextAt, errorsFrom}
 use Rattle.reports.specs.declared.report.Cursor.{Cursor}
 use Rattle.reports.specs.declared.report.Found.{Found}
 use Rattle.reports.specs.declared.report.Found.the-variants.{Error, Done}
 use Rattle.reports.proofs.Reports.{begins, next-walks, next-forward, next-given, next-done}
-use Rattle.wire.specs.Handed.{Numbers, resumedAt, numbersOf, handed, afterHanded}
+use Rattle.reports.specs.declared.statistics.Tail.{Tail}
+use Rattle.reports.specs.declared.statistics.Item.{Item}
+use Rattle.reports.specs.declared.statistics.Item.the-variants as item
+use Rattle.reports.proofs.StatisticsWalk as statistics
+use Rattle.reports.proofs.StatisticsWalk.{unrolled, goes-forward, stated}
+use Rattle.wire.specs.Handed.{Numbers, resumedAt, numbersOf, handed, afterHanded, StatisticNumbers, resumedTail, statisticNumbers, handedStatistic, afterStatistic}
 
 -- what C is handed, from the cursor that its numbers are
 pub handed-is : (s : List ℕ) (at r d : ℕ) {c : Cursor} {f g : Found} → c ≡ resumedAt s at r d → f ≡ nextAt s c → f ≡ g → handed s at r d ≡ numbersOf at r d g
 unfolding handed
 handed-is s at r d e h k = ap (numbersOf at r d) (ap (nextAt s) (sym e) ∙ sym h ∙ k)
 
--- C's walk: it begins with the whole report, and each call hands over the device error that the report from C's cursor on begins with
-pub handed-begins : (s : List ℕ) (r d : ℕ) → reportFrom s (resumedAt s 0 r d) ≡ reportOf s
+-- C's walk: it begins with the whole report, but for its statistics records, and each call hands over the device error that the report from C's cursor on begins with
+pub handed-begins : (s : List ℕ) (r d : ℕ) → errorsFrom s (resumedAt s 0 r d) ≡ errorsOf (reportOf s)
 unfolding resumedAt
-handed-begins s r d = begins s
+handed-begins s r d = ap errorsOf (begins s)
 
 resumes : (s : List ℕ) (c : Cursor) → 24 ≤ c .at → resumedAt s (c .at) (c .records) (c .devices) ≡ c
 unfolding resumedAt
 resumes s c h = rw (ne-eqb (c .at) 0 (λ z. omega arith))
 
 pub record HandedOver (s : List ℕ) (c : Cursor) (n : Numbers) : Type 0 where
-  pub walks : reportFrom s c ≡ afterHanded s n (eqb (n .answer) 1)
+  pub walks : errorsFrom s c ≡ afterHanded s n (eqb (n .answer) 1)
   pub status : n .answer ≡ 1 → errorIn (n .place) (drop (n .device) s) .status ≡ n .status
 
 over-found : (s : List ℕ) (at r d : ℕ) (c : Cursor) (f : Found) → nextAt s c ≡ f → HandedOver s c (numbersOf at r d f)
@@ -43,3 +50,30 @@ over-found s at r d c (Done k) e =
 pub handed-over : (s : List ℕ) (at r d : ℕ) → HandedOver s (resumedAt s at r d) (handed s at r d)
 unfolding handed
 handed-over s at r d = over-found s at r d (resumedAt s at r d) (nextAt s (resumedAt s at r d)) refl
+
+-- ---- statistics records
+pub statistic-is : (s : List ℕ) (at n : ℕ) {c : Tail} {x y : Item} → c ≡ resumedTail s at n → x ≡ nextOf s c → x ≡ y → handedStatistic s at n ≡ statisticNumbers at n c y
+unfolding handedStatistic
+statistic-is s at n {c} e h k = ap (λ (d : Tail). statisticNumbers at n d (nextOf s d)) (sym e) ∙ ap (statisticNumbers at n c) (sym h ∙ k)
+
+-- C's walk: it begins with all statistics records of the report, and each call hands over the one that those from C's cursor on begin with
+pub statistics-begin : (s : List ℕ) (n : ℕ) → statisticsFrom s (resumedTail s 0 n) ≡ statisticsOf (reportOf s)
+unfolding resumedTail
+statistics-begin s n = statistics.begins s
+
+tail-resumes : (s : List ℕ) (c : Tail) → 80 ≤ c .at → resumedTail s (c .at) (c .left) ≡ c
+unfolding resumedTail
+tail-resumes s c h = rw (ne-eqb (c .at) 0 (λ z. omega arith))
+
+statistic-found : (s : List ℕ) (at n : ℕ) (c : Tail) (x : Item) → nextOf s c ≡ x
+    → statisticsFrom s c ≡ afterStatistic s (statisticNumbers at n c x) (eqb (statisticNumbers at n c x .answer) 1)
+statistic-found s at n c (item.Given h l r w next) e =
+    let f = goes-forward s c e in
+    let t = stated s c e in
+    unrolled s c ∙ rw (e, tail-resumes s next (omega arith), drop-drop 64 (c .at) s, t .read, t .written)
+statistic-found s at n c item.End e = unrolled s c ∙ rw e
+statistic-found s at n c item.Malformed e = unrolled s c ∙ rw e
+
+pub statistic-over : (s : List ℕ) (at n : ℕ) → statisticsFrom s (resumedTail s at n) ≡ afterStatistic s (handedStatistic s at n) (eqb (handedStatistic s at n .answer) 1)
+unfolding handedStatistic
+statistic-over s at n = statistic-found s at n (resumedTail s at n) (nextOf s (resumedTail s at n)) refl

@@ -16,7 +16,7 @@ use Rattle.wire.specs.declared.request.Form.{Form}
 use Rattle.wire.specs.declared.request.Form.the-variants as form
 use Rattle.wire.specs.declared.request.Request.{Request}
 use Rattle.wire.specs.declared.request.Request.the-variants.{Refused, Bulk, File}
-use Rattle.reports.proofs.Readers.{Leads, no-bytes, number-first, opaque-first, boolean-first, then, tested, regrouped, shifted, none-left, at-most, where-long, by-test}
+use Rattle.reports.proofs.Readers.{Leads, no-bytes, number-first, opaque-first, boolean-first, bounded-first, boundedRest, rest-tests, then, shifted, none-left, at-most, where-long, by-test}
 
 -- ---- what is read must be all of the bytes
 abbrev closed : {A : Type 0} → Read A → (A → Request) → Request
@@ -62,40 +62,15 @@ padded (suc p) (x ∷ v) b f = rw one-less (by-byte (eqb x 0) (ltb (length v) p)
     by-byte false false h = refl
 
 -- ---- a file's return: 36 bytes, the last four of which are the body's length, then the body and its padding
-rest : ℕ → Reader (List ℕ)
-rest n = do
-  size ← only (leb n 4096) n
-  bytes ← opaque size
-  pad ← opaque (padding size)
-  only (sameBytes pad (zeros (padding size))) bytes
-
-body-first : (stateid : List ℕ)
-    → Leads 4 (bounded 4096 >>= λ body. give (ofFile stateid body)) (λ s t. onward (rest (beNat 4 s) t) (λ body. give (ofFile stateid body)))
-unfolding bounded rest
-body-first stateid =
-    let g = then (number-first 4) (λ n. no-bytes (rest n >>= λ body. give (ofFile stateid body))) in
-    record { reads = λ s. regrouped (number 4 s) rest (λ body. give (ofFile stateid body)) ∙ g .reads s }
-
-file-read : Leads 36 fileReturn (λ s t. onward (rest (beNat 4 (drop 16 (drop 8 (drop 8 s)))) t) (λ body. give (ofFile (take 16 (drop 8 (drop 8 s))) body)))
+file-read : Leads 36 fileReturn (λ s t. onward (boundedRest 4096 (beNat 4 (drop 16 (drop 8 (drop 8 s)))) t) (λ body. give (ofFile (take 16 (drop 8 (drop 8 s))) body)))
 unfolding fileReturn
-file-read = then (number-first 8) (λ offset. then (number-first 8) (λ len. then (opaque-first 16) (λ stateid. body-first stateid)))
-
--- a reader and what follows it, by the reader's test
-after-test : {A B : Type 0} (b : Bool) (a : A) (t : List ℕ) (k : A → Reader B) → onward (cond b Bad (Got a t)) k ≡ cond b Bad (k a t)
-after-test true a t k = refl
-after-test false a t k = refl
-
-after-only : {A B : Type 0} (b : Bool) (a : A) (t : List ℕ) (k : A → Reader B) → onward (cond b (Got a t) Bad) k ≡ cond b (k a t) Bad
-after-only true a t k = refl
-after-only false a t k = refl
+file-read = then (number-first 8) (λ offset. then (number-first 8) (λ len. then (opaque-first 16) (λ stateid. bounded-first 4096 (λ body. give (ofFile stateid body)))))
 
 body-closed : (n : ℕ) (u : List ℕ) (f : List ℕ → Request)
-    → closed (rest n u) f
+    → closed (boundedRest 4096 n u) f
     ≡ cond (ltb 4096 n) (Refused 10036)
     (cond (ltb (length u) n) (Refused 10036) (cond (sameBytes (drop n u) (zeros (padding n))) (f (take n u)) (Refused 10036)))
-unfolding rest opaque
-body-closed n u f =
-    rw (after-only (leb n 4096), closed-if, at-most n 4096, after-test (ltb (length u) n), closed-if, after-test (ltb (length (drop n u)) (padding n)), padded)
+body-closed n u f = rw (rest-tests 4096 n u, closed-if, closed-if, padded)
 
 answer-if : (s : List ℕ) (b : Bool) (x y : Form) → answerIn s (cond b x y) ≡ cond b (answerIn s x) (answerIn s y)
 answer-if s true x y = refl
@@ -123,7 +98,7 @@ module _ (s : List ℕ) (h : 16 ≤ length s) where
       let d : drop 16 (drop 8 (drop 8 (drop 16 s))) ≡ drop 48 s = simp drop-drop in
       let t : drop 8 (drop 8 (drop 16 s)) ≡ drop 32 s = simp drop-drop in
       let b : drop 36 (drop 16 s) ≡ drop 52 s = drop-drop 36 16 s in
-      rw (file-read .reads (drop 16 s), closed-if, e, d, t, b, closed-with (rest size (drop 52 s)) (λ body. ofFile (take 16 (drop 32 s)) body), body-closed, drop-drop)
+      rw (file-read .reads (drop 16 s), closed-if, e, d, t, b, closed-with (boundedRest 4096 size (drop 52 s)) (λ body. ofFile (take 16 (drop 32 s)) body), body-closed, drop-drop)
 
   same-found : 52 + size ≤ length s → found ≡ answerIn s (form.File size)
   unfolding judgedAs anonymousIn
@@ -190,24 +165,23 @@ LiesIn s Bad = Unit
 LiesIn s (Got (ofFile stateid body) t) = take (length body) (drop 52 s) ≡ body
 LiesIn s (Got ofMany t) = Unit
 
-rest-lies : (s : List ℕ) (n : ℕ) → Lies s (rest n (drop 52 s))
-unfolding rest opaque
+rest-lies : (s : List ℕ) (n : ℕ) → Lies s (boundedRest 4096 n (drop 52 s))
 rest-lies s n =
     let u = drop 52 s in
     let p = padding n in
-    rw (after-only (leb n 4096), after-test (ltb (length u) n), after-test (ltb (length (drop n u)) p))
-    (by-test (Lies s) (leb n 4096) _ _
+    rw (rest-tests 4096 n u)
+    (by-test (Lies s) (ltb 4096 n) Bad _ (λ _. tt)
     (λ _. by-test (Lies s) (ltb (length u) n) Bad _ (λ _. tt)
     (λ h. by-test (Lies s) (ltb (length (drop n u)) p) Bad _ (λ _. tt)
     (λ _. by-test (Lies s) (sameBytes (take p (drop n u)) (zeros p)) (Got (take n u) (drop p (drop n u))) Bad
-    (λ _. rw (length-take-le n u (ltb-false (length u) n h))) (λ _. tt)))) (λ _. tt))
+    (λ _. rw (length-take-le n u (ltb-false (length u) n h))) (λ _. tt)))))
 
 file-lies : (s : List ℕ) → LiesIn s (fileReturn (drop 16 s))
 file-lies s =
     let b : drop 36 (drop 16 s) ≡ drop 52 s = drop-drop 36 16 s in
     rw (file-read .reads (drop 16 s), b)
     (by-test (LiesIn s) (ltb (length (drop 16 s)) 36) Bad _ (λ _. tt)
-    (λ _. named (take 16 (drop 8 (drop 8 (drop 16 s)))) (rest (beNat 4 (drop 16 (drop 8 (drop 8 (drop 16 s))))) (drop 52 s)) (rest-lies s (beNat 4 (drop 16 (drop 8 (drop 8 (drop 16 s))))))))
+    (λ _. named (take 16 (drop 8 (drop 8 (drop 16 s)))) (boundedRest 4096 (beNat 4 (drop 16 (drop 8 (drop 8 (drop 16 s))))) (drop 52 s)) (rest-lies s (beNat 4 (drop 16 (drop 8 (drop 8 (drop 16 s))))))))
   where
     named : (stateid : List ℕ) (r : Read (List ℕ)) → Lies s r → LiesIn s (onward r (λ body. give (ofFile stateid body)))
     named stateid Bad h = tt

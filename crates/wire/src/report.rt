@@ -1,10 +1,12 @@
-// For C: the check and the walk of an error report, from crate `reports`.
-// In this order: the check; the cursor of three numbers; the walk.
+// For C: the check of a LAYOUTRETURN's body and the walks of its device errors and of its statistics records, from crate `reports`.
+// In this order: the check; the cursor of three numbers and the walk of the device errors; the cursor of two and the walk of the statistics records.
 use reports::report::Cursor;
 use reports::report::Found;
+use reports::statistics::Item;
+use reports::statistics::Tail;
 ghost use mathlib.Core.Path.{_≡_};
 ghost use Rattle.reports.specs.Report.{reportOf, statusOf};
-ghost use Rattle.wire.specs.Handed.{resumedAt, handed};
+ghost use Rattle.wire.specs.Handed.{resumedAt, handed, resumedTail, handedStatistic};
 
 // Step 5, as `check` answers it.
 #[no_mangle]
@@ -63,6 +65,60 @@ pub extern "C" fn sc_report_next(
             *device = 0;
             *status = 0;
             k
+        }
+    }
+}
+
+// The cursor of two numbers, of which a zero place is the start.
+fn resumed_tail(s: &[u8], at: usize, left: u32) -> Tail
+    ensures { λ r. ⌜ r ≡ resumedTail (now (s .entry)) at left ⌝ }
+{
+    if at == 0 {
+        return reports::report::statistics(s);
+    }
+    Tail { at, left }
+}
+
+// `statistics::next`, with the cursor as two numbers that are 0 at first. Answers 1 with the next statistics record: the place of the device's sixteen
+// bytes in the body, its bytes read and its bytes written. Otherwise answers 0 at the end of a well formed body or 10036, and the cursor stays.
+#[no_mangle]
+pub extern "C" fn sc_statistics_next(
+    body: &[u8],
+    at: &mut u64,
+    left: &mut u32,
+    device: &mut u64,
+    read: &mut u64,
+    written: &mut u64,
+) -> u32
+    ensures { λ r. ⌜ handedStatistic (now (body .entry)) (now (at .entry)) (now (left .entry)) ≡ record { answer = r; at = now (at .exit); left = now (left .exit); device = now (device .exit); read = now (read .exit); written = now (written .exit) } ⌝ }
+{
+    let c = resumed_tail(body, *at as usize, *left);
+    match reports::statistics::next(body, c) {
+        Item::Given {
+            high: _,
+            low: _,
+            read: r,
+            written: w,
+            next,
+        } => {
+            *at = next.at as u64;
+            *left = next.left;
+            *device = (c.at + 64) as u64;
+            *read = r;
+            *written = w;
+            1
+        }
+        Item::End => {
+            *device = 0;
+            *read = 0;
+            *written = 0;
+            0
+        }
+        Item::Malformed => {
+            *device = 0;
+            *read = 0;
+            *written = 0;
+            10036
         }
     }
 }

@@ -1,10 +1,10 @@
 // The arguments of a LAYOUTRETURN: LAYOUTRETURN4args of RFC 8881 (paper 01, "LAYOUTRETURN", steps 1 to 3).
 // In order: what a request asks for; step 1; step 2; the test of the stateid; `read`, the answer of the three steps; the same for C.
+use reports::fields::pad;
+use reports::fields::same;
 ghost use mathlib.Core.Path.{_≡_};
-ghost use mathlib.Core.Bool.{false, cond};
 ghost use Prim.Native.Nat.{_≤_};
 ghost use lib.ListN.{length};
-ghost use Rattle.reports.specs.Reader.{sameBytes, padding};
 ghost use Rattle.wire.specs.Request.{refusalOf, unless, requestOf, numberOf, kindOf, bodyAt, bodyLength};
 ghost use Rattle.wire.specs.RequestSteps.{fileForm, formOf, anonymousIn, judgedIn};
 
@@ -25,36 +25,6 @@ enum Form {
     Bulk,
     // Return type 1, with the body's length.
     File(usize),
-}
-
-// Whether both hold.
-fn both(a: bool, b: bool) -> bool
-    ensures { λ r. ⌜ r ≡ cond a b false ⌝ }
-{
-    if a { b } else { false }
-}
-
-// Whether two parts hold the same bytes. It looks at all of them, which the compiler can do several at a time.
-fn same(a: &[u8], b: &[u8]) -> bool
-    ensures { λ r. ⌜ r ≡ sameBytes (now (a .entry)) (now (b .entry)) ⌝ }
-{
-    if a.len() != b.len() {
-        return false;
-    }
-    let mut so = true;
-    let mut i = 0;
-    while i < a.len() {
-        so = both(so, a[i] == b[i]);
-        i += 1;
-    }
-    so
-}
-
-// How many zero bytes follow a body of `n` bytes.
-fn pad(n: usize) -> usize
-    ensures { λ r. ⌜ r ≡ padding n ⌝ }
-{
-    (4 - n % 4) % 4
 }
 
 // Step 1 for return type 1: the body's length and limit, its bytes, its padding, and nothing more.

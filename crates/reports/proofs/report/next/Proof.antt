@@ -21,15 +21,15 @@ loop-holds : tie.Need-loop-holds Inv-loop μ-loop
 loop-holds c =
     refl
 
-last-status-requires : tie.Need-last-status-requires Inv-loop μ-loop
-last-status-requires c κs = search needs
+check-requires : tie.Need-check-requires Inv-loop μ-loop
+check-requires c κs = search needs
 
 returns : tie.Need-returns Inv-loop μ-loop
 returns c =
     let s = c .before .before .before .before .before .args .s .now in
     let l = c .before .before .before .loop in
     let k : Cursor = record { at = l .at; records = l .records; devices = l .devices } in
-    next-over s k (omega arith) (omega arith) (c .last-status .ensures) ∙ l .inv
+    next-over s k (omega arith) (omega arith) (c .check .ensures) ∙ l .inv
 
 left-requires : tie.Need-left-requires Inv-loop μ-loop
 left-requires c κs = search needs
@@ -77,7 +77,7 @@ next-spec =
     Inv-loop
     μ-loop
     loop-holds
-    last-status-requires
+    check-requires
     returns
     left-requires
     returns-2

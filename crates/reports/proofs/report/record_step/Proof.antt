@@ -5,13 +5,13 @@ use borrow.Author.Needs.{needs}
 use Rattle.reports.proofs.report.record_step.Statement.{statement}
 use Rattle.reports.proofs.report.record_step.Tie as tie
 
-last-step-requires : tie.Need-last-step-requires
-last-step-requires c κs = search needs
+begin-requires : tie.Need-begin-requires
+begin-requires c κs = search needs
 
 returns : tie.Need-returns
 returns c =
     let a = c .before .before .before .args in
-    no-record (a .s .now) (a .at) (omega arith) (c .last-step .ensures)
+    no-record (a .s .now) (a .at) (omega arith) (c .begin .ensures)
 
 left-requires : tie.Need-left-requires
 left-requires c κs = search needs
@@ -21,11 +21,11 @@ returns-2 c =
     let a = c .before .before .before .before .args in
     record-short (a .s .now) (a .at) (λ h. omega arith) (omega arith)
 
-add-t5 : tie.Need-add-t5
-add-t5 c = search needs
+add-t6 : tie.Need-add-t6
+add-t6 c = search needs
 
-sub-t6 : tie.Need-sub-t6
-sub-t6 c = search needs
+sub-t7 : tie.Need-sub-t7
+sub-t7 c = search needs
 
 add-be32 : tie.Need-add-be32
 add-be32 c = search needs
@@ -42,12 +42,12 @@ pub record-step-spec : {M : Type 1} → statement M
 record-step-spec =
     tie.close
     (tie.spec
-    last-step-requires
+    begin-requires
     returns
     left-requires
     returns-2
-    add-t5
-    sub-t6
+    add-t6
+    sub-t7
     add-be32
     be32-requires
     returns-3)

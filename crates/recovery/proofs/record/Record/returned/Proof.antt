@@ -1,8 +1,9 @@
--- By the place that `place` answers and the answer of the file there.
+-- By the place that `place` answers, what the file there hears, and the file that heeds it.
 use mathlib.Core.Path.{_∙_}
 use Prim.Native.Nat.{_-_}
+use Rattle.files.specs.File.{returnedFile}
+use Rattle.recovery.specs.Record.{returnedOf, returnedTotals}
 use borrow.Author.Needs.{needs}
-use Rattle.recovery.specs.Record.{returnedOf}
 use Rattle.recovery.proofs.record.Record.returned.Statement.{statement}
 use Rattle.recovery.proofs.record.Record.returned.Tie as tie
 
@@ -15,15 +16,19 @@ mul-f c = search needs
 element-copy-out-f : tie.Need-element-copy-out-f
 element-copy-out-f c = search needs
 
-layoutreturn-requires : tie.Need-layoutreturn-requires
-layoutreturn-requires c κs = search needs
+heard-requires : tie.Need-heard-requires
+heard-requires c κs = search needs
+
+heed-requires : tie.Need-heed-requires
+heed-requires c κs = search needs
 
 stored-requires : tie.Need-stored-requires
-stored-requires c κs = c .before .before .before .place .ensures .1
+stored-requires c κs = c .before .before .before .before .place .ensures .1
 
 returns : tie.Need-returns
-unfolding returnedOf
-returns c = c .stored .ensures ∙ rw (c .before .layoutreturn .ensures, c .before .before .before .before .place .ensures .0)
+unfolding returnedOf returnedFile returnedTotals
+returns c =
+    rw (c .before .before .before .stored .ensures, c .before .before .before .before .heed .ensures, c .before .before .before .before .before .heard .ensures, c .before .before .before .before .before .before .before .before .place .ensures .0)
 
 pub returned-spec : {M : Type 1} → statement M
 returned-spec =
@@ -32,6 +37,7 @@ returned-spec =
     place-requires
     mul-f
     element-copy-out-f
-    layoutreturn-requires
+    heard-requires
+    heed-requires
     stored-requires
     returns)

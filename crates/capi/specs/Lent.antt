@@ -1,0 +1,15 @@
+-- DEFINITION. What C is handed of totals (Ticket 3), in this order: a slice that it lends; the flags.
+use mathlib.Core.List.{List}
+use mathlib.Core.Bool.{Bool, false}
+use Prim.Native.Nat.{ℕ}
+use lib.ListN.{length, getD, replicate}
+use Rattle.places.specs.Lists.{fill}
+use Rattle.masks.specs.Mask.{setOf}
+
+-- each place of a lent slice d has its mirror's total; those after the mirrors' places have 0, however long the slice is
+unfoldable pub columnOf : List ℕ → List ℕ → List ℕ
+columnOf ns d = fill ns (replicate (length d) 0)
+
+-- the set of the places whose flag is up, as a mask: bit k is place k's
+unfoldable pub maskOf : List Bool → ℕ
+maskOf flags = setOf 32 (λ k. getD flags k false)

@@ -1,0 +1,60 @@
+// What C is handed of totals (Ticket 3): one column of them in a slice that it lends, and their flags in a mask.
+use mirroring::totals::PLACES;
+use mirroring::totals::Sums;
+ghost use mathlib.Core.Path.{_≡_};
+ghost use mathlib.Core.Bool.{cond};
+ghost use Prim.Native.Nat.{_<_};
+ghost use lib.ListN.{getD};
+ghost use Rattle.masks.specs.Mask.{plus};
+ghost use Rattle.capi.specs.Lent.{columnOf, maskOf};
+
+// The sum at a place, or 0 past the mirrors' places.
+fn sum(sums: [u64; PLACES], at: usize) -> u64
+    ensures { λ r. ⌜ r ≡ getD sums at 0 ⌝ }
+{
+    if at < PLACES { sums[at] } else { 0 }
+}
+
+// Each place of a lent slice gets its mirror's sum.
+fn column(sums: [u64; PLACES], lent: &mut [u64])
+    ensures { λ _. ⌜ now (lent .exit) ≡ columnOf sums (now (lent .entry)) ⌝ }
+{
+    let mut i: usize = 0;
+    while i < lent.len() {
+        let s = sum(sums, i);
+        lent[i] = s;
+        i = i + 1;
+    }
+}
+
+// A set with a place, if its flag is up.
+fn raised(mask: u32, place: u32, up: bool) -> u32
+    requires { ⌜ place < 32 ⌝ }
+    ensures { λ r. ⌜ r ≡ cond up (plus mask place) mask ⌝ }
+{
+    if up { masks::with(mask, place) } else { mask }
+}
+
+// The set of the places whose flag is up.
+fn mask(flags: [bool; PLACES]) -> u32
+    ensures { λ r. ⌜ r ≡ maskOf flags ⌝ }
+{
+    let mut m: u32 = 0;
+    let mut i: usize = 0;
+    while i < PLACES {
+        let up = flags[i];
+        m = raised(m, i as u32, up);
+        i = i + 1;
+    }
+    m
+}
+
+// Sums by place are written to a lent slice, and their flags answered.
+pub(crate) fn hand_out(sums: Sums, lent: &mut [u64]) -> u32
+    ensures { λ r. ⌜ (r ≡ maskOf (sums .over)) × (now (lent .exit) ≡ columnOf (sums .bytes) (now (lent .entry))) ⌝ }
+{
+    let bytes = sums.bytes;
+    let flags = sums.over;
+    column(bytes, lent);
+    mask(flags)
+}

@@ -1,0 +1,42 @@
+-- DEFINITION. Statistics change nothing but the totals (Ticket 3): they never mark, blame or reclaim, and the record is the same without them. Proved in
+-- proofs/OnlyTotals.antt. In this order: two requests that differ in their statistics; two answers that differ in their totals; the claim, of any record.
+use mathlib.Core.Path.{_≡_}
+use mathlib.Core.List.{List, []}
+use Prim.Native.Nat.{ℕ}
+use Rattle.reports.specs.Statistics.{Statistic}
+use Rattle.reports.specs.Report.{Whole, reportOf}
+use Rattle.reports.specs.StatisticsSteps.{errorsOf}
+use Rattle.wire.specs.Request.{requestOf, bodyOf}
+use Rattle.wire.specs.declared.request.Request.{Request}
+use Rattle.wire.specs.declared.request.Request.the-variants as request
+use Rattle.mirroring.specs.Totals.{noTotals}
+use Rattle.recovery.specs.Calls.{Call, layoutReturn, Answer, said, replied, handedOn, listed}
+use Rattle.recovery.specs.declared.record.Record.{Record}
+use Rattle.ledger.specs.History.{step}
+
+-- how a request is read, but for the length of its body
+abbrev pub kindOf : Request → Request
+kindOf (request.Refused k) = request.Refused k
+kindOf request.Bulk = request.Bulk
+kindOf (request.File anonymous len) = request.File anonymous 0
+
+-- they are read alike, and their bodies hold the same device errors in the same order, or are both malformed
+pub record SameButStatistics (s t : List ℕ) : Type 0 where
+  pub kind : kindOf (requestOf s) ≡ kindOf (requestOf t)
+  pub errors : errorsOf (reportOf (bodyOf s)) ≡ errorsOf (reportOf (bodyOf t))
+
+abbrev pub withoutTotals : Answer → Answer
+withoutTotals (said k) = said k
+withoutTotals (replied k ts d) = replied k noTotals d
+withoutTotals (handedOn ts d) = handedOn noTotals d
+withoutTotals (listed k n a b) = listed k n a b
+
+-- two calls leave the same record, and are answered alike but for the totals
+pub record Alike (r : Record) (x y : Call) : Type 0 where
+  pub after : step r x .after ≡ step r y .after
+  pub answer : withoutTotals (step r x .answer) ≡ withoutTotals (step r y .answer)
+
+-- whatever the statistics records say, and a report that has no others leaves the record as it was
+pub record OnlyTotals (r : Record) (n c : ℕ) (s d : List ℕ) : Type 0 where
+  pub alike : (t : List ℕ) → SameButStatistics s t → Alike r (layoutReturn n c s d) (layoutReturn n c t d)
+  pub silent : (ys : List Statistic) → reportOf (bodyOf s) ≡ Whole [] ys → step r (layoutReturn n c s d) .after ≡ r

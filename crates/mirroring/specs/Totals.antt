@@ -1,0 +1,46 @@
+-- DEFINITION. The totals of bytes read and written of one report, by mirror (Ticket 3), in this order: a sum as it is told; a device's sum; the totals of
+-- some devices.
+use mathlib.Core.List.{List, [], _∷_, map}
+use mathlib.Core.Bool.{Bool, cond}
+use Prim.Native.Nat.{ℕ, _+_}
+use lib.ListN.{replicate}
+use lib.Dec.{ltb}
+use Rattle.places.specs.Lists.{fill}
+use Rattle.reports.specs.Device.{Device, halves}
+use Rattle.reports.specs.Statistics.{Statistic}
+use Rattle.mirroring.specs.Devices.{sameDevice}
+use Rattle.mirroring.specs.declared.totals.Sums.{Sums}
+use Rattle.mirroring.specs.declared.totals.Totals.{Totals}
+
+-- 2^64 - 1
+abbrev pub most : ℕ
+most = 18446744073709551615
+
+-- a sum that would pass 2^64 - 1 stays at that number and is flagged, and no other is
+abbrev pub cut : ℕ → ℕ
+cut n = cond (ltb most n) most n
+
+abbrev pub passes : ℕ → Bool
+passes n = ltb most n
+
+abbrev pub cutSums : List ℕ → Sums
+cutSums ns = record { bytes = map cut ns; over = map passes ns }
+
+-- the sum of what `g` takes of each record of a device
+unfoldable pub sumOf : (Statistic → ℕ) → Device → List Statistic → ℕ
+sumOf g d [] = 0
+sumOf g d (y ∷ ys) = cond (sameDevice d (halves (y .device))) (g y) 0 + sumOf g d ys
+
+-- the totals of sums by place, of each record's own counts of bytes read and of bytes written
+abbrev pub totalsBy : ((Statistic → ℕ) → List ℕ) → Totals
+totalsBy sums = record { read = cutSums (sums (λ y. y .read)); written = cutSums (sums (λ y. y .written)) }
+
+abbrev pub noSums : List ℕ
+noSums = replicate 4 0
+
+abbrev pub noTotals : Totals
+noTotals = totalsBy (λ g. noSums)
+
+-- the totals of some devices, by place; later places have none, and a record for another device counts nowhere
+unfoldable pub totalsOf : List Statistic → List Device → Totals
+totalsOf ys ds = totalsBy (λ g. fill (map (λ d. sumOf g d ys) ds) noSums)

@@ -1,0 +1,395 @@
+-- The steps of a cursor visit the statistics records of a report, in their order: from each cursor on, the records are what stands at the cursor and
+-- then those from the next cursor on. Each step goes forward, within the bytes.
+-- In order: a record's parts; that law; where the walk begins; what the code's tests say of a step; a caller's fold; the walk as a list.
+use Prim.Native.Nat.{ℕ, zero, suc, _+_, _-_, _≤_, _<_}
+use mathlib.Core.Path.{_≡_, refl, sym, ap, _∙_}
+use mathlib.Core.List.{List, [], _∷_}
+use mathlib.Core.Bool.{Bool, true, false, cond}
+use native.Mathlib.Omega.{arith}
+use borrow.Author.Tests.{lt-ltb, le-ltb, eq-eqb, ne-eqb, le-leb, lt-leb, ltb-true, ltb-false, eqb-true, eqb-false}
+use lib.ListN.{length, take, drop, length-drop}
+use lib.Seq.{drop-drop, drop-length}
+use lib.Dec.{ltb, leb, eqb}
+use Rattle.xdr.specs.Be.{beNat}
+use Rattle.reports.specs.Device.{Device, halves}
+use Rattle.reports.specs.Reader.{Read, Got, Bad, Reader, onward, _>>=_, give, number, opaque, boolean, bounded, inTurn, counted}
+use Rattle.reports.specs.Statistics.{Statistic, ioInfo, nfstime, ioLatency, layoutupdate, iostats}
+use Rattle.reports.specs.Report.{Report, DeviceError, ioerr, reportOf, statusOf, over, outcome}
+use Rattle.reports.specs.Report as report
+use Rattle.reports.specs.ReportSteps as steps
+use Rattle.reports.specs.StatisticsSteps.{pastOf, statisticsOf, tailOf, counting, noTail, tailAt, tailPast, statisticsStart, givenBy, nextOf, statisticsFrom, statisticIn, statisticAt, afterNext, tally}
+use Rattle.reports.specs.declared.fields.Past.{Past}
+use Rattle.reports.specs.declared.fields.Past.the-variants as past
+use Rattle.reports.specs.declared.statistics.Tail.{Tail}
+use Rattle.reports.specs.declared.statistics.Item.{Item}
+use Rattle.reports.specs.declared.statistics.Item.the-variants.{Given, End, Malformed}
+use Rattle.reports.proofs.Devices.{halves-taken}
+use Rattle.reports.proofs.Readers.{Leads, no-bytes, number-first, opaque-first, boolean-first, then, by-test, any-place, none-left}
+use Rattle.reports.proofs.Ends.{EndOf, end-drop, end-of-end, end-shorter, Ends, Leaves, number-ends, give-ends, boolean-ends, bounded-ends, then-ends, counted-ends, reached, further, unread, goes-on, goes-nowhere}
+use Rattle.reports.proofs.ReportModel.{rest-is, no-errors-read, ioerr-ends}
+
+-- ---- structures of fixed size
+info-read : Leads 16 ioInfo (λ s. give (beNat 8 (drop 8 s)))
+unfolding ioInfo
+info-read = then (number-first 8) (λ count. then (number-first 8) (λ bytes. no-bytes _))
+
+time-read : Leads 12 nfstime (λ s. give tt)
+unfolding nfstime
+time-read = then (number-first 8) (λ seconds. then (number-first 4) (λ nseconds. no-bytes _))
+
+latency-read : Leads 64 ioLatency (λ s. give tt)
+unfolding ioLatency
+latency-read =
+    then (number-first 8)
+    (λ a. then (number-first 8) (λ b. then (number-first 8) (λ c. then (number-first 8) (λ d. then (number-first 8) (λ e. then time-read (λ f. then time-read (λ g. no-bytes _)))))))
+
+-- ---- the layout update: three opaque fields, then 144 bytes that end with a boolean
+latencies : Reader Unit
+latencies = ioLatency >>= λ _. ioLatency >>= λ _. nfstime >>= λ _. boolean >>= λ _. give tt
+
+latencies-read : Leads 144 latencies (λ s t. cond (leb (beNat 4 (drop 12 (drop 64 (drop 64 s)))) 1) (give tt t) Bad)
+unfolding latencies
+latencies-read = then latency-read (λ _. then latency-read (λ _. then time-read (λ _. boolean-first (λ _. give tt) (λ _ _. give tt) (λ _. no-bytes (give tt)))))
+
+two-more : Reader Unit
+two-more = bounded 128 >>= λ _. latencies
+
+one-more : Reader Unit
+one-more = bounded 128 >>= λ _. two-more
+
+update-is : layoutupdate ≡ (bounded 128 >>= λ _. one-more)
+unfolding layoutupdate one-more two-more latencies
+update-is = refl
+
+update-ends : Ends layoutupdate
+unfolding layoutupdate ioLatency nfstime
+update-ends =
+    let time : Ends nfstime = then-ends (number-ends 8) (λ _. then-ends (number-ends 4) (λ _. give-ends tt)) in
+    let latency : Ends ioLatency = then-ends (number-ends 8) (λ _. then-ends (number-ends 8) (λ _. then-ends (number-ends 8) (λ _. then-ends (number-ends 8) (λ _. then-ends (number-ends 8) (λ _. then-ends time (λ _. then-ends time (λ _. give-ends tt))))))) in
+    then-ends (bounded-ends 128)
+    (λ _. then-ends (bounded-ends 128)
+    (λ _. then-ends (bounded-ends 128) (λ _. then-ends latency (λ _. then-ends latency (λ _. then-ends time (λ _. then-ends boolean-ends (λ _. give-ends tt)))))))
+
+-- what the code's tests say of it: after each field the rest of the update is still to be read
+abbrev pub Update : List ℕ → ℕ → Past → Type 0
+Update s at x = x ≡ pastOf (length s) (layoutupdate (drop at s))
+
+module _ (s : List ℕ) (at : ℕ) {r : Past} (i : r ≡ pastOf (length s) (bounded 128 (drop at s))) where
+  pub netid-bad : r ≡ past.Malformed → Update s at past.Malformed
+  netid-bad h = rw update-is (goes-nowhere (bounded-ends 128) one-more s at i h)
+
+  module _ {a : ℕ} (g : r ≡ past.At a) {r' : Past} (i' : r' ≡ pastOf (length s) (bounded 128 (drop a s))) where
+    on-address : pastOf (length s) (one-more (drop a s)) ≡ pastOf (length s) (layoutupdate (drop at s))
+    on-address = rw update-is (goes-on (bounded-ends 128) one-more s at i g)
+
+    pub address-bad : r' ≡ past.Malformed → Update s at past.Malformed
+    unfolding one-more
+    address-bad h = goes-nowhere (bounded-ends 128) two-more s a i' h ∙ on-address
+
+    module _ {b : ℕ} (g' : r' ≡ past.At b) {r'' : Past} (i'' : r'' ≡ pastOf (length s) (bounded 128 (drop b s))) where
+      on-handle : pastOf (length s) (two-more (drop b s)) ≡ pastOf (length s) (layoutupdate (drop at s))
+      unfolding one-more
+      on-handle = goes-on (bounded-ends 128) two-more s a i' g' ∙ on-address
+
+      pub handle-bad : r'' ≡ past.Malformed → Update s at past.Malformed
+      unfolding two-more
+      handle-bad h = goes-nowhere (bounded-ends 128) latencies s b i'' h ∙ on-handle
+
+      module _ {c : ℕ} (g'' : r'' ≡ past.At c) where
+        on-latencies : pastOf (length s) (latencies (drop c s)) ≡ pastOf (length s) (layoutupdate (drop at s))
+        unfolding two-more
+        on-latencies = goes-on (bounded-ends 128) latencies s b i'' g'' ∙ on-handle
+
+        pub latencies-short : length s - c < 144 → Update s at past.Malformed
+        latencies-short h = rw (latencies-read .reads (drop c s), lt-ltb (length (drop c s)) 144 (rw length-drop h)) at on-latencies
+
+        module _ (h : 144 ≤ length s - c) {n : ℕ} (e : n ≡ beNat 4 (drop (c + 140) s)) where
+          latencies-at : latencies (drop c s) ≡ cond (leb n 1) (Got tt (drop (c + 144) s)) Bad
+          latencies-at =
+              let k : c + 64 + 64 + 12 ≡ c + 140 = omega arith in
+              let d : drop 12 (drop 64 (drop 64 (drop c s))) ≡ drop (c + 140) s = simp (drop-drop, k) in
+              rw (latencies-read .reads (drop c s), le-ltb (length (drop c s)) 144 (rw length-drop h), d, ← e, drop-drop)
+
+          pub no-boolean : 1 < n → Update s at past.Malformed
+          no-boolean l = rw (latencies-at, lt-leb n 1 l) at on-latencies
+
+          pub update-past : n ≤ 1 → Update s at (past.At (c + 144))
+          update-past l =
+              let z : length s - (length s - (c + 144)) ≡ c + 144 = omega arith in
+              rw (latencies-at, le-leb n 1 l, length-drop, z) at on-latencies
+
+-- ---- a record: 80 bytes, and its layout update
+iostats-first : Leads 80 iostats
+    (λ s t. onward (layoutupdate t)
+    (λ _. give (record { device = take 16 (drop 16 (drop 16 (drop 16 (drop 8 (drop 8 s))))); read = beNat 8 (drop 8 (drop 16 (drop 8 (drop 8 s)))); written = beNat 8 (drop 8 (drop 16 (drop 16 (drop 8 (drop 8 s))))) })))
+unfolding iostats
+iostats-first =
+    then (number-first 8)
+    (λ offset. then (number-first 8)
+    (λ len. then (opaque-first 16) (λ stateid. then info-read (λ read. then info-read (λ written. then (opaque-first 16) (λ device. no-bytes _))))))
+
+iostats-read : (s : List ℕ) → iostats s ≡ cond (ltb (length s) 80) Bad (onward (layoutupdate (drop 80 s)) (λ _. give (statisticIn s)))
+iostats-read s =
+    let a : drop 16 (drop 8 (drop 8 s)) ≡ drop 32 s = simp drop-drop in
+    let r : drop 8 (drop 32 s) ≡ drop 40 s = drop-drop 8 32 s in
+    let b : drop 16 (drop 32 s) ≡ drop 48 s = drop-drop 16 32 s in
+    let w : drop 8 (drop 48 s) ≡ drop 56 s = drop-drop 8 48 s in
+    let d : drop 16 (drop 48 s) ≡ drop 64 s = drop-drop 16 48 s in
+    iostats-first .reads s ∙ rw (a, r, b, w, d)
+
+-- what a record is read to: its fields in their places, and it takes at least 80 bytes
+abbrev Shown : List ℕ → Read Statistic → Type 0
+Shown u Bad = Unit
+Shown u (Got y t) = (y ≡ statisticIn u) × EndOf t u × (length t + 80 ≤ length u)
+
+shown : (u : List ℕ) → Shown u (iostats u)
+shown u =
+    rw (iostats-read u)
+    (by-test (Shown u) (ltb (length u) 80) Bad _ (λ _. tt) (λ h. by-update (layoutupdate (drop 80 u)) (update-ends .leaves (drop 80 u)) (ltb-false (length u) 80 h)))
+  where
+    by-update : (r : Read Unit) → Leaves (drop 80 u) r → 80 ≤ length u → Shown u (onward r (λ _. give (statisticIn u)))
+    by-update Bad l h = tt
+    by-update (Got x t) l h =
+        let k : length t ≤ length u - 80 = rw length-drop at (end-shorter l) in
+        (refl, end-of-end l (end-drop 80 u), omega arith)
+
+-- ---- the law of a walk
+after-if : (s : List ℕ) (c : Tail) (b : Bool) (x y : Item) → afterNext s c (cond b x y) ≡ cond b (afterNext s c x) (afterNext s c y)
+after-if s c true x y = refl
+after-if s c false x y = refl
+
+one-counted : (y : Statistic) (r : Read (List Statistic)) → tailOf (onward r (λ ys. give (y ∷ ys))) ≡ counting y (tailOf r)
+one-counted y Bad = refl
+one-counted y (Got ys t) = by-end (eqb (length t) 0)
+  where
+    by-end : (b : Bool) → cond b (report.Whole [] (y ∷ ys)) report.Malformed ≡ counting y (cond b (report.Whole [] ys) report.Malformed)
+    by-end true = refl
+    by-end false = refl
+
+at-record : (s : List ℕ) (c : Tail) (n : ℕ)
+    → tailOf (inTurn 0 n (λ _. iostats) (drop (c .at) s))
+    ≡ afterNext s c (cond (eqb n 0) (cond (eqb (length s - c .at) 0) End Malformed) (givenBy s n (iostats (drop (c .at) s))))
+unfolding inTurn statisticsFrom
+at-record s c zero = rw length-drop (sym (after-if s c (eqb (length s - c .at) 0) End Malformed))
+at-record s c (suc n) =
+    let z : eqb (suc n) 0 ≡ false = ne-eqb (suc n) 0 (λ h. omega arith) in
+    rw z (by-record (iostats (drop (c .at) s)) (shown (drop (c .at) s)))
+  where
+    by-record : (r : Read Statistic) → Shown (drop (c .at) s) r
+        → tailOf (onward r (λ y. inTurn 1 n (λ _. iostats) >>= λ ys. give (y ∷ ys))) ≡ afterNext s c (givenBy s (suc n) r)
+    by-record Bad h = refl
+    by-record (Got y t) h =
+        let p : suc n - 1 ≡ n = omega arith in
+        let q : drop (length s - length t) s ≡ t = end-of-end (h .1) (end-drop (c .at) s) .lies in
+        one-counted y (inTurn 1 n (λ _. iostats) t) ∙ rw (p, q, ← h .0, any-place iostats 1 0 n t)
+
+-- the records from a cursor on are what stands there and then the records from the next cursor on
+pub unrolled : (s : List ℕ) (c : Tail) → statisticsFrom s c ≡ afterNext s c (nextOf s c)
+unfolding statisticsFrom nextOf
+unrolled s c = at-record s c (c .left)
+
+-- ---- where the walk begins
+nothing-there : (s : List ℕ) → statisticsFrom s (noTail s) ≡ report.Malformed
+unfolding statisticsFrom inTurn
+nothing-there s = rw (drop-length, iostats-read)
+
+pub tail-begins : (s : List ℕ) (at : ℕ) → statisticsFrom s (tailAt s at) ≡ tailOf (counted (λ _. iostats) (drop at s))
+unfolding tailAt number statisticsFrom
+tail-begins s at = rw length-drop (by-size (ltb (length s - at) 4))
+  where
+    by-size : (b : Bool) → statisticsFrom s (cond b (noTail s) (record { at = at + 4; left = beNat 4 (drop at s) }))
+        ≡ tailOf (onward (cond b Bad (Got (beNat 4 (drop at s)) (drop 4 (drop at s)))) (λ n. inTurn 0 n (λ _. iostats)))
+    by-size true = nothing-there s
+    by-size false = rw drop-drop
+
+-- the walk of a body begins with all its statistics records
+pub begins : (s : List ℕ) → statisticsFrom s (statisticsStart s) ≡ statisticsOf (reportOf s)
+unfolding statisticsStart
+begins s = by-errors (counted ioerr s) refl (counted-ends ioerr ioerr-ends .leaves s)
+  where
+    by-errors : (r : Read (List (List DeviceError))) → counted ioerr s ≡ r → Leaves s r → statisticsFrom s (tailPast s (pastOf (length s) r)) ≡ statisticsOf (reportOf s)
+    by-errors Bad e l = nothing-there s ∙ sym (ap statisticsOf (no-errors-read s e))
+    by-errors (Got rs t) e l = tail-begins s (length s - length t) ∙ rw (l .lies) (sym (rest-is s e))
+
+-- by the place that the code finds past the error records
+module _ (s : List ℕ) {r : Past} (i : r ≡ pastOf (length s) (counted ioerr s)) where
+  pub starts-past : {at : ℕ} → r ≡ past.At at → {c : Tail} → c ≡ tailAt s at → c ≡ statisticsStart s
+  unfolding statisticsStart
+  starts-past h e = e ∙ ap (tailPast s) (sym h ∙ i)
+
+  pub starts-nowhere : r ≡ past.Malformed → {c : Tail} → c ≡ noTail s → c ≡ statisticsStart s
+  unfolding statisticsStart
+  starts-nowhere h e = e ∙ ap (tailPast s) (sym h ∙ i)
+
+-- ---- what the code's tests say of a step
+module _ (s : List ℕ) (c : Tail) where
+  module _ (z : c .left ≡ 0) where
+    pub at-end : length s - c .at ≡ 0 → End ≡ nextOf s c
+    unfolding nextOf
+    at-end h = simp (eq-eqb (c .left) 0 z, eq-eqb (length s - c .at) 0 h)
+
+    pub at-spare : (length s - c .at ≡ 0 → ⊥) → Malformed ≡ nextOf s c
+    unfolding nextOf
+    at-spare h = simp (eq-eqb (c .left) 0 z, ne-eqb (length s - c .at) 0 h)
+
+  module _ (z : c .left ≡ 0 → ⊥) where
+    pub at-cut : length s - c .at < 80 → Malformed ≡ nextOf s c
+    unfolding nextOf
+    at-cut h = rw (ne-eqb (c .left) 0 z, iostats-read, lt-ltb (length (drop (c .at) s)) 80 (rw length-drop h))
+
+    module _ (h : 80 ≤ length s - c .at) {r : Past} (i : r ≡ pastOf (length s) (layoutupdate (drop (c .at + 80) s))) where
+      record-at : nextOf s c ≡ givenBy s (c .left) (onward (layoutupdate (drop (c .at + 80) s)) (λ _. give (statisticAt s c)))
+      unfolding nextOf
+      record-at = rw (ne-eqb (c .left) 0 z, iostats-read, le-ltb (length (drop (c .at) s)) 80 (rw length-drop h), drop-drop 80 (c .at) s)
+
+      pub at-bad-update : r ≡ past.Malformed → Malformed ≡ nextOf s c
+      at-bad-update g = rw (record-at, unread (length s) (layoutupdate (drop (c .at + 80) s)) (sym g ∙ i))
+
+      pub at-given : {e : ℕ} → r ≡ past.At e → {hi lo rd wr : ℕ} → hi ≡ beNat 8 (drop (c .at + 64) s) → lo ≡ beNat 8 (drop (c .at + 72) s)
+          → rd ≡ beNat 8 (drop (c .at + 40) s) → wr ≡ beNat 8 (drop (c .at + 56) s)
+          → Given hi lo rd wr (record { at = e; left = c .left - 1 }) ≡ nextOf s c
+      at-given {e} g {hi} {lo} {rd} {wr} p q u w =
+          let t = layoutupdate (drop (c .at + 80) s) in
+          let l = update-ends .leaves (drop (c .at + 80) s) in
+          let f = further s (c .at + 80) t l (sym g ∙ i) (omega arith) in
+          let y : length s - (length s - e) ≡ e = omega (arith, f .1) in
+          let k : c .at + 64 + 8 ≡ c .at + 72 = omega arith in
+          let d : halves (take 16 (drop 64 (drop (c .at) s))) ≡ record { high = hi; low = lo } =
+          halves-taken (drop 64 (drop (c .at) s)) ∙ rw (drop-drop 64 (c .at) s, drop-drop 8 (c .at + 64) s, k, p, q)
+          in
+          let rd-is : beNat 8 (drop 40 (drop (c .at) s)) ≡ rd = rw (drop-drop 40 (c .at) s, u) in
+          let wr-is : beNat 8 (drop 56 (drop (c .at) s)) ≡ wr = rw (drop-drop 56 (c .at) s, w) in
+          rw (record-at, reached s (c .at + 80) t l (sym g ∙ i) .is, length-drop, y, ap (λ (x : Device). x .high) d, ap (λ (x : Device). x .low) d, rd-is, wr-is)
+
+-- ---- a step takes at least 80 bytes and stays within the bytes: a walk of s makes at most length s / 80 + 1 steps, whatever the count says
+pub record Forward (s : List ℕ) (c next : Tail) : Type 0 where
+  pub further : c .at + 80 ≤ next .at
+  pub within : next .at ≤ length s
+
+-- and what it gives of a record is what the definition says of it
+pub record Stated (y : Statistic) (h l r w : ℕ) : Type 0 where
+  pub device : halves (y .device) ≡ record { high = h; low = l }
+  pub read : y .read ≡ r
+  pub written : y .written ≡ w
+
+abbrev Stepped : List ℕ → Tail → Item → Type 0
+Stepped s c (Given h l r w next) = Forward s c next × Stated (statisticAt s c) h l r w
+Stepped s c End = Unit
+Stepped s c Malformed = Unit
+
+stepped-by : (s : List ℕ) (c : Tail) (r : Read Statistic) → Shown (drop (c .at) s) r → Stepped s c (givenBy s (c .left) r)
+stepped-by s c Bad h = tt
+stepped-by s c (Got y t) h =
+    let k : length t + 80 ≤ length s - c .at = rw length-drop at (h .2) in
+    (record { further = omega arith; within = omega arith }, rw (← h .0) (record { device = refl; read = refl; written = refl }))
+
+stepped : (s : List ℕ) (c : Tail) → Stepped s c (nextOf s c)
+unfolding nextOf
+stepped s c =
+    by-test (Stepped s c) (eqb (c .left) 0) _ _ (λ _. by-test (Stepped s c) (eqb (length s - c .at) 0) End Malformed (λ _. tt) (λ _. tt))
+    (λ _. stepped-by s c (iostats (drop (c .at) s)) (shown (drop (c .at) s)))
+
+module _ (s : List ℕ) (c : Tail) {h l r w : ℕ} {next : Tail} (e : nextOf s c ≡ Given h l r w next) where
+  pub goes-forward : Forward s c next
+  goes-forward = (rw e at (stepped s c)) .0
+
+  pub stated : Stated (statisticAt s c) h l r w
+  stated = (rw e at (stepped s c)) .1
+
+-- ---- what a caller folds over the records: with the invariant `tally f bad a (statisticsFrom s c) ≡ answer` a turn keeps the answer, and each way
+-- out gives it
+turn : (s : List ℕ) (c : Tail) {e : Item} → nextOf s c ≡ e → statisticsFrom s c ≡ afterNext s c e
+turn s c h = unrolled s c ∙ ap (afterNext s c) h
+
+one-tallied : {A : Type 0} (f : A → Statistic → A) (bad a : A) (y : Statistic) (p : Report) → tally f bad a (counting y p) ≡ tally f bad (f a y) p
+unfolding tally over
+one-tallied f bad a y (report.Whole xs ys) = refl
+one-tallied f bad a y report.Malformed = refl
+
+module _ {A : Type 0} (f : A → Statistic → A) (bad a : A) (s : List ℕ) (c : Tail) {answer : A} (inv : tally f bad a (statisticsFrom s c) ≡ answer) where
+  pub tally-given : {h l r w : ℕ} {next : Tail} → nextOf s c ≡ Given h l r w next → tally f bad (f a (statisticAt s c)) (statisticsFrom s next) ≡ answer
+  tally-given {next = next} e = sym (one-tallied f bad a (statisticAt s c) (statisticsFrom s next)) ∙ sym (ap (tally f bad a) (turn s c e)) ∙ inv
+
+  pub tally-end : nextOf s c ≡ End → a ≡ answer
+  unfolding tally over
+  tally-end e = sym (ap (tally f bad a) (turn s c e)) ∙ inv
+
+  pub tally-malformed : nextOf s c ≡ Malformed → bad ≡ answer
+  unfolding tally
+  tally-malformed e = sym (ap (tally f bad a) (turn s c e)) ∙ inv
+
+pub tally-nothing : {A : Type 0} (g : A → Statistic → A) (bad a : A) (s : List ℕ) {c : Tail} → c ≡ noTail s → tally g bad a (statisticsFrom s c) ≡ bad
+unfolding tally
+tally-nothing g bad a s e = ap (λ (x : Tail). tally g bad a (statisticsFrom s x)) e ∙ ap (tally g bad a) (nothing-there s)
+
+-- what is left of a report whose error records are passed is its statistics records
+pub tally-rest : {A : Type 0} (f : A → DeviceError → A) (g : A → Statistic → A) (bad a : A) (s : List ℕ) (c : Tail)
+    → outcome f g bad a (statisticsFrom s c) ≡ tally g bad a (statisticsFrom s c)
+unfolding statisticsFrom outcome tally over
+tally-rest f g bad a s c = by-read (inTurn 0 (c .left) (λ _. iostats) (drop (c .at) s))
+  where
+    by-end : (ys : List Statistic) (b : Bool) → outcome f g bad a (cond b (report.Whole [] ys) report.Malformed) ≡ tally g bad a (cond b (report.Whole [] ys) report.Malformed)
+    by-end ys true = refl
+    by-end ys false = refl
+
+    by-read : (r : Read (List Statistic)) → outcome f g bad a (tailOf r) ≡ tally g bad a (tailOf r)
+    by-read Bad = refl
+    by-read (Got ys t) = by-end ys (eqb (length t) 0)
+
+-- ---- the status of the records, which is that of a fold that keeps nothing
+counted-status : (y : Statistic) (p : Report) → statusOf (counting y p) ≡ statusOf p
+counted-status y (report.Whole xs ys) = refl
+counted-status y report.Malformed = refl
+
+pub status-begins : (s : List ℕ) (at : ℕ) {c : Tail} → c ≡ tailAt s at → statusOf (statisticsFrom s c) ≡ statusOf (steps.statistics (drop at s))
+unfolding steps.statistics
+status-begins s at e = ap (λ (x : Tail). statusOf (statisticsFrom s x)) e ∙ ap statusOf (tail-begins s at)
+
+module _ (s : List ℕ) (c : Tail) {answer : ℕ} (inv : statusOf (statisticsFrom s c) ≡ answer) where
+  pub status-given : {h l r w : ℕ} {next : Tail} → nextOf s c ≡ Given h l r w next → statusOf (statisticsFrom s next) ≡ answer
+  status-given {next = next} e = sym (counted-status (statisticAt s c) (statisticsFrom s next)) ∙ sym (ap statusOf (turn s c e)) ∙ inv
+
+  pub status-end : nextOf s c ≡ End → 0 ≡ answer
+  status-end e = sym (ap statusOf (turn s c e)) ∙ inv
+
+  pub status-malformed : nextOf s c ≡ Malformed → 10036 ≡ answer
+  status-malformed e = sym (ap statusOf (turn s c e)) ∙ inv
+
+-- ---- the walk as a list: the records that the steps from a cursor on give, where they end well, are those of the report
+pub data Walk (s : List ℕ) : Tail → List Statistic → Type 0 where
+  ends : {c : Tail} → nextOf s c ≡ End → Walk s c []
+  gives : {c next : Tail} {h l r w : ℕ} {ys : List Statistic} → nextOf s c ≡ Given h l r w next → Walk s next ys → Walk s c (statisticAt s c ∷ ys)
+
+visits : (s : List ℕ) {c : Tail} {ys : List Statistic} → Walk s c ys → statisticsFrom s c ≡ report.Whole [] ys
+visits s {c} (ends e) = turn s c e
+visits s {c} (gives e w) = turn s c e ∙ ap (counting (statisticAt s c)) (visits s w)
+
+pub visits-all : (s : List ℕ) {ys : List Statistic} → Walk s (statisticsStart s) ys → statisticsOf (reportOf s) ≡ report.Whole [] ys
+visits-all s w = sym (begins s) ∙ visits s w
+
+-- and the records of a report that is whole are walked to their end
+same-rest : (y : Statistic) (p : Report) (ys : List Statistic) (P : List Statistic → Type 0) → counting y p ≡ report.Whole [] ys
+    → ((zs : List Statistic) → p ≡ report.Whole [] zs → P (y ∷ zs)) → P ys
+same-rest y (report.Whole xs zs) ys P e k =
+    let q : y ∷ zs ≡ ys = cc in
+    let z : xs ≡ [] = cc in
+    rw q at (k zs (ap (λ (x : List DeviceError). report.Whole x zs) z))
+same-rest y report.Malformed ys P e k = let z : _≡_ {A = ℕ} 0 1 = cc in absurd (omega arith)
+
+step-on : (n : ℕ) (s : List ℕ) (c : Tail) (ys : List Statistic) → length s - c .at < suc n → statisticsFrom s c ≡ report.Whole [] ys
+    → ((next : Tail) (zs : List Statistic) → length s - next .at < n → statisticsFrom s next ≡ report.Whole [] zs → Walk s next zs)
+    → (t : Item) → nextOf s c ≡ t → Walk s c ys
+step-on n s c ys h e go (Given hi lo rd wr next) q =
+    let f = goes-forward s c q in
+    same-rest (statisticAt s c) (statisticsFrom s next) ys (Walk s c) (sym (turn s c q) ∙ e) (λ zs r. gives q (go next zs (omega arith) r))
+step-on n s c ys h e go End q =
+    let z : [] ≡ ys = cc (turn s c q) in
+    rw z at (ends {c = c} q)
+step-on n s c ys h e go Malformed q = let z : _≡_ {A = ℕ} 0 1 = cc (turn s c q) in absurd (omega arith)
+
+walked : (n : ℕ) (s : List ℕ) (c : Tail) (ys : List Statistic) → length s - c .at < n → statisticsFrom s c ≡ report.Whole [] ys → Walk s c ys
+walked zero s c ys h e = absurd (omega arith)
+walked (suc n) s c ys h e = step-on n s c ys h e (λ next zs. walked n s next zs) (nextOf s c) refl
+
+pub all-visited : (s : List ℕ) {ys : List Statistic} → statisticsOf (reportOf s) ≡ report.Whole [] ys → Walk s (statisticsStart s) ys
+all-visited s {ys} e = walked (suc (length s - statisticsStart s .at)) s (statisticsStart s) ys (omega arith) (begins s ∙ e)

@@ -1,0 +1,38 @@
+-- By computing what the first cursor is.
+use mathlib.Core.Path.{_∙_}
+use borrow.Author.Tests.{lt-ltb, le-ltb}
+use Prim.Native.Nat.{_-_}
+use lib.ListN.{length}
+use Rattle.reports.specs.StatisticsSteps.{tailAt}
+use native.Mathlib.Omega.{arith}
+use borrow.Author.Needs.{needs}
+use Rattle.reports.proofs.statistics.begin.Statement.{statement}
+use Rattle.reports.proofs.statistics.begin.Tie as tie
+
+left-requires : tie.Need-left-requires
+left-requires c κs = search needs
+
+none-requires : tie.Need-none-requires
+none-requires c κs = search needs
+
+returns : tie.Need-returns
+unfolding tailAt
+returns c =
+    let a = c .before .before .before .before .args in
+    simp (lt-ltb (length (a .s .now) - a .at) 4 (omega arith), c .none .ensures)
+
+add-t3 : tie.Need-add-t3
+add-t3 c = search needs
+
+be32-requires : tie.Need-be32-requires
+be32-requires c κs = search needs
+
+returns-2 : tie.Need-returns-2
+unfolding tailAt
+returns-2 c =
+    let a = c .before .before .before .before .args in
+    simp (le-ltb (length (a .s .now) - a .at) 4 (omega arith), c .be32 .ensures)
+
+pub begin-spec : {M : Type 1} → statement M
+begin-spec =
+    tie.close (tie.spec left-requires none-requires returns add-t3 be32-requires returns-2)

@@ -1,0 +1,92 @@
+-- MODEL of the code: places in a body, by the definition's own readers, and the walk of the statistics records. proofs/StatisticsWalk.antt proves that the
+-- steps from the start visit the statistics records of `reportOf`.
+--     pastOf                     the place past what a reader has read
+--     errorsOf, statisticsOf     the half of a report that each of the two walks visits
+--     tailAt, tailPast           the cursor at a body's first statistics record
+--     nextOf                     what `next` answers
+--     statisticsFrom             the statistics records from a cursor on; `afterNext` says the same by what stands there
+--     tally                      what a caller makes of them
+use Prim.Native.Nat.{ℕ, _+_, _-_}
+use mathlib.Core.List.{List, [], _∷_}
+use mathlib.Core.Bool.{cond}
+use lib.ListN.{length, take, drop}
+use lib.Dec.{ltb, eqb}
+use Rattle.xdr.specs.Be.{beNat}
+use Rattle.reports.specs.Device.{halves}
+use Rattle.reports.specs.Reader.{Read, Got, Bad, inTurn, counted}
+use Rattle.reports.specs.Statistics.{Statistic, iostats}
+use Rattle.reports.specs.Report as report
+use Rattle.reports.specs.Report.{Report, ioerr, over}
+use Rattle.reports.specs.declared.fields.Past.{Past}
+use Rattle.reports.specs.declared.fields.Past.the-variants as past
+use Rattle.reports.specs.declared.statistics.Tail.{Tail}
+use Rattle.reports.specs.declared.statistics.Item.{Item}
+use Rattle.reports.specs.declared.statistics.Item.the-variants.{Given, End, Malformed}
+
+-- ---- places: of n bytes, those after the last that was read are left
+abbrev pub pastOf : {A : Type 0} → ℕ → Read A → Past
+pastOf n Bad = past.Malformed
+pastOf n (Got a t) = past.At (n - length t)
+
+-- ---- the two halves of a report
+abbrev pub errorsOf : Report → Report
+errorsOf (report.Whole xs ys) = report.Whole xs []
+errorsOf report.Malformed = report.Malformed
+
+abbrev pub statisticsOf : Report → Report
+statisticsOf (report.Whole xs ys) = report.Whole [] ys
+statisticsOf report.Malformed = report.Malformed
+
+-- nothing may follow the statistics records
+abbrev pub tailOf : Read (List Statistic) → Report
+tailOf Bad = report.Malformed
+tailOf (Got ys t) = cond (eqb (length t) 0) (report.Whole [] ys) report.Malformed
+
+abbrev pub counting : Statistic → Report → Report
+counting y (report.Whole xs ys) = report.Whole xs (y ∷ ys)
+counting y report.Malformed = report.Malformed
+
+-- ---- the code's answers
+-- a cursor at which nothing is well formed: a record is to come, and there are no bytes
+abbrev pub noTail : List ℕ → Tail
+noTail s = record { at = length s; left = 1 }
+
+unfoldable pub tailAt : List ℕ → ℕ → Tail
+tailAt s at = cond (ltb (length s - at) 4) (noTail s) (record { at = at + 4; left = beNat 4 (drop at s) })
+
+abbrev pub tailPast : List ℕ → Past → Tail
+tailPast s past.Malformed = noTail s
+tailPast s (past.At at) = tailAt s at
+
+-- the cursor past the error records of a body
+unfoldable pub statisticsStart : List ℕ → Tail
+statisticsStart s = tailPast s (pastOf (length s) (counted ioerr s))
+
+abbrev pub givenBy : List ℕ → ℕ → Read Statistic → Item
+givenBy s n Bad = Malformed
+givenBy s n (Got y t) =
+    Given (halves (y .device) .high) (halves (y .device) .low) (y .read) (y .written) (record { at = length s - length t; left = n - 1 })
+
+unfoldable pub nextOf : List ℕ → Tail → Item
+nextOf s c = cond (eqb (c .left) 0) (cond (eqb (length s - c .at) 0) End Malformed) (givenBy s (c .left) (iostats (drop (c .at) s)))
+
+-- ---- the statistics records from a cursor on
+unfoldable pub statisticsFrom : List ℕ → Tail → Report
+statisticsFrom s c = tailOf (inTurn 0 (c .left) (λ _. iostats) (drop (c .at) s))
+
+-- the record that the first 80 bytes begin: its device and its counts stand in fixed places
+abbrev pub statisticIn : List ℕ → Statistic
+statisticIn s = record { device = take 16 (drop 64 s); read = beNat 8 (drop 40 s); written = beNat 8 (drop 56 s) }
+
+abbrev pub statisticAt : List ℕ → Tail → Statistic
+statisticAt s c = statisticIn (drop (c .at) s)
+
+abbrev pub afterNext : List ℕ → Tail → Item → Report
+afterNext s c (Given h l r w next) = counting (statisticAt s c) (statisticsFrom s next)
+afterNext s c End = report.Whole [] []
+afterNext s c Malformed = report.Malformed
+
+-- `g` over the statistics records of a report, from `a` on; `bad` where it is malformed
+unfoldable pub tally : {A : Type 0} → (A → Statistic → A) → A → A → Report → A
+tally g bad a (report.Whole xs ys) = over g a ys
+tally g bad a report.Malformed = bad

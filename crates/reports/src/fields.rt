@@ -1,0 +1,75 @@
+// Fields of variable size (RFC 4506). In order: the bytes that are left; the same bytes; padding; an opaque field.
+ghost use mathlib.Core.Path.{_≡_};
+ghost use mathlib.Core.Bool.{false, cond};
+ghost use Prim.Native.Nat.{_-_};
+ghost use lib.ListN.{length, drop};
+ghost use Rattle.reports.specs.Reader.{sameBytes, padding, bounded};
+ghost use Rattle.reports.specs.StatisticsSteps.{pastOf};
+
+// The place past what has been read, or bytes that are not of the form.
+pub enum Past {
+    At(usize),
+    Malformed,
+}
+
+// The bytes from `at` on.
+pub(crate) fn left(s: &[u8], at: usize) -> usize
+    ensures { λ r. ⌜ r ≡ length (now (s .entry)) - at ⌝ }
+{
+    if at < s.len() { s.len() - at } else { 0 }
+}
+
+// Whether both hold.
+fn both(a: bool, b: bool) -> bool
+    ensures { λ r. ⌜ r ≡ cond a b false ⌝ }
+{
+    if a { b } else { false }
+}
+
+// Whether two parts hold the same bytes. It looks at all of them, which the compiler can do several at a time.
+pub fn same(a: &[u8], b: &[u8]) -> bool
+    ensures { λ r. ⌜ r ≡ sameBytes (now (a .entry)) (now (b .entry)) ⌝ }
+{
+    if a.len() != b.len() {
+        return false;
+    }
+    let mut so = true;
+    let mut i = 0;
+    while i < a.len() {
+        so = both(so, a[i] == b[i]);
+        i += 1;
+    }
+    so
+}
+
+// How many zero bytes follow an opaque field of `n` bytes.
+pub fn pad(n: usize) -> usize
+    ensures { λ r. ⌜ r ≡ padding n ⌝ }
+{
+    (4 - n % 4) % 4
+}
+
+// The place past an opaque field of at most 128 bytes: its length, its bytes and its padding.
+pub(crate) fn past_opaque(s: &[u8], at: usize) -> Past
+    ensures { λ r. ⌜ r ≡ pastOf (length (now (s .entry))) (bounded 128 (drop at (now (s .entry)))) ⌝ }
+{
+    let room = left(s, at);
+    if room < 4 {
+        return Past::Malformed;
+    }
+    let n = xdr::be32(s, at) as usize;
+    if 128 < n {
+        return Past::Malformed;
+    }
+    let p = pad(n);
+    if room - 4 < n + p {
+        return Past::Malformed;
+    }
+    let from = at + 4 + n;
+    let end = from + p;
+    let zeros = [0u8; 4];
+    if same(&s[from..end], &zeros[..p]) {
+        return Past::At(end);
+    }
+    Past::Malformed
+}
