@@ -37,7 +37,7 @@ uint32_t sc_layout_write(const uint8_t *devices, size_t devices_len, const uint6
                          const uint64_t *lengths, size_t lengths_len, const uint64_t *storages, size_t storages_len,
                          const uint32_t *states, size_t states_len, uint8_t *out, size_t out_len, uint64_t *place);
 
-/* ---- LAYOUTRETURN requests (RFC 8881) and the error reports in them (RFC 8435), from libwire.a ----
+/* ---- LAYOUTRETURN requests (RFC 8881) and their bodies, error and statistics records (RFC 8435), from libwire.a ----
  *
  * Pure checks: any bytes are good input. Every number that is lent is written on every call, unless said otherwise.
  */
@@ -56,16 +56,17 @@ uint32_t sc_layout_write(const uint8_t *devices, size_t devices_len, const uint6
 uint32_t sc_layoutreturn_check(const uint8_t *request, size_t request_len, uint32_t *kind, uint64_t *at, uint64_t *len);
 
 /*
- * Checks a body (step 5): 0 if it is well formed, 10036 (BADXDR) if it is malformed, 10004 (NOTSUPP) if it is well formed up to a count of
- * statistics records that is not 0. Takes time by the body's length, whatever its counts say.
+ * Checks a body (step 5): 0 if it is well formed, error records and statistics records alike, or 10036 (BADXDR). An address part or a file
+ * handle of more than 128 bytes is malformed, and so are padding that is not zero, a boolean above 1 and spare bytes; nothing else in a record
+ * is judged. Takes time by the body's length, whatever its counts say.
  */
 uint32_t sc_report_check(const uint8_t *body, size_t body_len);
 
 /*
  * Walks the device errors of a body in their order. `at`, `records` and `devices` are the cursor: set all three to 0 before the first call
  * and hand them back unchanged. Answers 1 with a device error: `place` is the place of its error record (0, 1, ..), `device` is where in the
- * body the device's 16 bytes begin, `status` is its status. After the last one it answers what sc_report_check answers (0, 10036 or 10004):
- * the cursor then stays as it is, and the other three are 0.
+ * body the device's 16 bytes begin, `status` is its status. After the last one it answers what sc_report_check answers (0 or 10036): the
+ * cursor then stays as it is, and the other three are 0.
  * Device errors come before the fault of a malformed body is reached: call sc_report_check first where they must count all or not at all.
  *
  *     uint64_t at = 0, device;
@@ -75,6 +76,20 @@ uint32_t sc_report_check(const uint8_t *body, size_t body_len);
  */
 uint32_t sc_report_next(const uint8_t *body, size_t body_len, uint64_t *at, uint32_t *records, uint32_t *devices, uint32_t *place,
                         uint64_t *device, uint32_t *status);
+
+/*
+ * Walks the statistics records of a body in their order. `at` and `left` are the cursor: set both to 0 before the first call and hand them back
+ * unchanged. Answers 1 with a record: `device` is where in the body the device's 16 bytes begin, `read` and `written` are the record's own
+ * counts of bytes. After the last one it answers what sc_report_check answers (0 or 10036): the cursor then stays as it is, and the other three
+ * are 0. A body whose error records are malformed gets 10036 at once; records come before the fault of one whose statistics are.
+ *
+ *     uint64_t at = 0, device, read, written;
+ *     uint32_t left = 0, end;
+ *     while ((end = sc_statistics_next(body, len, &at, &left, &device, &read, &written)) == 1)
+ *         count(body + device, read, written);
+ */
+uint32_t sc_statistics_next(const uint8_t *body, size_t body_len, uint64_t *at, uint32_t *left, uint64_t *device, uint64_t *read,
+                            uint64_t *written);
 
 /*
  * Writes the reply of `status` at the start of the buffer, and answers `status`: 4 bytes, or for status 0 24 (the status, boolean 1, and a
@@ -91,7 +106,7 @@ uint32_t sc_layoutreturn_reply(uint8_t *reply, size_t reply_len, uint32_t status
  * first. An image of a record that another version of this library wrote is not read.
  * A call changes the record where it lies, and leaves it as it was where it answers a refusal. During a call nobody else reads or writes
  * the record or a buffer that is lent, and no buffer that is written overlaps the record or another buffer; calls on two records may run at
- * once. Buffers of bytes are good at any alignment, `files` and `count` at that of a uint64_t.
+ * once. Buffers of bytes are good at any alignment, numbers at that of their type.
  *
  * Answers are 0, or the first refusal that applies in the order given:
  *   17 (EXIST)  22 (INVAL)  28 (NOSPC)  70 (STALE)  10008 (DELAY)  10013 (GRACE)  10025 (BAD_STATEID)  10033 (NO_GRACE)  10034 (RECLAIM_BAD)
@@ -143,15 +158,22 @@ uint32_t sc_record_end_grace(struct sc_record *r);
 uint32_t sc_record_restart(struct sc_record *r);
 
 /* A LAYOUTRETURN of the client on the file. `request` is its arguments, from the reclaim flag to the end of the padded body.
- * 28: reply_len is under 24. Nothing is written or changed.
- * SC_HANDED_ON: return type 2 or 3, or not in grace with a stateid that is not all zeros. Nothing is written or changed.
+ * 28: reply_len is under 24. No reply is written, and nothing changes.
+ * SC_HANDED_ON: return type 2 or 3, or not in grace with a stateid that is not all zeros. No reply is written, and nothing changes.
  * Else the status, which is also the reply: its 4 bytes big-endian at the start of `reply`; for 0 then boolean 1 and sixteen zero bytes, 24 in
  * all. Later bytes of `reply` stay. The statuses besides 0, which change nothing:
  * 10036: malformed; 10062: layout type not 4; 10049: iomode outside 1 to 3; 10025: all zeros, and the record is set up as old; 10013: in grace,
- * stateid not all zeros; 10033: not in grace, all zeros; 10036 or 10004: the body malformed, or with statistics; 70: no such file; 10034: the
- * client has no intent on it. */
+ * stateid not all zeros; 10033: not in grace, all zeros; 10036: the body malformed; 70: no such file; 10034: the client has no intent on it.
+ *
+ * The totals of this one request, from the byte counts of its statistics records, are written on EVERY call, whatever it answers: read[k] and
+ * written[k] are those of the mirror at place k, for each of the read_len and written_len places that are lent; places without a mirror get 0.
+ * A total that would pass 2^64 - 1 is 2^64 - 1, and then bit k of *read_capped or *written_capped is set; no other bit is. All are 0 unless
+ * the answer is 0, and where the report is ignored since an error record names a device that is no mirror. A record for such a device counts
+ * nowhere. Statistics change nothing in the record. */
+#define SC_PLACES 4 /* places of a file that can have totals; a later version may have more */
 uint32_t sc_record_layoutreturn(struct sc_record *r, uint64_t file, uint64_t client, const uint8_t *request, size_t request_len, uint8_t *reply,
-                                size_t reply_len);
+                                size_t reply_len, uint64_t *read, size_t read_len, uint64_t *written, size_t written_len,
+                                uint32_t *read_capped, uint32_t *written_capped);
 
 /* The files that need repair, by rising number: file k of the list at files[k], and at sources[k] the lowest mirror place that is not blamed, or
  * 255 where there is none. files_len and sources_len are the places that are lent.
