@@ -167,13 +167,13 @@ uint32_t sc_record_restart(struct sc_record *r);
  *
  * The totals of this one request, from the byte counts of its statistics records, are written on EVERY call, whatever it answers: read[k] and
  * written[k] are those of the mirror at place k, for each of the read_len and written_len places that are lent; places without a mirror get 0.
- * A total that would pass 2^64 - 1 is 2^64 - 1, and then bit k of *read_capped or *written_capped is set; no other bit is. All are 0 unless
+ * A total that would pass 2^64 - 1 is 2^64 - 1, and then bit k of *read_over or *written_over is set; no other bit is. All are 0 unless
  * the answer is 0, and where the report is ignored since an error record names a device that is no mirror. A record for such a device counts
  * nowhere. Statistics change nothing in the record. */
 #define SC_PLACES 4 /* places of a file that can have totals; a later version may have more */
 uint32_t sc_record_layoutreturn(struct sc_record *r, uint64_t file, uint64_t client, const uint8_t *request, size_t request_len, uint8_t *reply,
                                 size_t reply_len, uint64_t *read, size_t read_len, uint64_t *written, size_t written_len,
-                                uint32_t *read_capped, uint32_t *written_capped);
+                                uint32_t *read_over, uint32_t *written_over);
 
 /* The files that need repair, by rising number: file k of the list at files[k], and at sources[k] the lowest mirror place that is not blamed, or
  * 255 where there is none. files_len and sources_len are the places that are lent.
