@@ -223,10 +223,17 @@ static void check_held(void)
     check_lent(epochs_held, epochs_held.len, "bytes beside the epochs changed");
 }
 
+/* What the latest LAYOUTRETURN counted: for each place the bytes read and written, and masks of the places whose number is flagged. */
+static struct {
+    uint64_t read[SC_PLACES], written[SC_PLACES];
+    uint32_t read_over, written_over;
+} totals;
+
 static void start_anew(void)
 {
     sc_record_fresh(record);
     sc_epochs_fresh(epochs);
+    memset(&totals, 0, sizeof totals);
     check_held();
 }
 
@@ -335,6 +342,51 @@ static void print_reply(uint32_t answer, struct lent reply)
     putchar('\n');
 }
 
+/* One column of totals, lent a place more than a file has: later places get 0. */
+static void keep_totals(struct lent column, uint64_t *kept)
+{
+    uint64_t more;
+    check_lent(column, column.len, "bytes beside a LAYOUTRETURN's totals changed");
+    memcpy(kept, bytes_of(column), SC_PLACES * sizeof *kept);
+    memcpy(&more, bytes_of(column) + SC_PLACES * sizeof *kept, sizeof more);
+    if (more != 0)
+        broken("a place that no file has was given a total");
+    give_back(column);
+}
+
+static void keep_flags(struct lent mask, uint32_t *kept)
+{
+    check_lent(mask, mask.len, "bytes beside a LAYOUTRETURN's flags changed");
+    memcpy(kept, bytes_of(mask), sizeof *kept);
+    give_back(mask);
+}
+
+/* Only an accepted report counts bytes. */
+static void check_totals(uint32_t answer)
+{
+    uint64_t any = totals.read_over | totals.written_over;
+    for (size_t i = 0; i < SC_PLACES; i++)
+        any |= totals.read[i] | totals.written[i];
+    if (answer != 0 && any != 0)
+        broken("a LAYOUTRETURN that is not accepted gave totals");
+}
+
+/* The call, with lent totals, which are kept. */
+static uint32_t layoutreturn(uint64_t file, uint64_t client, struct lent request, struct lent reply)
+{
+    struct lent read = lend((SC_PLACES + 1) * sizeof(uint64_t)), written = lend((SC_PLACES + 1) * sizeof(uint64_t));
+    struct lent read_over = lend(sizeof(uint32_t)), written_over = lend(sizeof(uint32_t));
+    uint32_t answer = sc_record_layoutreturn(record, file, client, bytes_of(request), request.len, bytes_of(reply), reply.len,
+                                             (uint64_t *)(void *)bytes_of(read), SC_PLACES + 1, (uint64_t *)(void *)bytes_of(written),
+                                             SC_PLACES + 1, (uint32_t *)(void *)bytes_of(read_over), (uint32_t *)(void *)bytes_of(written_over));
+    keep_totals(read, totals.read);
+    keep_totals(written, totals.written);
+    keep_flags(read_over, &totals.read_over);
+    keep_flags(written_over, &totals.written_over);
+    check_totals(answer);
+    return answer;
+}
+
 static bool run_layoutreturn(const struct command *c, const struct word *argument)
 {
     (void)c;
@@ -344,10 +396,28 @@ static bool run_layoutreturn(const struct command *c, const struct word *argumen
         !read_number(argument[2], MAX_ROOM, &room) || !read_bytes(argument[3], MAX_REQUEST, &request))
         return false;
     struct lent reply = lend((size_t)room);
-    uint32_t answer = sc_record_layoutreturn(record, file, client, bytes_of(request), request.len, bytes_of(reply), reply.len);
+    uint32_t answer = layoutreturn(file, client, request, reply);
     take_back_bytes(argument[3], request, "bytes in or beside the request changed");
     print_reply(answer, reply);
     give_back(reply);
+    return true;
+}
+
+static void print_total(uint64_t bytes, bool over)
+{
+    printf("%" PRIu64 "%s", bytes, over ? "!" : "");
+}
+
+static bool run_totals(const struct command *c, const struct word *argument)
+{
+    (void)c;
+    (void)argument;
+    for (size_t i = 0; i < SC_PLACES; i++) {
+        print_total(totals.read[i], totals.read_over >> i & 1);
+        putchar(':');
+        print_total(totals.written[i], totals.written_over >> i & 1);
+        putchar(i + 1 < SC_PLACES ? ' ' : '\n');
+    }
     return true;
 }
 
@@ -511,6 +581,7 @@ static const struct command commands[] = {
     {"end", 0, run_on_record, {.record = sc_record_end_grace}},
     {"restart", 0, run_on_record, {.record = sc_record_restart}},
     {"layoutreturn", 4, run_layoutreturn, {NULL}},
+    {"totals", 0, run_totals, {NULL}},
     {"resilver", 2, run_listing, {.list = sc_record_resilver}},
     {"offered", 2, run_listing, {.list = sc_record_offered}},
     {"layout", 1, run_layout, {NULL}},

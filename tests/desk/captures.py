@@ -57,7 +57,24 @@ def listing(entry):
     return f"0 1 {entry}" if entry else "0 0"
 
 
-def report(mirrors, request, in_grace, errors):
+NO_TOTALS = "0:0 0:0 0:0 0:0"
+
+
+def total(sums):
+    """A sum as it is told: at most 2^64 - 1, and flagged where it passes that."""
+    return f"{min(sums, 2**64 - 1)}{'!' if sums > 2**64 - 1 else ''}"
+
+
+def totals_after(mirrors, errors, statistics):
+    """The totals once this report is accepted (Ticket 3)."""
+    if any(device not in mirrors for device, _ in errors):
+        return NO_TOTALS
+    by_place = [[sum(record[k] for record in statistics if record[0] == mirror) for k in (1, 2)] for mirror in mirrors]
+    by_place += [[0, 0]] * (4 - len(mirrors))
+    return " ".join(f"{total(read)}:{total(written)}" for read, written in by_place)
+
+
+def report(mirrors, request, in_grace, errors, statistics):
     """A file with these mirrors and the request in grace; in_grace is the answer of steps 1 to 5, `ok` where step 6 is reached."""
     reached = in_grace == "ok"
     yield "fresh", "0"
@@ -66,9 +83,13 @@ def report(mirrors, request, in_grace, errors):
     yield "restart", "0"
     yield f"layoutreturn {CLIENT} {OTHER_FILE} 24 {request}", said("70" if reached else in_grace)
     yield f"layoutreturn {OTHER_CLIENT} {FILE} 25 {request}", said("10034" if reached else in_grace)
+    yield "totals", NO_TOTALS
     yield f"layoutreturn {CLIENT} {FILE} 23 {request}", "28"
     yield "resilver 1 1", "0 0"
     yield f"layoutreturn {CLIENT} {FILE} 24 {request}", said("0" if reached else in_grace)
+    yield "totals", totals_after(mirrors, errors, statistics) if reached else NO_TOTALS
+    yield f"layoutreturn {CLIENT} {FILE} 23 {request}", "28"
+    yield "totals", NO_TOTALS
     entry = source_after(mirrors, errors) if reached else ""
     yield "resilver 1 1", listing(entry)
     yield "offered 1 1", "0 0"
@@ -78,16 +99,17 @@ def report(mirrors, request, in_grace, errors):
     yield "offered 1 1", listing(entry)
 
 
-def layoutreturn(request, in_grace, out_of_grace, errors):
+def layoutreturn(request, in_grace, out_of_grace, errors, statistics):
     """One request out of grace, then in grace with the letters' mirrors, and with the first four devices that it names."""
     yield "fresh", "0"
     yield f"register {FILE} {LETTERS[0]}", "0"
     yield f"layoutreturn {CLIENT} {FILE} 24 {request}", said(out_of_grace)
-    yield from report(LETTERS, request, in_grace, errors)
-    named = list(dict.fromkeys(device for device, _ in errors))[:4]
+    yield "totals", NO_TOTALS
+    yield from report(LETTERS, request, in_grace, errors, statistics)
+    named = list(dict.fromkeys([device for device, _ in errors] + [device for device, _, _ in statistics]))[:4]
     if named:
-        yield from report(named, request, in_grace, errors)
-        yield from report(named[::-1], request, in_grace, errors)
+        yield from report(named, request, in_grace, errors, statistics)
+        yield from report(named[::-1], request, in_grace, errors, statistics)
 
 
 def device_errors(column):
@@ -96,16 +118,22 @@ def device_errors(column):
     return [(entry[0], int(entry[1])) for entry in entries]
 
 
+def statistics_records(column):
+    """`device:read:written`, with commas between; `-` for none."""
+    entries = [] if column == "-" else [entry.split(":") for entry in column.split(",")]
+    return [(entry[0], int(entry[1]), int(entry[2])) for entry in entries]
+
+
 def layoutreturn_damaged(path):
-    """Columns: hex, answer of steps 1 to 5 in grace, the same out of grace, the same with statistics read, errors, statistics."""
+    """Columns: hex, answer of steps 1 to 5 before Ticket 3, the same out of grace, that in grace with statistics read, errors, statistics."""
     for line in lines_of(path):
         if line.startswith("#"):
             continue
-        request, in_grace, out_of_grace, _, errors, _ = line.split()
-        yield from layoutreturn(request, in_grace, out_of_grace, device_errors(errors))
+        request, _, out_of_grace, in_grace, errors, statistics = line.split()
+        yield from layoutreturn(request, in_grace, out_of_grace, device_errors(errors), statistics_records(statistics))
 
 
-def answers(head, stateid, body, statistics):
+def answers(head, stateid, body):
     """The answers of steps 1 to 5 in and out of grace, for a request of which an rpcgen reader gave these fields."""
     _, layout_type, iomode, return_type = (int(number) for number in head.split())
     assert return_type == 1 and 1 <= iomode <= 3
@@ -115,7 +143,7 @@ def answers(head, stateid, body, statistics):
         return "10013", "on"
     if body == "malformed":
         return "10036", "10033"
-    return ("ok" if statistics == "-" else "10004"), "10033"
+    return "ok", "10033"
 
 
 def linux_layoutreturn(path):
@@ -126,8 +154,8 @@ def linux_layoutreturn(path):
             fields = [part.strip() for part in line[1:].split("|")]
         elif not line.startswith("#"):
             head, stateid, _, body, errors, statistics = fields
-            in_grace, out_of_grace = answers(head, stateid, body.split()[1], statistics.split()[1])
-            yield from layoutreturn(line, in_grace, out_of_grace, device_errors(errors.split()[1]))
+            in_grace, out_of_grace = answers(head, stateid, body.split()[1])
+            yield from layoutreturn(line, in_grace, out_of_grace, device_errors(errors.split()[1]), statistics_records(statistics.split()[1]))
 
 
 def may(node, recovery, need, enforcing, members):

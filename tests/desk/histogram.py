@@ -21,7 +21,8 @@ ANSWERS = {
     "forget": "0 10013 70 10008",
     "end": "0 10033",
     "restart": "0",
-    "layoutreturn": "handed 0 28 10036 10062 10049 10025 10013 10033 10004 70 10034",
+    "layoutreturn": "handed 0 28 10036 10062 10049 10025 10013 10033 70 10034",
+    "totals": "zeros bytes full flagged",
     "resilver": "0 28 source:0 source:1 source:2 source:3 source:255",
     "offered": "0 28 source:0 source:1 source:2 source:3 source:255",
     "layout": "extents refused:1 refused:2 refused:3 refused:4 refused:5 refused:6 refused:7",
@@ -49,6 +50,10 @@ def keys(command, words):
         return [("can't be read", "?")]
     if command == "epochs":
         return [(command, "shown")]
+    if command == "totals":
+        numbers = b" ".join(words).replace(b":", b" ").split()
+        kinds = {"zeros": set(numbers) == {b"0"}, "bytes": set(numbers) != {b"0"}, "full": b"18446744073709551615" in numbers, "flagged": b"18446744073709551615!" in numbers}
+        return [(command, kind) for kind, seen in kinds.items() if seen]
     if command == "layout" and words[0] == b"refused":
         return [(command, "refused:" + words[1].decode())]
     sources = [("source:" + word.split(b":")[1].decode()) for word in words[2:]] if command in ("resilver", "offered") else []

@@ -32,12 +32,22 @@ uint32_t __wrap_sc_record_register(struct sc_record *r, uint64_t file, const uin
     return answer;
 }
 
-uint32_t __real_sc_record_layoutreturn(struct sc_record *, uint64_t, uint64_t, const uint8_t *, size_t, uint8_t *, size_t);
-uint32_t __wrap_sc_record_layoutreturn(struct sc_record *, uint64_t, uint64_t, const uint8_t *, size_t, uint8_t *, size_t);
+uint32_t __real_sc_record_layoutreturn(struct sc_record *, uint64_t, uint64_t, const uint8_t *, size_t, uint8_t *, size_t, uint64_t *, size_t,
+                                       uint64_t *, size_t, uint32_t *, uint32_t *);
+uint32_t __wrap_sc_record_layoutreturn(struct sc_record *, uint64_t, uint64_t, const uint8_t *, size_t, uint8_t *, size_t, uint64_t *, size_t,
+                                       uint64_t *, size_t, uint32_t *, uint32_t *);
 uint32_t __wrap_sc_record_layoutreturn(struct sc_record *r, uint64_t file, uint64_t client, const uint8_t *request, size_t request_len,
-                                       uint8_t *reply, size_t reply_len)
+                                       uint8_t *reply, size_t reply_len, uint64_t *read, size_t read_len, uint64_t *written, size_t written_len,
+                                       uint32_t *read_over, uint32_t *written_over)
 {
-    uint32_t answer = __real_sc_record_layoutreturn(r, file, client, request, request_len, reply, reply_len);
+    uint32_t answer = __real_sc_record_layoutreturn(r, file, client, request, request_len, reply, reply_len, read, read_len, written,
+                                                    written_len, read_over, written_over);
+    scribble("totals-after", read + read_len);
+    scribble("totals-before", (uint8_t *)written - 1);
+    scribble("totals-of-a-fifth", written + 4);
+    scribble("flags-after", read_over + 1);
+    if (answer != 0)
+        scribble("totals-of-a-refusal", written_over);
     scribble("request", request);
     scribble("request-after", request + request_len);
     scribble("reply-before", reply - 1);

@@ -1,6 +1,6 @@
 //! The marked examples K1 to K15 (01, "Marked examples") and those of the tickets (02), each as the lines that a desk would send and the lines that come back.
 
-use crate::{run_line, Desk};
+use crate::{run_line, Desk, Edition};
 
 const A: &str = "a0a0a0a0a0a0a0a0a0a0a0a0a0a0a001";
 const B: &str = "b0b0b0b0b0b0b0b0b0b0b0b0b0b0b002";
@@ -8,7 +8,7 @@ const C: &str = "c0c0c0c0c0c0c0c0c0c0c0c0c0c0c003";
 
 /// Runs the lines on a fresh desk and gives what the last one prints.
 fn last(lines: &[&str]) -> String {
-    let mut desk = Desk::fresh();
+    let mut desk = Desk::fresh(Edition::Current);
     let printed = lines.iter().zip(1..).filter_map(|(line, number)| run_line(&mut desk, line.as_bytes(), number));
     printed.last().expect("a line that prints")
 }
@@ -113,6 +113,36 @@ fn an_old_record() {
         assert_eq!(and(&["reclaim 7 1", &report(device, 5), "end", "resilver 1 1"]), "0 0");
         assert_eq!(and(&["reclaim 7 1", "end", &report(device, 5)]), "10025 00002729");
     }
+}
+
+/// A statistics record of a device with these counts of bytes: short address parts and handle, latencies of ones.
+fn statistic(device: &str, read: u64, written: u64) -> String {
+    let fixed = format!("{:016x}{:016x}{:032x}{:016x}{read:016x}{:016x}{written:016x}{device}", 0, u64::MAX, 7, 3, 4);
+    let parts = format!("{:08x}74637000{:08x}{:08x}01000000", 3, 0, 1);
+    format!("{fixed}{parts}{}{:08x}", "11".repeat(140), 1)
+}
+
+/// The layoutreturn line of client 1 for file 7 after a restart, with this error list and these statistics records.
+fn counted(errors: &str, records: &[String]) -> String {
+    let body = format!("{errors}{:08x}{}", records.len(), records.concat());
+    let request = format!("{:08x}{:08x}{:08x}{:08x}{:016x}{:016x}{:032x}{:08x}{body}", 0, 4, 3, 1, 0, u64::MAX, 0, body.len() / 2);
+    format!("layoutreturn 1 7 24 {request}")
+}
+
+/// Ticket 3: sums by mirror place, another device's nowhere; cut at 2^64 - 1 and flagged only past it; none for an ignored report.
+#[test]
+fn statistics_of_a_report() {
+    let history = [&registered(), "open 7 1", "restart"];
+    let and = |more: &[&str]| last(&[&history, more].concat());
+    let records = [statistic(B, 5, 6), statistic(A, 1, u64::MAX), statistic(C, 9, 9), statistic(B, u64::MAX, 0)];
+    let accepted = format!("0 {:08x}{:08x}{:032x}", 0, 1, 0);
+    assert_eq!(and(&[&counted("00000000", &records)]), accepted);
+    assert_eq!(and(&[&counted("00000000", &records), "totals"]), "1:18446744073709551615 18446744073709551615!:6 0:0 0:0");
+    assert_eq!(and(&[&counted("00000000", &records), "resilver 1 1"]), "0 0");
+    let stranger = format!("{:08x}{:016x}{:016x}{:032x}{:08x}{C}{:08x}{:08x}", 1, 0, 0, 0, 1, 0, 38);
+    assert_eq!(and(&[&counted(&stranger, &records), "totals"]), "0:0 0:0 0:0 0:0");
+    assert_eq!(and(&[&counted("00000000", &records), "layoutreturn 1 7 23 -", "totals"]), "0:0 0:0 0:0 0:0");
+    assert_eq!(and(&["totals"]), "0:0 0:0 0:0 0:0");
 }
 
 /// Ticket 2: one client's word does not stand for another's, and it keeps its own intent.

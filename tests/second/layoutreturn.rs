@@ -21,17 +21,28 @@ impl From<u32> for Other {
     }
 }
 
-/// The device errors of a report, in its order: device and status.
-pub type Report = Vec<(Device, u32)>;
+/// A well-formed body: its device errors in their order, device and status, and its statistics.
+#[derive(Default)]
+pub struct Report {
+    pub errors: Vec<(Device, u32)>,
+    pub statistics: Vec<Statistic>,
+}
+
+/// What one statistics record (RFC 8435, 9.2) says of a device: its own counts of bytes.
+pub struct Statistic {
+    pub device: Device,
+    pub read: u64,
+    pub written: u64,
+}
 
 const BADXDR: u32 = 10_036;
-const NOTSUPP: u32 = 10_004;
 const UNKNOWN_LAYOUTTYPE: u32 = 10_062;
 const BADIOMODE: u32 = 10_049;
 pub const BAD_STATEID: u32 = 10_025;
 pub const GRACE: u32 = 10_013;
 pub const NO_GRACE: u32 = 10_033;
 const BODY_LIMIT: usize = 4_096;
+const PART_LIMIT: usize = 128;
 const FLEX_FILES: u32 = 4;
 
 /// Bytes that are still to be read; each reading is `None` where they don't hold what is read.
@@ -105,30 +116,71 @@ fn read_request(request: &[u8]) -> Option<Request> {
     Some(Request { layout_type, iomode, one_file })
 }
 
-/// The list of error records, up to where the statistics begin.
-fn read_errors(xdr: &mut Xdr) -> Option<Report> {
-    let mut report = Report::new();
+fn read_errors(xdr: &mut Xdr) -> Option<Vec<(Device, u32)>> {
+    let mut errors = Vec::new();
     for _ in 0..xdr.unsigned()? {
         let (_offset, _length) = (xdr.hyper()?, xdr.hyper()?);
         let _stateid: [u8; 16] = xdr.opaque()?;
         for _ in 0..xdr.unsigned()? {
             let device = xdr.opaque()?;
             let (status, _operation) = (xdr.unsigned()?, xdr.unsigned()?);
-            report.push((device, status));
+            errors.push((device, status));
         }
     }
-    Some(report)
+    Some(errors)
 }
 
-/// Step 5: the report of a body, or the status that refuses it.
-fn read_report(body: &[u8]) -> Result<Report, u32> {
-    let mut xdr = Xdr::over(body);
-    let report = read_errors(&mut xdr).ok_or(BADXDR)?;
-    match xdr.unsigned() {
-        None => Err(BADXDR),
-        Some(0) => xdr.end().map(|()| report).ok_or(BADXDR),
-        Some(_) => Err(NOTSUPP),
+/// io_info4: the count of operations is not used, the count of bytes is.
+fn read_io_info(xdr: &mut Xdr) -> Option<u64> {
+    let (_count, bytes) = (xdr.hyper()?, xdr.hyper()?);
+    Some(bytes)
+}
+
+/// nfstime4.
+fn read_time(xdr: &mut Xdr) -> Option<()> {
+    let (_seconds, _nseconds) = (xdr.hyper()?, xdr.unsigned()?);
+    Some(())
+}
+
+/// ff_io_latency4: five numbers and two times.
+fn read_latency(xdr: &mut Xdr) -> Option<()> {
+    for _ in 0..5 {
+        xdr.hyper()?;
     }
+    read_time(xdr)?;
+    read_time(xdr)
+}
+
+/// ff_layoutupdate4: the two parts of an address, a file handle, the latencies of reads and writes, a duration, and whether it is local.
+fn read_update(xdr: &mut Xdr) -> Option<()> {
+    for _ in 0..3 {
+        xdr.counted_opaque(PART_LIMIT)?;
+    }
+    read_latency(xdr)?;
+    read_latency(xdr)?;
+    read_time(xdr)?;
+    xdr.boolean().map(drop)
+}
+
+/// ff_iostats4.
+fn read_statistic(xdr: &mut Xdr) -> Option<Statistic> {
+    let (_offset, _length) = (xdr.hyper()?, xdr.hyper()?);
+    let _stateid: [u8; 16] = xdr.opaque()?;
+    let (read, written) = (read_io_info(xdr)?, read_io_info(xdr)?);
+    let device = xdr.opaque()?;
+    read_update(xdr)?;
+    Some(Statistic { device, read, written })
+}
+
+/// Step 5: a body that ends with its statistics, or `None` where it is malformed.
+fn read_report(body: &[u8]) -> Option<Report> {
+    let mut xdr = Xdr::over(body);
+    let errors = read_errors(&mut xdr)?;
+    let (records, mut statistics) = (xdr.unsigned()?, Vec::new());
+    for _ in 0..records {
+        statistics.push(read_statistic(&mut xdr)?);
+    }
+    xdr.end().map(|()| Report { errors, statistics })
 }
 
 /// Steps 1 to 5: the report that goes on to step 6, or the answer.
@@ -146,6 +198,6 @@ pub fn judge(edition: Edition, in_grace: bool, room: usize, request: &[u8]) -> R
         (true, false) => Err(GRACE.into()),
         (false, true) => Err(NO_GRACE.into()),
         (false, false) => Err(Other::HandedOn),
-        (true, true) => Ok(read_report(&body)?),
+        (true, true) => Ok(read_report(&body).ok_or(BADXDR)?),
     }
 }

@@ -47,19 +47,35 @@ impl Row {
         }
     }
 
-    /// Step 7 of LAYOUTRETURN.
-    fn take(&mut self, report: &Report) {
+    /// Step 7 of LAYOUTRETURN, and the totals that go with it.
+    fn take(&mut self, report: &Report) -> Totals {
         let place_of = |device: &Device| self.mirrors.iter().position(|mirror| mirror == device);
-        if report.iter().any(|(device, _)| place_of(device).is_none()) {
+        if report.errors.iter().any(|(device, _)| place_of(device).is_none()) {
             self.marked = true;
-            return;
+            return Totals::default();
         }
-        for (device, _) in report.iter().filter(|(_, status)| *status != 0) {
+        for (device, _) in report.errors.iter().filter(|(_, status)| *status != 0) {
             self.blamed.extend(place_of(device));
             self.marked = true;
         }
+        self.count(report)
+    }
+
+    /// Ticket 3: for each mirror the sums over its statistics records.
+    fn count(&self, report: &Report) -> Totals {
+        let mut totals = Totals::default();
+        for (place, mirror) in self.mirrors.iter().enumerate() {
+            for record in report.statistics.iter().filter(|record| record.device == *mirror) {
+                totals[place].0 += u128::from(record.read);
+                totals[place].1 += u128::from(record.written);
+            }
+        }
+        totals
     }
 }
+
+/// By mirror place, all bytes that one request's statistics say were read and written.
+pub type Totals = [(u128, u128); MOST_MIRRORS];
 
 /// The mirror devices of a list that is not bad.
 fn mirror_list(bytes: &[u8]) -> Option<Vec<Device>> {
@@ -165,12 +181,11 @@ impl Ledger {
         Ok(())
     }
 
-    pub fn layoutreturn(&mut self, client: u64, file: u64, room: usize, request: &[u8]) -> Result<(), Other> {
+    pub fn layoutreturn(&mut self, client: u64, file: u64, room: usize, request: &[u8]) -> Result<Totals, Other> {
         let report = layoutreturn::judge(self.edition, self.in_grace, room, request)?;
         let row = self.row(file)?;
         refuse_if(!row.intents.contains(&client), RECLAIM_BAD)?;
-        row.take(&report);
-        Ok(())
+        Ok(row.take(&report))
     }
 
     /// The files that need repair, each with its source.

@@ -12,7 +12,7 @@ mod examples;
 
 use epochs::Epochs;
 use layoutreturn::Other;
-use ledger::{Edition, Ledger};
+use ledger::{Edition, Ledger, Totals};
 use std::io::{self, BufRead, Write};
 use words::{bytes, node, number, room, split, MAX_BODY, MAX_LINE, MAX_REQUEST};
 
@@ -29,11 +29,13 @@ pub fn refuse_if(refused: bool, number: u32) -> Result<(), u32> {
 struct Desk {
     ledger: Ledger,
     epochs: Epochs,
+    /// Of the latest LAYOUTRETURN.
+    totals: Totals,
 }
 
 impl Desk {
-    fn fresh() -> Desk {
-        Desk { ledger: Ledger::fresh(Edition::Current), epochs: Epochs::fresh() }
+    fn fresh(edition: Edition) -> Desk {
+        Desk { ledger: Ledger::fresh(edition), epochs: Epochs::fresh(), totals: Totals::default() }
     }
 
     /// Runs one command and gives the line that it prints; `None` where the words can't be read, and then nothing changed.
@@ -53,17 +55,20 @@ impl Desk {
             ("restart", []) => Some(answered(self.ledger.restart())),
             ("layoutreturn", [c, f, r, q]) => {
                 let (client, file, room, request) = (number(c)?, number(f)?, room(r)?, bytes(q, MAX_REQUEST)?);
-                Some(said(self.ledger.layoutreturn(client, file, room, &request)))
+                let call = self.ledger.layoutreturn(client, file, room, &request);
+                self.totals = *call.as_ref().unwrap_or(&Totals::default());
+                Some(said(call))
             }
+            ("totals", []) => Some(summed(&self.totals)),
             ("resilver", [f, s]) => Some(listed(self.ledger.resilver(), room(f)?, room(s)?)),
             ("offered", [f, s]) => Some(listed(self.ledger.offered(), room(f)?, room(s)?)),
             ("layout", [b]) => Some(laid_out(&bytes(b, MAX_BODY)?)),
             ("fresh", []) => {
-                *self = Desk::fresh();
+                *self = Desk::fresh(Edition::Current);
                 Some("0".to_string())
             }
             ("fresh", [b"old"]) => {
-                *self = Desk { ledger: Ledger::fresh(Edition::Old), epochs: Epochs::fresh() };
+                *self = Desk::fresh(Edition::Old);
                 Some("0".to_string())
             }
             _ => self.run_on_epochs(name, &words[1..]),
@@ -96,13 +101,20 @@ fn answered(call: Result<(), u32>) -> String {
 }
 
 /// The line for a LAYOUTRETURN: the number and the bytes of the reply that were written.
-fn said(call: Result<(), Other>) -> String {
+fn said(call: Result<Totals, Other>) -> String {
     match call {
-        Ok(()) => format!("0 {:08x}{:08x}{:032x}", 0, 1, 0),
+        Ok(_) => format!("0 {:08x}{:08x}{:032x}", 0, 1, 0),
         Err(Other::Status(status)) => format!("{status} {status:08x}"),
         Err(Other::NoRoom) => "28".to_string(),
         Err(Other::HandedOn) => "handed on".to_string(),
     }
+}
+
+/// The line for totals: a number past 2^64 - 1 stays there and is flagged.
+fn summed(totals: &Totals) -> String {
+    let most = u128::from(u64::MAX);
+    let one = |sum: u128| format!("{}{}", sum.min(most), if sum > most { "!" } else { "" });
+    totals.map(|(read, written)| format!("{}:{}", one(read), one(written))).join(" ")
 }
 
 /// The line for a listing into lent slices of so many places.
@@ -140,7 +152,7 @@ fn run_line(desk: &mut Desk, line: &[u8], line_number: u64) -> Option<String> {
 
 fn main() -> io::Result<()> {
     let (mut input, mut output) = (io::stdin().lock(), io::BufWriter::new(io::stdout().lock()));
-    let (mut desk, mut line, mut line_number) = (Desk::fresh(), Vec::new(), 0);
+    let (mut desk, mut line, mut line_number) = (Desk::fresh(Edition::Current), Vec::new(), 0);
     while input.read_until(b'\n', &mut line)? > 0 {
         line_number += 1;
         let text = line.strip_suffix(b"\n").unwrap_or(&line);

@@ -117,7 +117,11 @@ impl<W: Write> Campaigns<W> {
     fn layoutreturn(&mut self, pool: &Pool, client: u64, file: u64) -> Done {
         let room = self.r.weighted(&[(90, 24), (2, 0), (1, 4), (3, 23), (2, 25), (1, 100)]);
         let request = hex(&request(&mut self.r, &pool.devices));
-        self.call(&format!("layoutreturn {client} {file} {room} {request}"))
+        self.call(&format!("layoutreturn {client} {file} {room} {request}"))?;
+        if self.r.percent(40) {
+            self.call("totals")?;
+        }
+        Ok(())
     }
 
     /// A listing into slices that have room for about so many.
@@ -319,6 +323,22 @@ impl<W: Write> Campaigns<W> {
         Ok(())
     }
 
+    /// Reports in one grace period on a file whose mirrors are all or nearly all of the devices, so that their statistics count.
+    fn counts(&mut self) -> Done {
+        let pool = self.pool(1, 1, 4);
+        let (file, client) = (pool.files[0], pool.clients[0]);
+        self.fresh()?;
+        let mirrors = hex(&pool.devices[..3 + self.r.size(2)].concat());
+        self.call(&format!("register {file} {mirrors}"))?;
+        self.call(&format!("open {file} {client}"))?;
+        self.call("restart")?;
+        for _ in 0..24 {
+            self.layoutreturn(&pool, client, file)?;
+            self.call("totals")?;
+        }
+        self.call("resilver 1 1")
+    }
+
     /// Every client opens every file, and now and then one closes it again.
     fn open_all(&mut self, pool: &Pool) -> Done {
         for file in &pool.files {
@@ -420,6 +440,7 @@ impl<W: Write> Campaigns<W> {
                 "fresh".to_string(),
                 "fresh old".to_string(),
                 "epochs".to_string(),
+                "totals".to_string(),
                 "resilver 2 2".to_string(),
                 format!("layout {:08x}", 0),
             ];
@@ -453,7 +474,7 @@ impl<W: Write> Campaigns<W> {
     }
 
     pub fn run(mut self, calls: u64) -> Done {
-        const KINDS: [(u64, u32); 9] = [(30, 0), (12, 1), (10, 2), (6, 3), (50, 4), (10, 5), (18, 6), (10, 7), (24, 8)];
+        const KINDS: [(u64, u32); 10] = [(30, 0), (12, 1), (10, 2), (6, 3), (50, 4), (10, 5), (18, 6), (10, 7), (24, 8), (60, 9)];
         self.limits()?;
         while self.calls < calls {
             match self.r.weighted(&KINDS) {
@@ -465,7 +486,8 @@ impl<W: Write> Campaigns<W> {
                 5 => self.epochs()?,
                 6 => self.layouts()?,
                 7 => self.lines()?,
-                _ => self.returning()?,
+                8 => self.returning()?,
+                _ => self.counts()?,
             }
         }
         self.out.flush()

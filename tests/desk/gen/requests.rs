@@ -1,4 +1,4 @@
-//! LAYOUTRETURN requests: error bodies, the fixed part around them, and damage to either.
+//! LAYOUTRETURN requests: error and statistics records, the fixed part around them, and damage to either.
 
 use crate::random::{damage, Device, Random, EDGES};
 
@@ -41,7 +41,53 @@ fn put_record(r: &mut Random, body: &mut Vec<u8>, devices: &[Device], errors: us
     }
 }
 
-/// Error records and statistics; `wrong` is how often, of a hundred, each count is not right.
+/// Lengths of an address part or a file handle: short ones, each padding, and about the limit of 128.
+const LENGTHS: [usize; 12] = [0, 1, 2, 3, 4, 5, 8, 20, 28, 126, 127, 128];
+/// Counts of bytes: small, and such that two of them pass 2^64 - 1 by one, end there, or stay below.
+const BYTES: [u64; 10] = [0, 0, 1, 4096, 0x8000_0000_0000_0000, 0x7fff_ffff_ffff_ffff, u64::MAX, u64::MAX - 1, u64::MAX - 4096, u64::MAX - 4095];
+
+/// A counted string with its padding; `wrong` is how often, of a hundred, it is too long or its padding is not zero.
+fn put_string(r: &mut Random, body: &mut Vec<u8>, wrong: u64) {
+    let length = if r.percent(wrong) { r.pick(&[129, 130, 132, 256]) } else { r.pick(&LENGTHS) };
+    put(body, length as u32);
+    body.extend(r.bytes(length));
+    let padding = (4 - length % 4) % 4;
+    body.extend(vec![0; padding]);
+    if padding > 0 && r.percent(wrong) {
+        let last = body.len() - 1 - r.size(padding);
+        body[last] = 1 << r.below(8);
+    }
+}
+
+/// A statistics record of a device: ff_iostats4, whose latencies are any bytes.
+fn put_statistic(r: &mut Random, body: &mut Vec<u8>, device: Device, wrong: u64) {
+    put_range(r, body);
+    body.extend(r.bytes(16));
+    for _ in 0..2 {
+        body.extend(r.pick(&EDGES).to_be_bytes());
+        body.extend(r.pick(&BYTES).to_be_bytes());
+    }
+    body.extend(device);
+    for _ in 0..3 {
+        put_string(r, body, wrong);
+    }
+    body.extend(r.bytes(140));
+    let local = r.below(2) as u32;
+    put(body, if r.percent(wrong) { r.pick(&[2, 256, 0x0100_0000, 0xffff_ffff]) } else { local });
+}
+
+/// So many statistics records, of a few of the devices, so that sums come about.
+fn put_statistics(r: &mut Random, body: &mut Vec<u8>, devices: &[Device], wrong: u64) {
+    let records = r.pick(&[0, 0, 0, 1, 1, 2, 3, 4, 8]);
+    let few = 1 + r.size(devices.len());
+    put(body, count(r, records, wrong));
+    for _ in 0..records {
+        let device = r.pick(&devices[..few]);
+        put_statistic(r, body, device, wrong);
+    }
+}
+
+/// Error records and statistics; `wrong` is how often, of a hundred, each count, string or boolean is not right.
 fn body(r: &mut Random, devices: &[Device], wrong: u64) -> Vec<u8> {
     let records = r.pick(&[0, 1, 1, 1, 2, 2, 3, 20]);
     let few = 1 + r.size(devices.len());
@@ -51,7 +97,7 @@ fn body(r: &mut Random, devices: &[Device], wrong: u64) -> Vec<u8> {
         let errors = r.pick(&[0, 1, 1, 1, 2, 3]);
         put_record(r, &mut body, &devices[..few], errors, wrong);
     }
-    put(&mut body, count(r, 0, wrong));
+    put_statistics(r, &mut body, devices, wrong);
     body
 }
 
