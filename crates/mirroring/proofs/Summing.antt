@@ -16,56 +16,54 @@ use Rattle.places.proofs.Loops.{mapAt, Mapping, mapped-at}
 use Rattle.mirroring.specs.Devices.{sameDevice}
 use Rattle.mirroring.specs.Mirrors.{isAt, noMirror}
 use Rattle.mirroring.specs.Totals.{most, cut, passes, cutSums, sumOf, totalsBy, noTotals}
-use Rattle.mirroring.specs.TotalsSteps.{sumAt, grownBy, passedBy, grownIn, passedIn, addedSums, addedTotals}
+use Rattle.mirroring.specs.TotalsSteps.{sumAt, sharesOf, grownBy, passedBy, grownIn, passedIn, addedSums, addedTotals}
 use Rattle.mirroring.specs.declared.mirrors.Mirror.{Mirror}
 use Rattle.mirroring.specs.declared.totals.Sums.{Sums}
 use Rattle.mirroring.specs.declared.totals.Totals.{Totals}
 
 -- ---- a sum
-grown-is : (k n : ℕ) (mine : Bool) → grownBy n mine (cut k) ≡ cut (k + cond mine n 0)
-grown-is k n false = rw add-zero
-grown-is k n true = by-past (ltb most k) refl
+grown-is : (k e : ℕ) → grownBy e (cut k) ≡ cut (k + e)
+grown-is k e = by-past (ltb most k) refl
   where
-    by-room : (b : Bool) → ltb (most - k) n ≡ b → k ≤ most → cond b most (k + n) ≡ cut (k + n)
-    by-room true e h = rw (lt-ltb most (k + n) (omega (arith, ltb-true (most - k) n e)))
-    by-room false e h = rw (le-ltb most (k + n) (omega (arith, ltb-false (most - k) n e)))
+    by-room : (b : Bool) → ltb (most - k) e ≡ b → k ≤ most → cond b most (k + e) ≡ cut (k + e)
+    by-room true q h = rw (lt-ltb most (k + e) (omega (arith, ltb-true (most - k) e q)))
+    by-room false q h = rw (le-ltb most (k + e) (omega (arith, ltb-false (most - k) e q)))
 
-    at-most : (b : Bool) → ltb (most - most) n ≡ b → cond b most (most + n) ≡ most
-    at-most true e = refl
-    at-most false e = omega (arith, ltb-false (most - most) n e)
+    at-most : (b : Bool) → ltb (most - most) e ≡ b → cond b most (most + e) ≡ most
+    at-most true q = refl
+    at-most false q = omega (arith, ltb-false (most - most) e q)
 
-    by-past : (b : Bool) → ltb most k ≡ b → cond (ltb (most - cond b most k) n) most (cond b most k + n) ≡ cut (k + n)
-    by-past true e = at-most (ltb (most - most) n) refl ∙ rw (lt-ltb most (k + n) (omega (arith, ltb-true most k e)))
-    by-past false e = by-room (ltb (most - k) n) refl (ltb-false most k e)
+    by-past : (b : Bool) → ltb most k ≡ b → cond (ltb (most - cond b most k) e) most (cond b most k + e) ≡ cut (k + e)
+    by-past true q = at-most (ltb (most - most) e) refl ∙ rw (lt-ltb most (k + e) (omega (arith, ltb-true most k q)))
+    by-past false q = by-room (ltb (most - k) e) refl (ltb-false most k q)
 
-passed-is : (k n : ℕ) (mine : Bool) → passedBy n mine (cut k) (passes k) ≡ passes (k + cond mine n 0)
-passed-is k n false = rw add-zero
-passed-is k n true = by-past (ltb most k) refl
+passed-is : (k e : ℕ) → passedBy e (cut k) (passes k) ≡ passes (k + e)
+passed-is k e = by-past (ltb most k) refl
   where
-    by-room : (b : Bool) → ltb (most - k) n ≡ b → k ≤ most → b ≡ passes (k + n)
-    by-room true e h = sym (lt-ltb most (k + n) (omega (arith, ltb-true (most - k) n e)))
-    by-room false e h = sym (le-ltb most (k + n) (omega (arith, ltb-false (most - k) n e)))
+    by-room : (b : Bool) → ltb (most - k) e ≡ b → k ≤ most → b ≡ passes (k + e)
+    by-room true q h = sym (lt-ltb most (k + e) (omega (arith, ltb-true (most - k) e q)))
+    by-room false q h = sym (le-ltb most (k + e) (omega (arith, ltb-false (most - k) e q)))
 
-    by-past : (b : Bool) → ltb most k ≡ b → cond b true (ltb (most - cond b most k) n) ≡ passes (k + n)
-    by-past true e = sym (lt-ltb most (k + n) (omega (arith, ltb-true most k e)))
-    by-past false e = by-room (ltb (most - k) n) refl (ltb-false most k e)
+    by-past : (b : Bool) → ltb most k ≡ b → cond b true (ltb (most - cond b most k) e) ≡ passes (k + e)
+    by-past true q = sym (lt-ltb most (k + e) (omega (arith, ltb-true most k q)))
+    by-past false q = by-room (ltb (most - k) e) refl (ltb-false most k q)
 
 -- ---- sums by place after one record: a m is the sum of the mirror m so far
 abbrev more : (Mirror → ℕ) → ℕ → ℕ → ℕ → Mirror → ℕ
 more a h l n m = a m + cond (isAt h l m) n 0
 
 module _ (a : Mirror → ℕ) (h l n : ℕ) where
-  grown-each : (ms : List Mirror) → grownIn ms h l n (map cut (map a ms)) ≡ map cut (map (more a h l n) ms)
-  unfolding grownIn
+  grown-each : (ms : List Mirror) → grownIn (sharesOf ms h l n) (map cut (map a ms)) ≡ map cut (map (more a h l n) ms)
+  unfolding grownIn sharesOf
   grown-each [] = refl
-  grown-each (m ∷ ms) = ap₂ {C = List ℕ} (λ b bs. b ∷ bs) (grown-is (a m) n (isAt h l m)) (grown-each ms)
+  grown-each (m ∷ ms) = ap₂ {C = List ℕ} (λ b bs. b ∷ bs) (grown-is (a m) (cond (isAt h l m) n 0)) (grown-each ms)
 
-  passed-each : (ms : List Mirror) → passedIn ms h l n (map cut (map a ms)) (map passes (map a ms)) ≡ map passes (map (more a h l n) ms)
-  unfolding passedIn
+  passed-each : (ms : List Mirror) → passedIn (sharesOf ms h l n) (map cut (map a ms)) (map passes (map a ms)) ≡ map passes (map (more a h l n) ms)
+  unfolding passedIn sharesOf
   passed-each [] = refl
-  passed-each (m ∷ ms) = ap₂ {C = List Bool} (λ b bs. b ∷ bs) (passed-is (a m) n (isAt h l m)) (passed-each ms)
+  passed-each (m ∷ ms) = ap₂ {C = List Bool} (λ b bs. b ∷ bs) (passed-is (a m) (cond (isAt h l m) n 0)) (passed-each ms)
 
-  added-each : (ms : List Mirror) → addedSums ms h l n (cutSums (map a ms)) ≡ cutSums (map (more a h l n) ms)
+  added-each : (ms : List Mirror) → addedSums (sharesOf ms h l n) (cutSums (map a ms)) ≡ cutSums (map (more a h l n) ms)
   added-each ms = ap₂ {C = Sums} (λ bs fs. record { bytes = bs; over = fs }) (grown-each ms) (passed-each ms)
 
 -- ---- all records
@@ -138,32 +136,43 @@ totals-are ms e ys =
     (same-sums _ _ (λ m. sum-is (λ y. y .written) m ys) ms)
 
 -- ---- the loops over the places
-module _ (ms : List Mirror) (h l n : ℕ) where
-  abbrev pub growing : ℕ → ℕ → ℕ
-  growing k b = grownBy n (isAt h l (getD ms k noMirror)) b
+abbrev pub sharing : List Mirror → ℕ → ℕ → ℕ → ℕ → ℕ → ℕ
+sharing ms h l n k x = cond (isAt h l (getD ms k noMirror)) n 0
 
-  abbrev pub passing : List ℕ → ℕ → Bool → Bool
-  passing bs k up = passedBy n (isAt h l (getD ms k noMirror)) (getD bs k 0) up
+abbrev pub growing : List ℕ → ℕ → ℕ → ℕ
+growing es k b = grownBy (getD es k 0) b
 
-grown-places : (ms : List Mirror) (h l n : ℕ) (bs : List ℕ) → length ms ≡ length bs → mapAt (growing ms h l n) bs ≡ grownIn ms h l n bs
+abbrev pub passing : List ℕ → List ℕ → ℕ → Bool → Bool
+passing es bs k up = passedBy (getD es k 0) (getD bs k 0) up
+
+shared-places : (ms : List Mirror) (h l n : ℕ) (es : List ℕ) → length ms ≡ length es → mapAt (sharing ms h l n) es ≡ map (λ m. cond (isAt h l m) n 0) ms
+unfolding mapAt
+shared-places [] h l n [] e = refl
+shared-places (m ∷ ms) h l n [] e = absurd (omega (arith, e))
+shared-places [] h l n (x ∷ es) e = absurd (omega (arith, e))
+shared-places (m ∷ ms) h l n (x ∷ es) e = ap {B = List ℕ} (λ t. cond (isAt h l m) n 0 ∷ t) (shared-places ms h l n es (omega (arith, e)))
+
+grown-places : (es bs : List ℕ) → length es ≡ length bs → mapAt (growing es) bs ≡ grownIn es bs
 unfolding mapAt grownIn
-grown-places ms h l n [] e = refl
-grown-places [] h l n (b ∷ bs) e = absurd (omega (arith, e))
-grown-places (m ∷ ms) h l n (b ∷ bs) e = ap {B = List ℕ} (λ t. grownBy n (isAt h l m) b ∷ t) (grown-places ms h l n bs (omega (arith, e)))
+grown-places es [] e = refl
+grown-places [] (b ∷ bs) e = absurd (omega (arith, e))
+grown-places (x ∷ es) (b ∷ bs) e = ap {B = List ℕ} (λ t. grownBy x b ∷ t) (grown-places es bs (omega (arith, e)))
 
-passed-places : (ms : List Mirror) (h l n : ℕ) (bs : List ℕ) (fs : List Bool) → length ms ≡ length fs → length bs ≡ length fs
-    → mapAt (passing ms h l n bs) fs ≡ passedIn ms h l n bs fs
+passed-places : (es bs : List ℕ) (fs : List Bool) → length es ≡ length fs → length bs ≡ length fs → mapAt (passing es bs) fs ≡ passedIn es bs fs
 unfolding mapAt passedIn
-passed-places ms h l n bs [] e q = refl
-passed-places [] h l n bs (f ∷ fs) e q = absurd (omega (arith, e))
-passed-places (m ∷ ms) h l n [] (f ∷ fs) e q = absurd (omega (arith, q))
-passed-places (m ∷ ms) h l n (b ∷ bs) (f ∷ fs) e q =
-    ap {B = List Bool} (λ t. passedBy n (isAt h l m) b f ∷ t) (passed-places ms h l n bs fs (omega (arith, e)) (omega (arith, q)))
+passed-places es bs [] e q = refl
+passed-places [] bs (f ∷ fs) e q = absurd (omega (arith, e))
+passed-places (x ∷ es) [] (f ∷ fs) e q = absurd (omega (arith, q))
+passed-places (x ∷ es) (b ∷ bs) (f ∷ fs) e q = ap {B = List Bool} (λ t. passedBy x b f ∷ t) (passed-places es bs fs (omega (arith, e)) (omega (arith, q)))
 
-pub mapped-grown : (ms : List Mirror) (h l n : ℕ) (bs : List ℕ) {cs : List ℕ} {i : ℕ} → Mapping (growing ms h l n) bs cs i → length ms ≡ length bs → length bs ≤ i
-    → cs ≡ grownIn ms h l n bs
-mapped-grown ms h l n bs s e k = mapped-at s k ∙ grown-places ms h l n bs e
+pub mapped-shared : (ms : List Mirror) (h l n : ℕ) (es : List ℕ) {fs : List ℕ} {i : ℕ} → Mapping (sharing ms h l n) es fs i → length ms ≡ length es → length es ≤ i
+    → fs ≡ sharesOf ms h l n
+unfolding sharesOf
+mapped-shared ms h l n es s e k = mapped-at s k ∙ shared-places ms h l n es e
 
-pub mapped-passed : (ms : List Mirror) (h l n : ℕ) (bs : List ℕ) (fs : List Bool) {gs : List Bool} {i : ℕ} → Mapping (passing ms h l n bs) fs gs i
-    → length ms ≡ length fs → length bs ≡ length fs → length fs ≤ i → gs ≡ passedIn ms h l n bs fs
-mapped-passed ms h l n bs fs s e q k = mapped-at s k ∙ passed-places ms h l n bs fs e q
+pub mapped-grown : (es bs : List ℕ) {cs : List ℕ} {i : ℕ} → Mapping (growing es) bs cs i → length es ≡ length bs → length bs ≤ i → cs ≡ grownIn es bs
+mapped-grown es bs s e k = mapped-at s k ∙ grown-places es bs e
+
+pub mapped-passed : (es bs : List ℕ) (fs : List Bool) {gs : List Bool} {i : ℕ} → Mapping (passing es bs) fs gs i → length es ≡ length fs → length bs ≡ length fs
+    → length fs ≤ i → gs ≡ passedIn es bs fs
+mapped-passed es bs fs s e q k = mapped-at s k ∙ passed-places es bs fs e q

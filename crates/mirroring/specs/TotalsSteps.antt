@@ -21,26 +21,29 @@ unfoldable pub mirrorTotals : List Mirror → Report → Totals
 mirrorTotals ms (Whole xs ys) = totalsBy (λ g. map (sumAt g ys) ms)
 mirrorTotals ms Malformed = noTotals
 
--- ---- one record more: n bytes, where they are the mirror's
-abbrev pub grownBy : ℕ → Bool → ℕ → ℕ
-grownBy n mine b = cond mine (cond (ltb (most - b) n) most (b + n)) b
+-- ---- one record more: what it adds to each mirror's sum
+unfoldable pub sharesOf : List Mirror → ℕ → ℕ → ℕ → List ℕ
+sharesOf ms h l n = map (λ m. cond (isAt h l m) n 0) ms
 
-abbrev pub passedBy : ℕ → Bool → ℕ → Bool → Bool
-passedBy n mine b up = cond mine (cond up true (ltb (most - b) n)) up
+abbrev pub grownBy : ℕ → ℕ → ℕ
+grownBy e b = cond (ltb (most - b) e) most (b + e)
 
-unfoldable pub grownIn : List Mirror → ℕ → ℕ → ℕ → List ℕ → List ℕ
-grownIn ms h l n [] = []
-grownIn [] h l n (b ∷ bs) = b ∷ bs
-grownIn (m ∷ ms) h l n (b ∷ bs) = grownBy n (isAt h l m) b ∷ grownIn ms h l n bs
+abbrev pub passedBy : ℕ → ℕ → Bool → Bool
+passedBy e b up = cond up true (ltb (most - b) e)
 
-unfoldable pub passedIn : List Mirror → ℕ → ℕ → ℕ → List ℕ → List Bool → List Bool
-passedIn ms h l n bs [] = []
-passedIn [] h l n bs (up ∷ ups) = up ∷ ups
-passedIn (m ∷ ms) h l n [] (up ∷ ups) = up ∷ ups
-passedIn (m ∷ ms) h l n (b ∷ bs) (up ∷ ups) = passedBy n (isAt h l m) b up ∷ passedIn ms h l n bs ups
+unfoldable pub grownIn : List ℕ → List ℕ → List ℕ
+grownIn es [] = []
+grownIn [] (b ∷ bs) = b ∷ bs
+grownIn (e ∷ es) (b ∷ bs) = grownBy e b ∷ grownIn es bs
 
-abbrev pub addedSums : List Mirror → ℕ → ℕ → ℕ → Sums → Sums
-addedSums ms h l n t = record { bytes = grownIn ms h l n (t .bytes); over = passedIn ms h l n (t .bytes) (t .over) }
+unfoldable pub passedIn : List ℕ → List ℕ → List Bool → List Bool
+passedIn es bs [] = []
+passedIn [] bs (up ∷ ups) = up ∷ ups
+passedIn (e ∷ es) [] (up ∷ ups) = up ∷ ups
+passedIn (e ∷ es) (b ∷ bs) (up ∷ ups) = passedBy e b up ∷ passedIn es bs ups
+
+abbrev pub addedSums : List ℕ → Sums → Sums
+addedSums es t = record { bytes = grownIn es (t .bytes); over = passedIn es (t .bytes) (t .over) }
 
 abbrev pub addedTotals : List Mirror → ℕ → ℕ → ℕ → ℕ → Totals → Totals
-addedTotals ms h l r w t = record { read = addedSums ms h l r (t .read); written = addedSums ms h l w (t .written) }
+addedTotals ms h l r w t = record { read = addedSums (sharesOf ms h l r) (t .read); written = addedSums (sharesOf ms h l w) (t .written) }

@@ -2,7 +2,8 @@
 use crate::mirrors::Mirror;
 ghost use mathlib.Core.Path.{_≡_};
 ghost use Rattle.mirroring.specs.Totals.{cutSums, noSums, noTotals};
-ghost use Rattle.mirroring.specs.TotalsSteps.{grownBy, passedBy, grownIn, passedIn, addedSums, addedTotals};
+ghost use Rattle.mirroring.specs.TotalsSteps.{sharesOf, grownBy, passedBy, grownIn, passedIn, addedSums, addedTotals};
+ghost use mathlib.Core.Bool.{cond};
 
 // How many places a file has for mirrors.
 pub const PLACES: usize = 4;
@@ -24,68 +25,67 @@ pub struct Totals {
     pub written: Sums,
 }
 
-// A sum with `n` bytes more, if they are its mirror's.
-fn grown_by(n: u64, mine: bool, sum: u64) -> u64
-    ensures { λ r. ⌜ r ≡ grownBy n mine sum ⌝ }
+// What a record of `n` bytes adds to a mirror's sum.
+fn share(mine: bool, n: u64) -> u64
+    ensures { λ r. ⌜ r ≡ cond mine n 0 ⌝ }
 {
-    if !mine {
-        return sum;
-    }
-    if MOST - sum < n {
+    if mine { n } else { 0 }
+}
+
+// A sum with `more` bytes.
+fn grown_by(more: u64, sum: u64) -> u64
+    ensures { λ r. ⌜ r ≡ grownBy more sum ⌝ }
+{
+    if MOST - sum < more {
         return MOST;
     }
-    sum + n
+    sum + more
 }
 
 // Whether the sum has passed 2^64 - 1 by then.
-fn passed_by(n: u64, mine: bool, sum: u64, over: bool) -> bool
-    ensures { λ r. ⌜ r ≡ passedBy n mine sum over ⌝ }
+fn passed_by(more: u64, sum: u64, over: bool) -> bool
+    ensures { λ r. ⌜ r ≡ passedBy more sum over ⌝ }
 {
-    if !mine {
-        return over;
-    }
-    if over { true } else { MOST - sum < n }
+    if over { true } else { MOST - sum < more }
 }
 
-// Each mirror's sum after one record more; each place is written by its own number, which the compiler can keep in registers.
-fn grown(
-    mirrors: [Mirror; PLACES],
-    sums: [u64; PLACES],
-    high: u64,
-    low: u64,
-    n: u64,
-) -> [u64; PLACES]
-    ensures { λ r. ⌜ r ≡ grownIn mirrors high low n sums ⌝ }
+// What a record of `n` bytes adds to each mirror's sum. Here and below each place is written by its own number, which the compiler can keep in registers.
+fn shares(mirrors: [Mirror; PLACES], high: u64, low: u64, n: u64) -> [u64; PLACES]
+    ensures { λ r. ⌜ r ≡ sharesOf mirrors high low n ⌝ }
+{
+    let mut es = [0u64; PLACES];
+    let mut i: usize = 0;
+    while i < PLACES {
+        let m = mirrors[i];
+        let e = share(m.is(high, low), n);
+        es[i] = e;
+        i = i + 1;
+    }
+    es
+}
+
+// Each sum with what is added to it.
+fn grown(extra: [u64; PLACES], sums: [u64; PLACES]) -> [u64; PLACES]
+    ensures { λ r. ⌜ r ≡ grownIn extra sums ⌝ }
 {
     let mut bs = sums;
     let mut i: usize = 0;
     while i < PLACES {
-        let m = mirrors[i];
-        let mine = m.is(high, low);
-        let b = grown_by(n, mine, bs[i]);
+        let b = grown_by(extra[i], bs[i]);
         bs[i] = b;
         i = i + 1;
     }
     bs
 }
 
-// And each mirror's flag.
-fn passed(
-    mirrors: [Mirror; PLACES],
-    sums: [u64; PLACES],
-    flags: [bool; PLACES],
-    high: u64,
-    low: u64,
-    n: u64,
-) -> [bool; PLACES]
-    ensures { λ r. ⌜ r ≡ passedIn mirrors high low n sums flags ⌝ }
+// And each sum's flag.
+fn passed(extra: [u64; PLACES], sums: [u64; PLACES], flags: [bool; PLACES]) -> [bool; PLACES]
+    ensures { λ r. ⌜ r ≡ passedIn extra sums flags ⌝ }
 {
     let mut fs = flags;
     let mut i: usize = 0;
     while i < PLACES {
-        let m = mirrors[i];
-        let mine = m.is(high, low);
-        let f = passed_by(n, mine, sums[i], fs[i]);
+        let f = passed_by(extra[i], sums[i], fs[i]);
         fs[i] = f;
         i = i + 1;
     }
@@ -105,13 +105,13 @@ impl Sums {
     }
 
     // One record more.
-    pub(crate) fn add(self, mirrors: [Mirror; PLACES], high: u64, low: u64, n: u64) -> Sums
-        ensures { λ r. ⌜ r ≡ addedSums mirrors high low n self ⌝ }
+    pub(crate) fn add(self, extra: [u64; PLACES]) -> Sums
+        ensures { λ r. ⌜ r ≡ addedSums extra self ⌝ }
     {
         let sums = self.bytes;
         let flags = self.over;
-        let fs = passed(mirrors, sums, flags, high, low, n);
-        let bs = grown(mirrors, sums, high, low, n);
+        let fs = passed(extra, sums, flags);
+        let bs = grown(extra, sums);
         Sums {
             bytes: bs,
             over: fs,
@@ -144,8 +144,8 @@ impl Totals {
     {
         let r = self.read;
         let w = self.written;
-        let rs = r.add(mirrors, high, low, read);
-        let ws = w.add(mirrors, high, low, written);
+        let rs = r.add(shares(mirrors, high, low, read));
+        let ws = w.add(shares(mirrors, high, low, written));
         Totals {
             read: rs,
             written: ws,

@@ -1,45 +1,41 @@
 -- The loop maps by place: `Mapping` holds at its head.
 use mathlib.Core.Path.{_≡_, sym, ap, _∙_}
-use mathlib.Core.Bool.{Bool, false}
+use mathlib.Core.Bool.{Bool, false, cond}
 use Prim.Native.Nat.{_-_}
 use lib.ListN.{length, getD}
 use Rattle.places.proofs.Loops.{mapped-length, Mapping, mapping-none, mapping-more}
 use Rattle.mirroring.proofs.Summing.{growing, mapped-grown}
-use Rattle.mirroring.specs.TotalsSteps.{grownBy}
 use native.Mathlib.Omega.{arith}
 use borrow.Author.Needs.{needs}
 use Rattle.mirroring.proofs.totals.grown.Statement.{statement}
 use Rattle.mirroring.proofs.totals.grown.Tie as tie
 
 abbrev Inv-loop : tie.InvT-loop
-Inv-loop high low n mirrors bs₀ i₀ bs i = Mapping (growing mirrors high low n) bs₀ bs i
+Inv-loop extra bs₀ i₀ bs i = Mapping (growing extra) bs₀ bs i
 
 abbrev μ-loop : tie.MeasureT-loop
-μ-loop high low n mirrors bs₀ i₀ bs i = 4 - i
+μ-loop extra bs₀ i₀ bs i = 4 - i
 
 long : (c : tie.Start Inv-loop μ-loop) → length (c .args .sums) ≡ 4
 long c = search needs
 
-mirrors-long : (c : tie.Start Inv-loop μ-loop) → length (c .args .t1) ≡ 4
-mirrors-long c = search (mapped-length, needs)
+extra-long : (c : tie.Start Inv-loop μ-loop) → length (c .args .t1) ≡ 4
+extra-long c = search needs
 
 loop-holds : tie.Need-loop-holds Inv-loop μ-loop
 loop-holds c = mapping-none _ _
-
-mul-m : tie.Need-mul-m Inv-loop μ-loop
-mul-m c = omega arith
-
-array-copy-out-m : tie.Need-array-copy-out-m Inv-loop μ-loop
-array-copy-out-m c = omega arith
-
-is-requires : tie.Need-is-requires Inv-loop μ-loop
-is-requires c κs = search needs
 
 mul-grown-by : tie.Need-mul-grown-by Inv-loop μ-loop
 mul-grown-by c = omega arith
 
 array-read-grown-by : tie.Need-array-read-grown-by Inv-loop μ-loop
 array-read-grown-by c = omega arith
+
+mul-grown-by-2 : tie.Need-mul-grown-by-2 Inv-loop μ-loop
+mul-grown-by-2 c = omega arith
+
+array-read-grown-by-2 : tie.Need-array-read-grown-by-2 Inv-loop μ-loop
+array-read-grown-by-2 c = omega arith
 
 grown-by-requires : tie.Need-grown-by-requires Inv-loop μ-loop
 grown-by-requires c κs = search needs
@@ -58,14 +54,12 @@ loop-less c = omega arith
 
 loop-again : tie.Need-loop-again Inv-loop μ-loop
 loop-again c =
-    let s = c .before .before .before .before .before in
-    let l = c .before .before .before .before .loop in
-    mapping-more (l .inv) 0 (omega (arith, long s)) _ (c .grown-by .ensures ∙ ap (λ (b : Bool). grownBy (s .args .n) b (getD (l .bs) (l .i) 0)) (c .before .is .ensures))
+    mapping-more (c .before .before .loop .inv) 0 (omega (arith, long (c .before .before .before))) _ (c .grown-by .ensures)
 
 returns : tie.Need-returns Inv-loop μ-loop
 returns c =
     let s = c .before .before in
-    mapped-grown (s .args .t1) (s .args .high) (s .args .low) (s .args .n) (s .args .sums) (c .before .loop .inv) (mirrors-long s ∙ sym (long s)) (omega (arith, long s))
+    mapped-grown (s .args .t1) (s .args .sums) (c .before .loop .inv) (extra-long s ∙ sym (long s)) (omega (arith, long s))
 
 pub grown-spec : {M : Type 1} → statement M
 grown-spec =
@@ -74,11 +68,10 @@ grown-spec =
     Inv-loop
     μ-loop
     loop-holds
-    mul-m
-    array-copy-out-m
-    is-requires
     mul-grown-by
     array-read-grown-by
+    mul-grown-by-2
+    array-read-grown-by-2
     grown-by-requires
     mul-bs
     array-write-bs
