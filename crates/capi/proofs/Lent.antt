@@ -2,7 +2,7 @@
 use mathlib.Core.Path.{_≡_, refl, sym, ap, _∙_}
 use mathlib.Core.List.{List, [], _∷_}
 use mathlib.Core.Bool.{Bool, true, false, cond, _||_}
-use Prim.Native.Nat.{ℕ, suc, _+_, _≤_, _<_, _^_}
+use Prim.Native.Nat.{ℕ, _+_, _≤_}
 use native.Mathlib.Omega.{arith}
 use native.Mathlib.Decide.{ℕ-discrete}
 use lib.ListN.{length, getD, replicate, List·getD-eq-default}
@@ -11,7 +11,7 @@ use borrow.Author.Tests.{lt-ltb, le-ltb, ltb-true, ltb-false, eq-eqb, ne-eqb}
 use Rattle.places.specs.Lists.{fill}
 use Rattle.places.proofs.Loops.{mapAt, Mapping, mapped-at}
 use Rattle.masks.specs.Mask.{has, setOf, plus}
-use Rattle.masks.proofs.Laws.{has-of, set-lt, set-ext, is-set, has-zero, has-plus, plus-lt}
+use Rattle.masks.proofs.Laws.{has-of, set-ext, is-set, has-zero, has-plus, plus-lt}
 use Rattle.capi.specs.Lent.{columnOf, maskOf}
 
 -- ---- a column

@@ -3,12 +3,11 @@ use mathlib.Core.Path.{_≡_, refl, ap, sym, _∙_}
 use mathlib.Core.List.{List, []}
 use mathlib.Core.Bool.{Bool, true, false, cond}
 use Prim.Native.Nat.{ℕ}
-use lib.ListN.{getD, length}
+use lib.ListN.{length}
 use lib.Seq.{set-getD}
 use lib.Dec.{eqb, ltb}
 use Rattle.reports.specs.Statistics.{Statistic}
-use Rattle.reports.specs.Report.{Report, Whole, Malformed, reportOf, over}
-use Rattle.reports.specs.StatisticsSteps.{errorsOf}
+use Rattle.reports.specs.Report.{Report, Whole, Malformed, reportOf, withoutStatistics, over}
 use Rattle.wire.specs.Reply.{replyIn}
 use Rattle.wire.specs.Request.{requestOf, bodyOf}
 use Rattle.wire.specs.declared.request.Request.{Request}
@@ -33,7 +32,7 @@ abbrev quiet : Heard → Heard
 quiet h = withTotals noTotals h
 
 module _ (n c : ℕ) (f : File) where
-  quiet-report : (p : Report) → quiet (reportHeard n c p f) ≡ quiet (reportHeard n c (errorsOf p) f)
+  quiet-report : (p : Report) → quiet (reportHeard n c p f) ≡ quiet (reportHeard n c (withoutStatistics p) f)
   unfolding reportHeard heardOf errorsHeard
   quiet-report Malformed = refl
   quiet-report (Whole xs ys) = by _ _ (errorsHeard (f .mirrors) (Whole xs ys)) (eqb (errorsHeard (f .mirrors) (Whole xs ys) .status) 0) (isFile n f) (isFound (first (isIntent c) (f .intents)))
@@ -46,7 +45,7 @@ module _ (n c : ℕ) (f : File) where
       by t u h true true false = refl
       by t u h true true true = refl
 
-  same-report : (p q : Report) → errorsOf p ≡ errorsOf q → quiet (reportHeard n c p f) ≡ quiet (reportHeard n c q f)
+  same-report : (p q : Report) → withoutStatistics p ≡ withoutStatistics q → quiet (reportHeard n c p f) ≡ quiet (reportHeard n c q f)
   same-report p q e = quiet-report p ∙ ap (λ (x : Report). quiet (reportHeard n c x f)) e ∙ sym (quiet-report q)
 
   module _ (h : Head) where
@@ -55,7 +54,7 @@ module _ (n c : ℕ) (f : File) where
     asked-kind s request.Bulk = refl
     asked-kind s (request.File a k) = refl
 
-    module _ (s t : List ℕ) (e : errorsOf (reportOf (bodyOf s)) ≡ errorsOf (reportOf (bodyOf t))) where
+    module _ (s t : List ℕ) (e : withoutStatistics (reportOf (bodyOf s)) ≡ withoutStatistics (reportOf (bodyOf t))) where
       asked-alike : (q : Request) → quiet (asksHeard n h c s f q) ≡ quiet (asksHeard n h c t f q)
       asked-alike (request.Refused k) = refl
       asked-alike request.Bulk = refl

@@ -7,12 +7,11 @@ use Prim.Native.Nat.{ℕ, _<_}
 use native.Mathlib.Omega.{arith}
 use lib.ListN.{length, length-set}
 use lib.Dec.{eqb}
-use Rattle.reports.specs.Device.{Device}
 use Rattle.reports.specs.Statistics.{Statistic}
 use Rattle.reports.specs.Report.{DeviceError, Whole, Malformed, over}
 use Rattle.places.specs.Lists.{any, with}
 use Rattle.places.specs.Places.{first}
-use Rattle.mirroring.specs.Devices.{deviceOf, isMirror, placeOf}
+use Rattle.mirroring.specs.Devices.{deviceOf, placeOf}
 use Rattle.mirroring.specs.Mirrors.{isDevice, accused}
 use Rattle.mirroring.specs.Blame.{heardNothing, faultAt, toldAt, toldOf, told, errorsHeard, heardOf}
 use Rattle.mirroring.specs.TotalsSteps.{mirrorTotals}
@@ -23,7 +22,7 @@ use Rattle.mirroring.specs.declared.blame.Heard.{Heard}
 use Rattle.files.specs.declared.file.File.{File}
 use Rattle.places.specs.declared.Found.{Found}
 use Rattle.places.specs.declared.Found.the-variants.{At, Nothing}
-use Rattle.places.proofs.Sets.{true-false, none-first}
+use Rattle.places.proofs.Sets.{none-first}
 use Rattle.places.proofs.Slots.{Slots}
 use Rattle.mirroring.proofs.Copies.{Copies, MirrorIs, NoMirror, known, placed, none-accused, flag-raised}
 use Rattle.files.specs.declared.head.Edition.the-variants.{Current}

@@ -1,12 +1,12 @@
 -- LAYOUTRETURN on the record: its answer, its reply and the record that it leaves are what the ledger says. In this order: refusals of steps 1 and 2; steps 5 to
 -- 7; steps 1 to 7; the answer.
-use mathlib.Core.Path.{_≡_, refl, ap, sym, _∙_}
-use mathlib.Core.List.{List, [], _∷_, _++_}
-use mathlib.Core.Bool.{Bool, true, false, not, cond, _&&_}
+use mathlib.Core.Path.{_≡_, refl, ap, _∙_}
+use mathlib.Core.List.{List}
+use mathlib.Core.Bool.{Bool, true, false, not, cond}
 use Prim.Native.Nat.{ℕ, _<_}
 use native.Mathlib.Omega.{arith}
-use lib.Dec.{eqb, leb}
-use borrow.Author.Tests.{eqb-true, ne-eqb}
+use lib.Dec.{eqb}
+use borrow.Author.Tests.{ne-eqb}
 use Rattle.reports.specs.Report.{DeviceError, Report, Whole, Malformed, reportOf}
 use Rattle.wire.specs.Request.{requestOf, bodyOf}
 use Rattle.wire.specs.Reply.{replyIn}
@@ -14,19 +14,17 @@ use Rattle.wire.specs.declared.request.Request.{Request}
 use Rattle.wire.specs.declared.request.Request.the-variants as request
 use Rattle.wire.proofs.Requests.{cond-below, refused-number, refused-small}
 use Rattle.places.specs.Lists.{any}
-use Rattle.places.specs.Places.{first}
-use Rattle.intents.specs.Intents.{isIntent}
 use Rattle.mirroring.specs.Totals.{noTotals}
 use Rattle.mirroring.specs.declared.totals.Totals.{Totals}
 use Rattle.files.specs.Head.{isOld}
 use Rattle.files.specs.declared.head.Edition.{Edition}
-use Rattle.files.specs.File.{isFile, fileAnswered, heededFile, heeds, reportHeard, asksHeard, handedOnCode}
+use Rattle.files.specs.File.{heeds, reportHeard, asksHeard, handedOnCode}
 use Rattle.files.specs.declared.file.File.{File}
 use Rattle.files.specs.declared.file.FileAnswered.{FileAnswered}
 use Rattle.files.specs.declared.head.Head.{Head}
 use Rattle.files.proofs.Heeding.{nothing-heeded}
 use Rattle.recovery.specs.Calls.{Answer, replied, handedOn}
-use Rattle.ledger.specs.Ledger.{Row, Ledger, registered, rowOf, holds, refused, intentRules, reportRules, judgeRequest, refusal, rowTotals, isFault, isStranger, blame, withMark, withBlame, reported, errorsOf, onRow}
+use Rattle.ledger.specs.Ledger.{Row, Ledger, registered, rowOf, holds, refused, intentRules, reportRules, judgeRequest, refusal, isFault, isStranger, blame, withMark, withBlame, reported, errorsOf, onRow}
 use Rattle.recovery.specs.Record.{fileAt, onPlace}
 use Rattle.recovery.specs.declared.record.Record.{Record}
 use Rattle.ledger.proofs.Relation.{Matches, RecordAgrees}

@@ -4,8 +4,7 @@ use mathlib.Core.Path.{_≡_}
 use mathlib.Core.List.{List, []}
 use Prim.Native.Nat.{ℕ}
 use Rattle.reports.specs.Statistics.{Statistic}
-use Rattle.reports.specs.Report.{Whole, reportOf}
-use Rattle.reports.specs.StatisticsSteps.{errorsOf}
+use Rattle.reports.specs.Report.{Whole, reportOf, withoutStatistics}
 use Rattle.wire.specs.Request.{requestOf, bodyOf}
 use Rattle.wire.specs.declared.request.Request.{Request}
 use Rattle.wire.specs.declared.request.Request.the-variants as request
@@ -23,7 +22,7 @@ kindOf (request.File anonymous len) = request.File anonymous 0
 -- they are read alike, and their bodies hold the same device errors in the same order, or are both malformed
 pub record SameButStatistics (s t : List ℕ) : Type 0 where
   pub kind : kindOf (requestOf s) ≡ kindOf (requestOf t)
-  pub errors : errorsOf (reportOf (bodyOf s)) ≡ errorsOf (reportOf (bodyOf t))
+  pub errors : withoutStatistics (reportOf (bodyOf s)) ≡ withoutStatistics (reportOf (bodyOf t))
 
 abbrev pub withoutTotals : Answer → Answer
 withoutTotals (said k) = said k

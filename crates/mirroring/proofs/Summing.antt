@@ -9,7 +9,7 @@ use native.Mathlib.Nat.{add-assoc, add-zero}
 use borrow.Author.Tests.{lt-ltb, le-ltb, ltb-true, ltb-false}
 use lib.ListN.{length, replicate, getD}
 use lib.Dec.{ltb}
-use Rattle.reports.specs.Device.{Device, halves}
+use Rattle.reports.specs.Device.{halves}
 use Rattle.reports.specs.Statistics.{Statistic}
 use Rattle.reports.specs.Report.{over}
 use Rattle.places.proofs.Loops.{mapAt, Mapping, mapped-at}
@@ -22,31 +22,31 @@ use Rattle.mirroring.specs.declared.totals.Sums.{Sums}
 use Rattle.mirroring.specs.declared.totals.Totals.{Totals}
 
 -- ---- a sum
+-- there is no room for e more in k exactly where k + e is too much
+no-room : (k e : ℕ) → k ≤ most → ltb (most - k) e ≡ ltb most (k + e)
+no-room k e h = by (ltb (most - k) e) refl
+  where
+    by : (b : Bool) → ltb (most - k) e ≡ b → b ≡ ltb most (k + e)
+    by true q = sym (lt-ltb most (k + e) (omega (arith, ltb-true (most - k) e q)))
+    by false q = sym (le-ltb most (k + e) (omega (arith, ltb-false (most - k) e q)))
+
 grown-is : (k e : ℕ) → grownBy e (cut k) ≡ cut (k + e)
 grown-is k e = by-past (ltb most k) refl
   where
-    by-room : (b : Bool) → ltb (most - k) e ≡ b → k ≤ most → cond b most (k + e) ≡ cut (k + e)
-    by-room true q h = rw (lt-ltb most (k + e) (omega (arith, ltb-true (most - k) e q)))
-    by-room false q h = rw (le-ltb most (k + e) (omega (arith, ltb-false (most - k) e q)))
-
     at-most : (b : Bool) → ltb (most - most) e ≡ b → cond b most (most + e) ≡ most
     at-most true q = refl
     at-most false q = omega (arith, ltb-false (most - most) e q)
 
     by-past : (b : Bool) → ltb most k ≡ b → cond (ltb (most - cond b most k) e) most (cond b most k + e) ≡ cut (k + e)
     by-past true q = at-most (ltb (most - most) e) refl ∙ rw (lt-ltb most (k + e) (omega (arith, ltb-true most k q)))
-    by-past false q = by-room (ltb (most - k) e) refl (ltb-false most k q)
+    by-past false q = rw (no-room k e (ltb-false most k q))
 
 passed-is : (k e : ℕ) → passedBy e (cut k) (passes k) ≡ passes (k + e)
 passed-is k e = by-past (ltb most k) refl
   where
-    by-room : (b : Bool) → ltb (most - k) e ≡ b → k ≤ most → b ≡ passes (k + e)
-    by-room true q h = sym (lt-ltb most (k + e) (omega (arith, ltb-true (most - k) e q)))
-    by-room false q h = sym (le-ltb most (k + e) (omega (arith, ltb-false (most - k) e q)))
-
     by-past : (b : Bool) → ltb most k ≡ b → cond b true (ltb (most - cond b most k) e) ≡ passes (k + e)
     by-past true q = sym (lt-ltb most (k + e) (omega (arith, ltb-true most k q)))
-    by-past false q = by-room (ltb (most - k) e) refl (ltb-false most k q)
+    by-past false q = no-room k e (ltb-false most k q)
 
 -- ---- sums by place after one record: a m is the sum of the mirror m so far
 abbrev more : (Mirror → ℕ) → ℕ → ℕ → ℕ → Mirror → ℕ

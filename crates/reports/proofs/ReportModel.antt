@@ -6,14 +6,14 @@ use mathlib.Core.List.{List, [], _∷_, _++_}
 use mathlib.Core.Bool.{Bool, true, false, cond}
 use native.Mathlib.Omega.{arith}
 use borrow.Author.Tests.{lt-ltb, le-ltb, ltb-false}
-use lib.ListN.{length, take, drop, length-drop}
+use lib.ListN.{length, drop, length-drop}
 use lib.Seq.{drop-drop}
 use lib.Dec.{ltb, eqb}
 use Rattle.xdr.specs.Be.{beNat}
 use Rattle.reports.specs.Reader.{Read, Got, Bad, Reader, onward, _>>=_, give, number, inTurn, counted}
-use Rattle.reports.specs.Report.{Report, Whole, Malformed, DeviceError, Contents, deviceError, ioerr, layoutreturn, joined, judged, reportOf, statusOf}
+use Rattle.reports.specs.Report.{Report, Whole, Malformed, DeviceError, Contents, deviceError, ioerr, layoutreturn, joined, judged, reportOf, withoutErrors}
 use Rattle.reports.specs.Statistics.{Statistic, iostats}
-use Rattle.reports.specs.StatisticsSteps.{pastOf, statisticsOf, tailOf}
+use Rattle.reports.specs.StatisticsSteps.{pastOf, tailOf}
 use Rattle.reports.specs.declared.fields.Past.{Past}
 use Rattle.reports.specs.declared.fields.Past.the-variants as past
 use Rattle.reports.specs.ReportSteps.{naming, errorIn, statistics, devices, records}
@@ -143,20 +143,20 @@ pub no-errors-read : (s : List ℕ) → counted ioerr s ≡ Bad → reportOf s �
 unfolding reportOf layoutreturn
 no-errors-read s e = rw e
 
-statistics-read : (rs : List (List DeviceError)) (t : List ℕ) → statisticsOf (judged (with-statistics rs t)) ≡ tailOf (counted (λ _. iostats) t)
+statistics-read : (rs : List (List DeviceError)) (t : List ℕ) → withoutErrors (judged (with-statistics rs t)) ≡ tailOf (counted (λ _. iostats) t)
 unfolding with-statistics
 statistics-read rs t = by-rest (counted (λ _. iostats) t)
   where
-    by-end : (ys : List Statistic) (b : Bool) → statisticsOf (cond b (Whole (joined rs) ys) Malformed) ≡ cond b (Whole [] ys) Malformed
+    by-end : (ys : List Statistic) (b : Bool) → withoutErrors (cond b (Whole (joined rs) ys) Malformed) ≡ cond b (Whole [] ys) Malformed
     by-end ys true = refl
     by-end ys false = refl
 
-    by-rest : (r : Read (List Statistic)) → statisticsOf (judged (onward r (λ ys. give (record { records = rs; statistics = ys })))) ≡ tailOf r
+    by-rest : (r : Read (List Statistic)) → withoutErrors (judged (onward r (λ ys. give (record { records = rs; statistics = ys })))) ≡ tailOf r
     by-rest Bad = refl
     by-rest (Got ys u) = by-end ys (eqb (length u) 0)
 
 -- the statistics of a report are those of what its error records leave
-pub rest-is : (s : List ℕ) {rs : List (List DeviceError)} {t : List ℕ} → counted ioerr s ≡ Got rs t → statisticsOf (reportOf s) ≡ tailOf (counted (λ _. iostats) t)
+pub rest-is : (s : List ℕ) {rs : List (List DeviceError)} {t : List ℕ} → counted ioerr s ≡ Got rs t → withoutErrors (reportOf s) ≡ tailOf (counted (λ _. iostats) t)
 unfolding reportOf layoutreturn with-statistics
 rest-is s {rs} {t} e = rw e (statistics-read rs t)
 

@@ -2,22 +2,21 @@
 -- stands at the cursor and then the report from the next cursor on. Each step goes forward, within the bytes.
 -- In order: that law; what the code's tests say of a step; a caller's fold; the walk as a list; the first device error from a cursor on;
 -- the status.
-use Prim.Native.Nat.{ℕ, zero, suc, _+_, _-_, _*_, _≤_, _<_}
+use Prim.Native.Nat.{ℕ, zero, suc, _+_, _-_, _≤_, _<_}
 use mathlib.Core.Path.{_≡_, refl, sym, ap, _∙_}
 use mathlib.Core.List.{List, [], _∷_}
 use mathlib.Core.Bool.{Bool, true, false, cond}
 use native.Mathlib.Omega.{arith}
-use native.Mathlib.Nat.{add-zero}
-use lib.ListN.{length, take, drop, length-drop}
+use lib.ListN.{length, drop, length-drop}
 use lib.Seq.{drop-drop}
 use lib.Dec.{ltb, eqb}
 use borrow.Author.Tests.{lt-ltb, le-ltb, eq-eqb, ne-eqb, ltb-true, ltb-false, eqb-false}
 use Rattle.xdr.specs.Be.{beNat}
 use Rattle.reports.specs.Device.{halves}
-use Rattle.reports.specs.Reader.{Read, Got, Bad, inTurn, counted, number}
-use Rattle.reports.specs.Statistics.{Statistic, iostats}
-use Rattle.reports.specs.StatisticsSteps.{pastOf, errorsOf, statisticsOf, tailOf, tailAt, statisticsFrom, tally}
-use Rattle.reports.specs.Report.{Report, DeviceError, ioerr, reportOf, statusOf, over, outcome}
+use Rattle.reports.specs.Reader.{counted, number}
+use Rattle.reports.specs.Statistics.{Statistic}
+use Rattle.reports.specs.StatisticsSteps.{pastOf, tailAt, statisticsFrom, tally}
+use Rattle.reports.specs.Report.{Report, DeviceError, ioerr, reportOf, statusOf, withoutStatistics, withoutErrors, over, outcome}
 use Rattle.reports.specs.Report as report
 use Rattle.reports.specs.ReportSteps.{naming, errorIn, statistics, devices, records, startOf, stepAt, recordStep, placeOf, deviceStep, nextBy, nextPast, nextAt, errorAt, reportFrom, errorsFrom, after, afterNext, endOf}
 use Rattle.reports.specs.declared.report.Cursor.{Cursor}
@@ -32,7 +31,7 @@ use Rattle.reports.specs.declared.fields.Past.{Past}
 use Rattle.reports.specs.declared.fields.Past.the-variants as past
 use Rattle.reports.specs.declared.statistics.Tail.{Tail}
 use Rattle.reports.proofs.Readers.{by-test}
-use Rattle.reports.proofs.StatisticsWalk.{tail-begins, tally-rest}
+use Rattle.reports.proofs.StatisticsWalk.{only-statistics, tail-begins, tally-rest}
 
 -- ---- the law of a walk
 after-cond : (s : List ℕ) (c : Cursor) (b : Bool) (x y : Entry) → after s c (cond b x y) ≡ cond b (after s c x) (after s c y)
@@ -208,27 +207,17 @@ pub data Walk (s : List ℕ) : Cursor → List DeviceError → Type 0 where
   enters : {c next : Cursor} {xs : List DeviceError} → stepAt s c ≡ Record next → Walk s next xs → Walk s c xs
 
 -- the statistics records name no device errors: those alone are none, if the records are well formed
-no-errors : (s : List ℕ) (t : Tail) → errorsOf (statisticsFrom s t) ≡ endOf (statusOf (statisticsFrom s t))
-unfolding statisticsFrom
-no-errors s t = by-read (inTurn 0 (t .left) (λ _. iostats) (drop (t .at) s))
-  where
-    by-end : (ys : List Statistic) (b : Bool)
-        → errorsOf (cond b (report.Whole [] ys) report.Malformed) ≡ endOf (statusOf (cond b (report.Whole [] ys) report.Malformed))
-    by-end ys true = refl
-    by-end ys false = refl
+no-errors : (s : List ℕ) (t : Tail) → withoutStatistics (statisticsFrom s t) ≡ endOf (statusOf (statisticsFrom s t))
+no-errors = only-statistics (λ p. withoutStatistics p ≡ endOf (statusOf p)) (λ ys. refl) refl
 
-    by-read : (r : Read (List Statistic)) → errorsOf (tailOf r) ≡ endOf (statusOf (tailOf r))
-    by-read Bad = refl
-    by-read (Got ys u) = by-end ys (eqb (length u) 0)
-
-errors-named : (x : DeviceError) (p : Report) → errorsOf (naming x p) ≡ naming x (errorsOf p)
+errors-named : (x : DeviceError) (p : Report) → withoutStatistics (naming x p) ≡ naming x (withoutStatistics p)
 errors-named x (report.Whole xs ys) = refl
 errors-named x report.Malformed = refl
 
 -- a turn, by the device errors alone
 module _ (s : List ℕ) (c : Cursor) where
-  errors-turn : {e : Entry} → stepAt s c ≡ e → errorsFrom s c ≡ errorsOf (after s c e)
-  errors-turn e = ap errorsOf (turn s c e)
+  errors-turn : {e : Entry} → stepAt s c ≡ e → errorsFrom s c ≡ withoutStatistics (after s c e)
+  errors-turn e = ap withoutStatistics (turn s c e)
 
   device-turn : {i h l st : ℕ} {next : Cursor} → stepAt s c ≡ Device i h l st next → errorsFrom s c ≡ naming (errorAt s c) (errorsFrom s next)
   unfolding after
@@ -251,8 +240,8 @@ visits s {c} (ends e z) = last-turn s c e ∙ rw z
 visits s {c} (gives e w) = device-turn s c e ∙ ap (naming (errorAt s c)) (visits s w)
 visits s {c} (enters e w) = record-turn s c e ∙ visits s w
 
-pub visits-all : (s : List ℕ) {xs : List DeviceError} → Walk s (startOf s) xs → errorsOf (reportOf s) ≡ report.Whole xs []
-visits-all s w = sym (ap errorsOf (begins s)) ∙ visits s w
+pub visits-all : (s : List ℕ) {xs : List DeviceError} → Walk s (startOf s) xs → withoutStatistics (reportOf s) ≡ report.Whole xs []
+visits-all s w = sym (ap withoutStatistics (begins s)) ∙ visits s w
 
 -- and a report that is whole is walked to its end
 same-rest : (x : DeviceError) (p : Report) (xs : List DeviceError) (P : List DeviceError → Type 0) → naming x p ≡ report.Whole xs []
@@ -285,8 +274,8 @@ walked : (n : ℕ) (s : List ℕ) (c : Cursor) (xs : List DeviceError) → lengt
 walked zero s c xs h e = absurd (omega arith)
 walked (suc n) s c xs h e = step-on n s c xs h e (λ next ys. walked n s next ys) (stepAt s c) refl
 
-pub all-visited : (s : List ℕ) {xs : List DeviceError} → errorsOf (reportOf s) ≡ report.Whole xs [] → Walk s (startOf s) xs
-all-visited s {xs} e = walked (suc (length s - startOf s .at)) s (startOf s) xs (omega arith) (ap errorsOf (begins s) ∙ e)
+pub all-visited : (s : List ℕ) {xs : List DeviceError} → withoutStatistics (reportOf s) ≡ report.Whole xs [] → Walk s (startOf s) xs
+all-visited s {xs} e = walked (suc (length s - startOf s .at)) s (startOf s) xs (omega arith) (ap withoutStatistics (begins s) ∙ e)
 
 -- ---- the first device error from a cursor on, past records that have none
 next-now : (n : ℕ) (s : List ℕ) (c : Cursor) (e : Entry) (f : Found) → stepAt s c ≡ e → ((k : Cursor → Found) → nextBy s e k ≡ f) → nextPast n s c ≡ f
@@ -398,7 +387,7 @@ module _ (s : List ℕ) (c : Cursor) where
   next-done e = rw e at (coming (suc (c .records)) s c (omega arith) .comes)
 
 -- ---- the status of a report whose error records are read is that of what they leave
-statistics-status : (p : Report) → statusOf (statisticsOf p) ≡ statusOf p
+statistics-status : (p : Report) → statusOf (withoutErrors p) ≡ statusOf p
 statistics-status (report.Whole xs ys) = refl
 statistics-status report.Malformed = refl
 

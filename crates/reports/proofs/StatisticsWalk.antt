@@ -6,25 +6,25 @@ use mathlib.Core.Path.{_≡_, refl, sym, ap, _∙_}
 use mathlib.Core.List.{List, [], _∷_}
 use mathlib.Core.Bool.{Bool, true, false, cond}
 use native.Mathlib.Omega.{arith}
-use borrow.Author.Tests.{lt-ltb, le-ltb, eq-eqb, ne-eqb, le-leb, lt-leb, ltb-true, ltb-false, eqb-true, eqb-false}
+use borrow.Author.Tests.{lt-ltb, le-ltb, eq-eqb, ne-eqb, le-leb, lt-leb, ltb-false}
 use lib.ListN.{length, take, drop, length-drop}
 use lib.Seq.{drop-drop, drop-length}
 use lib.Dec.{ltb, leb, eqb}
 use Rattle.xdr.specs.Be.{beNat}
 use Rattle.reports.specs.Device.{Device, halves}
-use Rattle.reports.specs.Reader.{Read, Got, Bad, Reader, onward, _>>=_, give, number, opaque, boolean, bounded, inTurn, counted}
+use Rattle.reports.specs.Reader.{Read, Got, Bad, Reader, onward, _>>=_, give, number, boolean, bounded, inTurn, counted}
 use Rattle.reports.specs.Statistics.{Statistic, ioInfo, nfstime, ioLatency, layoutupdate, iostats}
-use Rattle.reports.specs.Report.{Report, DeviceError, ioerr, reportOf, statusOf, over, outcome}
+use Rattle.reports.specs.Report.{Report, DeviceError, ioerr, reportOf, statusOf, withoutErrors, over, outcome}
 use Rattle.reports.specs.Report as report
 use Rattle.reports.specs.ReportSteps as steps
-use Rattle.reports.specs.StatisticsSteps.{pastOf, statisticsOf, tailOf, counting, noTail, tailAt, tailPast, statisticsStart, givenBy, nextOf, statisticsFrom, statisticIn, statisticAt, afterNext, tally}
+use Rattle.reports.specs.StatisticsSteps.{pastOf, tailOf, counting, noTail, tailAt, tailPast, statisticsStart, givenBy, nextOf, statisticsFrom, statisticIn, statisticAt, afterNext, tally}
 use Rattle.reports.specs.declared.fields.Past.{Past}
 use Rattle.reports.specs.declared.fields.Past.the-variants as past
 use Rattle.reports.specs.declared.statistics.Tail.{Tail}
 use Rattle.reports.specs.declared.statistics.Item.{Item}
 use Rattle.reports.specs.declared.statistics.Item.the-variants.{Given, End, Malformed}
 use Rattle.reports.proofs.Devices.{halves-taken}
-use Rattle.reports.proofs.Readers.{Leads, no-bytes, number-first, opaque-first, boolean-first, then, by-test, any-place, none-left}
+use Rattle.reports.proofs.Readers.{Leads, no-bytes, number-first, opaque-first, boolean-first, then, by-test, any-place}
 use Rattle.reports.proofs.Ends.{EndOf, end-drop, end-of-end, end-shorter, Ends, Leaves, number-ends, give-ends, boolean-ends, bounded-ends, then-ends, counted-ends, reached, further, unread, goes-on, goes-nowhere}
 use Rattle.reports.proofs.ReportModel.{rest-is, no-errors-read, ioerr-ends}
 
@@ -188,6 +188,15 @@ pub unrolled : (s : List ℕ) (c : Tail) → statisticsFrom s c ≡ afterNext s 
 unfolding statisticsFrom nextOf
 unrolled s c = at-record s c (c .left)
 
+-- from a cursor on there are statistics records and no device errors, or the records are malformed
+pub only-statistics : (P : Report → Type 0) → ((ys : List Statistic) → P (report.Whole [] ys)) → P report.Malformed → (s : List ℕ) (c : Tail) → P (statisticsFrom s c)
+unfolding statisticsFrom
+only-statistics P w m s c = by-read (inTurn 0 (c .left) (λ _. iostats) (drop (c .at) s))
+  where
+    by-read : (r : Read (List Statistic)) → P (tailOf r)
+    by-read Bad = m
+    by-read (Got ys t) = by-test P (eqb (length t) 0) (report.Whole [] ys) report.Malformed (λ _. w ys) (λ _. m)
+
 -- ---- where the walk begins
 nothing-there : (s : List ℕ) → statisticsFrom s (noTail s) ≡ report.Malformed
 unfolding statisticsFrom inTurn
@@ -203,12 +212,12 @@ tail-begins s at = rw length-drop (by-size (ltb (length s - at) 4))
     by-size false = rw drop-drop
 
 -- the walk of a body begins with all its statistics records
-pub begins : (s : List ℕ) → statisticsFrom s (statisticsStart s) ≡ statisticsOf (reportOf s)
+pub begins : (s : List ℕ) → statisticsFrom s (statisticsStart s) ≡ withoutErrors (reportOf s)
 unfolding statisticsStart
 begins s = by-errors (counted ioerr s) refl (counted-ends ioerr ioerr-ends .leaves s)
   where
-    by-errors : (r : Read (List (List DeviceError))) → counted ioerr s ≡ r → Leaves s r → statisticsFrom s (tailPast s (pastOf (length s) r)) ≡ statisticsOf (reportOf s)
-    by-errors Bad e l = nothing-there s ∙ sym (ap statisticsOf (no-errors-read s e))
+    by-errors : (r : Read (List (List DeviceError))) → counted ioerr s ≡ r → Leaves s r → statisticsFrom s (tailPast s (pastOf (length s) r)) ≡ withoutErrors (reportOf s)
+    by-errors Bad e l = nothing-there s ∙ sym (ap withoutErrors (no-errors-read s e))
     by-errors (Got rs t) e l = tail-begins s (length s - length t) ∙ rw (l .lies) (sym (rest-is s e))
 
 -- by the place that the code finds past the error records
@@ -325,16 +334,8 @@ tally-nothing g bad a s e = ap (λ (x : Tail). tally g bad a (statisticsFrom s x
 -- what is left of a report whose error records are passed is its statistics records
 pub tally-rest : {A : Type 0} (f : A → DeviceError → A) (g : A → Statistic → A) (bad a : A) (s : List ℕ) (c : Tail)
     → outcome f g bad a (statisticsFrom s c) ≡ tally g bad a (statisticsFrom s c)
-unfolding statisticsFrom outcome tally over
-tally-rest f g bad a s c = by-read (inTurn 0 (c .left) (λ _. iostats) (drop (c .at) s))
-  where
-    by-end : (ys : List Statistic) (b : Bool) → outcome f g bad a (cond b (report.Whole [] ys) report.Malformed) ≡ tally g bad a (cond b (report.Whole [] ys) report.Malformed)
-    by-end ys true = refl
-    by-end ys false = refl
-
-    by-read : (r : Read (List Statistic)) → outcome f g bad a (tailOf r) ≡ tally g bad a (tailOf r)
-    by-read Bad = refl
-    by-read (Got ys t) = by-end ys (eqb (length t) 0)
+unfolding outcome tally over
+tally-rest f g bad a s c = only-statistics (λ p. outcome f g bad a p ≡ tally g bad a p) (λ ys. refl) refl s c
 
 -- ---- the status of the records, which is that of a fold that keeps nothing
 counted-status : (y : Statistic) (p : Report) → statusOf (counting y p) ≡ statusOf p
@@ -364,7 +365,7 @@ visits : (s : List ℕ) {c : Tail} {ys : List Statistic} → Walk s c ys → sta
 visits s {c} (ends e) = turn s c e
 visits s {c} (gives e w) = turn s c e ∙ ap (counting (statisticAt s c)) (visits s w)
 
-pub visits-all : (s : List ℕ) {ys : List Statistic} → Walk s (statisticsStart s) ys → statisticsOf (reportOf s) ≡ report.Whole [] ys
+pub visits-all : (s : List ℕ) {ys : List Statistic} → Walk s (statisticsStart s) ys → withoutErrors (reportOf s) ≡ report.Whole [] ys
 visits-all s w = sym (begins s) ∙ visits s w
 
 -- and the records of a report that is whole are walked to their end
@@ -391,5 +392,5 @@ walked : (n : ℕ) (s : List ℕ) (c : Tail) (ys : List Statistic) → length s 
 walked zero s c ys h e = absurd (omega arith)
 walked (suc n) s c ys h e = step-on n s c ys h e (λ next zs. walked n s next zs) (nextOf s c) refl
 
-pub all-visited : (s : List ℕ) {ys : List Statistic} → statisticsOf (reportOf s) ≡ report.Whole [] ys → Walk s (statisticsStart s) ys
+pub all-visited : (s : List ℕ) {ys : List Statistic} → withoutErrors (reportOf s) ≡ report.Whole [] ys → Walk s (statisticsStart s) ys
 all-visited s {ys} e = walked (suc (length s - statisticsStart s .at)) s (statisticsStart s) ys (omega arith) (begins s ∙ e)

@@ -1,6 +1,7 @@
 -- DEFINITION. The error report of a LAYOUTRETURN, which is its body (RFC 8435, section 9; paper 01, "LAYOUTRETURN").
 --     DeviceError, deviceError, ioerr, layoutreturn   the RFC's structures, a line a field
 --     Report, reportOf, statusOf                      what step 5 makes of a body
+--     withoutStatistics, withoutErrors                the two halves of a report
 --     over, outcome                                   what a caller makes of a report
 use Prim.Native.Nat.{ℕ}
 use mathlib.Core.List.{List, [], _∷_, _++_}
@@ -64,6 +65,15 @@ reportOf s = judged (layoutreturn s)
 abbrev pub statusOf : Report → ℕ
 statusOf (Whole xs ys) = 0
 statusOf Malformed = 10036
+
+-- ---- a report but for its statistics records, and but for its device errors
+abbrev pub withoutStatistics : Report → Report
+withoutStatistics (Whole xs ys) = Whole xs []
+withoutStatistics Malformed = Malformed
+
+abbrev pub withoutErrors : Report → Report
+withoutErrors (Whole xs ys) = Whole [] ys
+withoutErrors Malformed = Malformed
 
 -- ---- what a caller makes of a report: `f` over its device errors and then `g` over its statistics records, in their order, from `a` on; `bad` where it is
 -- malformed

@@ -13,9 +13,9 @@ use lib.Dec.{ltb, eqb}
 use Rattle.xdr.specs.Be.{beNat}
 use Rattle.reports.specs.Reader.{counted}
 use Rattle.reports.specs.Statistics.{iostats}
-use Rattle.reports.specs.StatisticsSteps.{errorsOf, tailOf, tailAt, statisticsFrom}
+use Rattle.reports.specs.StatisticsSteps.{tailOf, tailAt, statisticsFrom}
 use Rattle.reports.specs.Report as report
-use Rattle.reports.specs.Report.{Report, DeviceError}
+use Rattle.reports.specs.Report.{Report, DeviceError, withoutStatistics}
 use Rattle.reports.specs.declared.report.Cursor.{Cursor}
 use Rattle.reports.specs.declared.report.Entry.{Entry}
 use Rattle.reports.specs.declared.report.Entry.the-variants.{Device, Record, Statistics, Malformed}
@@ -101,7 +101,7 @@ after s c Malformed = report.Malformed
 
 -- its device errors alone
 abbrev pub errorsFrom : List ℕ → Cursor → Report
-errorsFrom s c = errorsOf (reportFrom s c)
+errorsFrom s c = withoutStatistics (reportFrom s c)
 
 -- the report without device errors that has a status
 abbrev pub endOf : ℕ → Report

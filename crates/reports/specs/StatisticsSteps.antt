@@ -1,7 +1,6 @@
 -- MODEL of the code: places in a body, by the definition's own readers, and the walk of the statistics records. proofs/StatisticsWalk.antt proves that the
 -- steps from the start visit the statistics records of `reportOf`.
 --     pastOf                     the place past what a reader has read
---     errorsOf, statisticsOf     the half of a report that each of the two walks visits
 --     tailAt, tailPast           the cursor at a body's first statistics record
 --     nextOf                     what `next` answers
 --     statisticsFrom             the statistics records from a cursor on; `afterNext` says the same by what stands there
@@ -27,15 +26,6 @@ use Rattle.reports.specs.declared.statistics.Item.the-variants.{Given, E
 abbrev pub pastOf : {A : Type 0} → ℕ → Read A → Past
 pastOf n Bad = past.Malformed
 pastOf n (Got a t) = past.At (n - length t)
-
--- ---- the two halves of a report
-abbrev pub errorsOf : Report → Report
-errorsOf (report.Whole xs ys) = report.Whole xs []
-errorsOf report.Malformed = report.Malformed
-
-abbrev pub statisticsOf : Report → Report
-statisticsOf (report.Whole xs ys) = report.Whole [] ys
-statisticsOf report.Malformed = report.Malformed
 
 -- nothing may follow the statistics records
 abbrev pub tailOf : Read (List Statistic) → Report

@@ -1,14 +1,14 @@
 -- C's calls walk a report, by the laws of crate `reports` for the first device error from a cursor on, and for the statistics record at one.
-use Prim.Native.Nat.{ℕ, _+_, _≤_}
+use Prim.Native.Nat.{ℕ, _≤_}
 use mathlib.Core.Path.{_≡_, refl, sym, ap, _∙_}
 use mathlib.Core.List.{List}
 use native.Mathlib.Omega.{arith}
-use lib.ListN.{take, drop}
+use lib.ListN.{drop}
 use lib.Seq.{drop-drop}
 use lib.Dec.{eqb}
 use borrow.Author.Tests.{ne-eqb}
-use Rattle.reports.specs.Report.{reportOf}
-use Rattle.reports.specs.StatisticsSteps.{errorsOf, statisticsOf, counting, nextOf, statisticsFrom, afterNext}
+use Rattle.reports.specs.Report.{reportOf, withoutStatistics, withoutErrors}
+use Rattle.reports.specs.StatisticsSteps.{nextOf, statisticsFrom}
 use Rattle.reports.specs.ReportSteps.{errorIn, nextAt, errorsFrom}
 use Rattle.reports.specs.declared.report.Cursor.{Cursor}
 use Rattle.reports.specs.declared.report.Found.{Found}
@@ -19,7 +19,7 @@ use Rattle.reports.specs.declared.statistics.Item.{Item}
 use Rattle.reports.specs.declared.statistics.Item.the-variants as item
 use Rattle.reports.proofs.StatisticsWalk as statistics
 use Rattle.reports.proofs.StatisticsWalk.{unrolled, goes-forward, stated}
-use Rattle.wire.specs.Handed.{Numbers, resumedAt, numbersOf, handed, afterHanded, StatisticNumbers, resumedTail, statisticNumbers, handedStatistic, afterStatistic}
+use Rattle.wire.specs.Handed.{Numbers, resumedAt, numbersOf, handed, afterHanded, resumedTail, statisticNumbers, handedStatistic, afterStatistic}
 
 -- what C is handed, from the cursor that its numbers are
 pub handed-is : (s : List ℕ) (at r d : ℕ) {c : Cursor} {f g : Found} → c ≡ resumedAt s at r d → f ≡ nextAt s c → f ≡ g → handed s at r d ≡ numbersOf at r d g
@@ -27,9 +27,9 @@ unfolding handed
 handed-is s at r d e h k = ap (numbersOf at r d) (ap (nextAt s) (sym e) ∙ sym h ∙ k)
 
 -- C's walk: it begins with the whole report, but for its statistics records, and each call hands over the device error that the report from C's cursor on begins with
-pub handed-begins : (s : List ℕ) (r d : ℕ) → errorsFrom s (resumedAt s 0 r d) ≡ errorsOf (reportOf s)
+pub handed-begins : (s : List ℕ) (r d : ℕ) → errorsFrom s (resumedAt s 0 r d) ≡ withoutStatistics (reportOf s)
 unfolding resumedAt
-handed-begins s r d = ap errorsOf (begins s)
+handed-begins s r d = ap withoutStatistics (begins s)
 
 resumes : (s : List ℕ) (c : Cursor) → 24 ≤ c .at → resumedAt s (c .at) (c .records) (c .devices) ≡ c
 unfolding resumedAt
@@ -57,7 +57,7 @@ unfolding handedStatistic
 statistic-is s at n {c} e h k = ap (λ (d : Tail). statisticNumbers at n d (nextOf s d)) (sym e) ∙ ap (statisticNumbers at n c) (sym h ∙ k)
 
 -- C's walk: it begins with all statistics records of the report, and each call hands over the one that those from C's cursor on begin with
-pub statistics-begin : (s : List ℕ) (n : ℕ) → statisticsFrom s (resumedTail s 0 n) ≡ statisticsOf (reportOf s)
+pub statistics-begin : (s : List ℕ) (n : ℕ) → statisticsFrom s (resumedTail s 0 n) ≡ withoutErrors (reportOf s)
 unfolding resumedTail
 statistics-begin s n = statistics.begins s
 

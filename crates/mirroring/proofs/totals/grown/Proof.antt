@@ -1,9 +1,8 @@
 -- The loop maps by place: `Mapping` holds at its head.
-use mathlib.Core.Path.{_≡_, sym, ap, _∙_}
-use mathlib.Core.Bool.{Bool, false, cond}
+use mathlib.Core.Path.{_≡_, sym, _∙_}
 use Prim.Native.Nat.{_-_}
-use lib.ListN.{length, getD}
-use Rattle.places.proofs.Loops.{mapped-length, Mapping, mapping-none, mapping-more}
+use lib.ListN.{length}
+use Rattle.places.proofs.Loops.{Mapping, mapping-none, mapping-more}
 use Rattle.mirroring.proofs.Summing.{growing, mapped-grown}
 use native.Mathlib.Omega.{arith}
 use borrow.Author.Needs.{needs}

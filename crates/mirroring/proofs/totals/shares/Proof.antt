@@ -1,8 +1,8 @@
 -- The loop writes each place: `Mapping` holds at its head.
-use mathlib.Core.Path.{_≡_, sym, ap, _∙_}
-use mathlib.Core.Bool.{Bool, false, cond}
+use mathlib.Core.Path.{_≡_, ap, _∙_}
+use mathlib.Core.Bool.{Bool, cond}
 use Prim.Native.Nat.{_-_}
-use lib.ListN.{length, getD}
+use lib.ListN.{length}
 use Rattle.places.proofs.Loops.{mapped-length, Mapping, mapping-none, mapping-more}
 use Rattle.mirroring.proofs.Summing.{sharing, mapped-shared}
 use native.Mathlib.Omega.{arith}

@@ -1,5 +1,4 @@
 -- By the place that `place` answers, what the file there hears, and the file that heeds it.
-use mathlib.Core.Path.{_∙_}
 use Prim.Native.Nat.{_-_}
 use Rattle.files.specs.File.{returnedFile}
 use Rattle.recovery.specs.Record.{returnedOf, returnedTotals}
