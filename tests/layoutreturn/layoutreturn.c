@@ -9,9 +9,9 @@
 
 #include "stellcircle.h"
 
-enum { MOST_BYTES = 16384, MOST_ERRORS = 1024 };
+enum { MOST_BYTES = 16384, MOST_ERRORS = 1024, MOST_STATISTICS = 64 };
 
-static unsigned long differences, errors_compared;
+static unsigned long differences, errors_compared, statistics_compared;
 
 static void differs(const char *where, unsigned long line, const char *what)
 {
@@ -53,6 +53,27 @@ static size_t walk(const uint8_t *body, size_t len, struct plain_error *e, uint3
     return n;
 }
 
+/* The statistics records of a body as the library walks them, in the same way. */
+static size_t walk_statistics(const uint8_t *body, size_t len, struct plain_statistic *y, uint32_t *end)
+{
+    uint64_t at = 0, device, read, written, before = 0;
+    uint32_t left = 0, left_before = 0;
+    size_t n = 0;
+    while ((*end = sc_statistics_next(body, len, &at, &left, &device, &read, &written)) == 1) {
+        if (n < MOST_STATISTICS)
+            y[n] = (struct plain_statistic){device, read, written};
+        n++;
+        before = at;
+        left_before = left;
+    }
+    if (at != before || left != left_before || device != 0 || read != 0 || written != 0)
+        differs("walk of statistics", n, "the end changes the cursor, or gives a record");
+    if (sc_statistics_next(body, len, &at, &left, &device, &read, &written) != *end || at != before || left != left_before || device != 0 ||
+        read != 0 || written != 0)
+        differs("walk of statistics", n, "the end of a walk does not stay");
+    return n;
+}
+
 /* Whether the device errors are those of a list `device:status[:operation],..` or "-". */
 static int same_errors(const uint8_t *body, const struct plain_error *e, size_t n, const char *list)
 {
@@ -75,6 +96,40 @@ static int same_errors(const uint8_t *body, const struct plain_error *e, size_t 
     }
 }
 
+/* Whether the statistics records are those of a list `device:read:written,..` or "-". */
+static int same_statistics(const uint8_t *body, const struct plain_statistic *y, size_t n, const char *list)
+{
+    size_t i = 0;
+    uint8_t id[MOST_BYTES];
+    if (list[0] == '-')
+        return n == 0;
+    for (;; i++, list++) {
+        char *rest;
+        if (i == n || bytes_of(list, id) != 16 || memcmp(id, body + y[i].device, 16) != 0 || list[32] != ':')
+            return 0;
+        if (strtoull(list + 33, &rest, 10) != y[i].read || *rest != ':' || strtoull(rest + 1, &rest, 10) != y[i].written)
+            return 0;
+        statistics_compared++;
+        list = rest;
+        if (*list != ',')
+            return i + 1 == n;
+    }
+}
+
+/* A well-formed body of a captured request: its device errors and its statistics records are those of the file. */
+static void captured(const char *path, unsigned long line, const uint8_t *body, size_t len, const char *errors, const char *statistics)
+{
+    static struct plain_error e[MOST_ERRORS];
+    static struct plain_statistic y[MOST_STATISTICS];
+    uint32_t end;
+    size_t count = walk(body, len, e, &end);
+    if (end != 0 || !same_errors(body, e, count, errors))
+        differs(path, line, "other device errors");
+    count = walk_statistics(body, len, y, &end);
+    if (end != 0 || !same_statistics(body, y, count, statistics))
+        differs(path, line, "other statistics");
+}
+
 /* The answer of steps 1 to 5 as the captures write it: a number, "on" for handed on, "ok" where step 6 is reached. */
 static void answer_of(const uint8_t *request, size_t n, int grace, char *out, size_t size)
 {
@@ -91,7 +146,22 @@ static void answer_of(const uint8_t *request, size_t n, int grace, char *out, si
         snprintf(out, size, "%s", kind == SC_REQUEST_ANONYMOUS ? "ok" : "on");
 }
 
-/* A request beside plain C: steps 1 to 3, step 5 on its body, and every device error. */
+/* The statistics records of a body beside plain C. */
+static void statistics_beside_plain(const char *where, unsigned long line, const uint8_t *body, size_t len, uint32_t check)
+{
+    static struct plain_statistic y[MOST_STATISTICS], z[MOST_STATISTICS];
+    uint32_t end;
+    size_t count = walk_statistics(body, len, y, &end), count2 = plain_statistics_walk(body, len, z, MOST_STATISTICS);
+    if (end != check)
+        differs(where, line, "the walk of statistics ends otherwise than the check");
+    if (count != count2)
+        differs(where, line, "the walk of statistics has another count than plain C");
+    for (size_t i = 0; i < count && i < count2 && i < MOST_STATISTICS; i++, statistics_compared++)
+        if (y[i].device != z[i].device || y[i].read != z[i].read || y[i].written != z[i].written)
+            differs(where, line, "a statistics record differs from plain C");
+}
+
+/* A request beside plain C: steps 1 to 3, step 5 on its body, every device error and every statistics record. */
 static void beside_plain(const char *where, unsigned long line, const uint8_t *request, size_t n)
 {
     static struct plain_error e[MOST_ERRORS], f[MOST_ERRORS];
@@ -116,22 +186,22 @@ static void beside_plain(const char *where, unsigned long line, const uint8_t *r
     for (size_t i = 0; i < count && i < count2 && i < MOST_ERRORS; i++)
         if (e[i].place != f[i].place || e[i].device != f[i].device || e[i].status != f[i].status)
             differs(where, line, "a device error differs from plain C");
+    statistics_beside_plain(where, line, body, len, check);
 }
 
-/* Requests with the answers of steps 1 to 5: hex, in grace, out of grace, with statistics, errors, statistics. */
+/* Requests with the answers of steps 1 to 5: hex, in grace before statistics were read, out of grace, in grace now, errors, statistics. */
 static unsigned long damaged(const char *path)
 {
-    static char line[4 * MOST_BYTES], hex[2 * MOST_BYTES], list[2 * MOST_BYTES];
+    static char line[4 * MOST_BYTES], hex[2 * MOST_BYTES], list[2 * MOST_BYTES], stats[2 * MOST_BYTES];
     static uint8_t request[MOST_BYTES];
-    static struct plain_error e[MOST_ERRORS];
-    char grace[16], after[16], later[16], told[16];
+    char before[16], after[16], grace[16], told[16];
     unsigned long cases = 0, at_line = 0;
     FILE *f = fopen(path, "r");
     while (f && fgets(line, sizeof line, f)) {
         at_line++;
         if (line[0] == '#')
             continue;
-        if (sscanf(line, "%32767s %15s %15s %15s %32767s", hex, grace, after, later, list) != 5) {
+        if (sscanf(line, "%32767s %15s %15s %15s %32767s %32767s", hex, before, after, grace, list, stats) != 6) {
             differs(path, at_line, "not a case");
             continue;
         }
@@ -143,14 +213,11 @@ static unsigned long damaged(const char *path)
         answer_of(request, n, 0, told, sizeof told);
         if (strcmp(told, after) != 0)
             differs(path, at_line, "another answer out of grace");
-        /* the file lists the errors of the reports that are whole, statistics included */
-        if (strcmp(later, "ok") == 0) {
-            uint32_t kind, end;
+        if (strcmp(grace, "ok") == 0) {
+            uint32_t kind;
             uint64_t at, len;
             sc_layoutreturn_check(request, n, &kind, &at, &len);
-            size_t count = walk(request + at, len, e, &end);
-            if (!same_errors(request + at, e, count, list))
-                differs(path, at_line, "other device errors");
+            captured(path, at_line, request + at, len, list, stats);
         }
         beside_plain(path, at_line, request, n);
     }
@@ -164,7 +231,6 @@ static unsigned long linux_client(const char *path)
 {
     static char line[4 * MOST_BYTES], list[2 * MOST_BYTES], stats[2 * MOST_BYTES];
     static uint8_t request[MOST_BYTES];
-    static struct plain_error e[MOST_ERRORS];
     unsigned long cases = 0, at_line = 0;
     unsigned reclaim = 0, type = 0, iomode = 0, ways = 0, size = 0;
     char seqid[16], other[32], form[16];
@@ -196,7 +262,7 @@ static unsigned long linux_client(const char *path)
         if (plain_be32(request) != reclaim || plain_be32(request + 4) != type || plain_be32(request + 8) != iomode ||
             plain_be32(request + 12) != ways)
             differs(path, at_line, "another reclaim flag, layout type, iomode or return type");
-        uint32_t kind, end, number;
+        uint32_t kind, number;
         uint64_t at, len;
         number = sc_layoutreturn_check(request, n, &kind, &at, &len);
         static const uint8_t zeros[16];
@@ -207,12 +273,11 @@ static unsigned long linux_client(const char *path)
         if (kind >= 2 && (at != 52 || len != size))
             differs(path, at_line, "another body");
         if (kind >= 2) {
-            uint32_t step5 = strcmp(form, "ok") != 0 ? 10036 : stats[0] == '-' ? 0 : 10004;
-            if (sc_report_check(request + at, len) != step5)
+            int well_formed = strcmp(form, "ok") == 0;
+            if (sc_report_check(request + at, len) != (well_formed ? 0 : 10036))
                 differs(path, at_line, "another answer of step 5");
-            size_t count = walk(request + at, len, e, &end);
-            if (end != step5 || !same_errors(request + at, e, count, list))
-                differs(path, at_line, "other device errors");
+            if (well_formed)
+                captured(path, at_line, request + at, len, list, stats);
         }
         beside_plain(path, at_line, request, n);
     }
@@ -237,8 +302,90 @@ static size_t put32(uint8_t *d, size_t at, uint32_t x)
     return at + 4;
 }
 
-/* A well-formed request whose records have any number of device errors, status 0 among them. Answers its length. */
-static size_t made_up(uint8_t *d, struct plain_error *e, size_t *count)
+static size_t put64(uint8_t *d, size_t at, uint64_t x)
+{
+    return put32(d, put32(d, at, (uint32_t)(x >> 32)), (uint32_t)x);
+}
+
+static uint64_t some_bytes(void)
+{
+    static const uint64_t edges[] = {0, 1, 4096, 0xffffffff, 0x100000000, 1ull << 63, UINT64_MAX - 1, UINT64_MAX};
+    return edges[chance(sizeof edges / sizeof *edges)] + (chance(4) == 0 ? chance(1000) : 0);
+}
+
+/* What a request was made of, and where in it a fault can be put: its count of statistics, their strings and handles, and their booleans. */
+struct made {
+    size_t len, errors, statistics, count, opaques, opaque[15], boolean[5];
+    struct plain_error e[MOST_ERRORS];
+    struct plain_statistic y[5];
+};
+
+enum { BODY = 52, NONE_TOO_LONG = 15 };
+
+static size_t put_opaque(uint8_t *d, size_t at, uint32_t len)
+{
+    at = put32(d, at, len);
+    memset(d + at, 1 + (int)chance(255), len);
+    memset(d + at + len, 0, 3);
+    return at + (len + 3) / 4 * 4;
+}
+
+/* Error records with any number of device errors, status 0 among them. */
+static size_t put_errors(uint8_t *d, size_t at, struct made *m)
+{
+    uint32_t records = chance(8);
+    at = put32(d, at, records);
+    m->errors = 0;
+    for (uint32_t r = 0; r < records; r++) {
+        for (int i = 0; i < 8; i++)
+            at = put32(d, at, chance(1000));
+        uint32_t devices = chance(5);
+        at = put32(d, at, devices);
+        for (uint32_t j = 0; j < devices; j++) {
+            uint32_t status = chance(3) == 0 ? 0 : chance(20000);
+            m->e[m->errors++] = (struct plain_error){r, at - BODY, status};
+            for (int i = 0; i < 4; i++)
+                at = put32(d, at, chance(3));
+            at = put32(d, at, status);
+            at = put32(d, at, 38);
+        }
+    }
+    return at;
+}
+
+/* A statistics record, field by field; its strings and handle often have 127 or 128 bytes, and 129 to 132 where one is to be too long. */
+static size_t put_statistic(uint8_t *d, size_t at, struct made *m, size_t too_long)
+{
+    uint64_t read = some_bytes(), written = some_bytes();
+    at = put64(d, at, some_bytes());
+    at = put64(d, at, some_bytes());
+    for (int i = 0; i < 4; i++)
+        at = put32(d, at, chance(1000));
+    at = put64(d, at, some_bytes());
+    at = put64(d, at, read);
+    at = put64(d, at, some_bytes());
+    at = put64(d, at, written);
+    m->y[m->statistics] = (struct plain_statistic){at - BODY, read, written};
+    for (int i = 0; i < 4; i++)
+        at = put32(d, at, chance(3));
+    for (int i = 0; i < 3; i++) {
+        uint32_t len = m->opaques == too_long ? 129 + chance(4) : chance(3) == 0 ? 127 + chance(2) : chance(129);
+        m->opaque[m->opaques++] = at;
+        at = put_opaque(d, at, len);
+    }
+    for (int i = 0; i < 2; i++) {
+        for (int j = 0; j < 5; j++)
+            at = put64(d, at, some_bytes());
+        for (int j = 0; j < 2; j++)
+            at = put32(d, put64(d, at, some_bytes()), chance(1000000000));
+    }
+    at = put32(d, put64(d, at, some_bytes()), chance(1000000000));
+    m->boolean[m->statistics++] = at;
+    return put32(d, at, chance(2));
+}
+
+/* A well-formed request, but for the one string or handle that is too long. */
+static void made_up(uint8_t *d, struct made *m, size_t too_long)
 {
     size_t at = 0;
     at = put32(d, at, chance(2));
@@ -250,73 +397,153 @@ static size_t made_up(uint8_t *d, struct plain_error *e, size_t *count)
     uint32_t anonymous = chance(2);
     for (int i = 0; i < 4; i++)
         at = put32(d, at, anonymous ? 0 : 1 + chance(3));
-    size_t body = at + 4;
-    uint32_t records = chance(8);
-    at = put32(d, body, records);
-    *count = 0;
-    for (uint32_t r = 0; r < records; r++) {
-        for (int i = 0; i < 8; i++)
-            at = put32(d, at, chance(1000));
-        uint32_t devices = chance(5);
-        at = put32(d, at, devices);
-        for (uint32_t j = 0; j < devices; j++) {
-            uint32_t status = chance(3) == 0 ? 0 : chance(20000);
-            e[(*count)++] = (struct plain_error){r, at - body, status};
-            for (int i = 0; i < 4; i++)
-                at = put32(d, at, chance(3));
-            at = put32(d, at, status);
-            at = put32(d, at, 38);
-        }
-    }
-    at = put32(d, at, 0);
-    put32(d, body - 4, (uint32_t)(at - body));
-    return at;
+    at = put_errors(d, BODY, m);
+    uint32_t records = too_long < NONE_TOO_LONG ? 1 + (uint32_t)too_long / 3 + chance(5 - (uint32_t)too_long / 3) : chance(6);
+    m->count = at;
+    m->statistics = m->opaques = 0;
+    at = put32(d, at, records);
+    for (uint32_t i = 0; i < records; i++)
+        at = put_statistic(d, at, m, too_long);
+    put32(d, BODY - 4, (uint32_t)(at - BODY));
+    m->len = at;
 }
 
-static unsigned long by_chance(void)
+/* The request with a body of another length, and zeros for what is new. */
+static void resize(uint8_t *d, struct made *m, size_t body)
+{
+    size_t len = BODY + (body + 3) / 4 * 4;
+    memset(d + BODY + body, 0, len - BODY - body);
+    if (len > m->len)
+        memset(d + m->len, 0, len - m->len);
+    put32(d, BODY - 4, (uint32_t)body);
+    m->len = len;
+}
+
+/* Puts a byte that is not zero into the padding of a string or handle, from a random one on; 0 where none has padding. */
+static int bad_padding(uint8_t *d, const struct made *m)
+{
+    size_t first = m->opaques == 0 ? 0 : chance((uint32_t)m->opaques);
+    for (size_t i = 0; i < m->opaques; i++) {
+        size_t at = m->opaque[(first + i) % m->opaques];
+        uint32_t len = plain_be32(d + at), padding = (4 - len % 4) % 4;
+        if (padding != 0) {
+            d[at + 4 + len + chance(padding)] = (uint8_t)(1 + chance(255));
+            return 1;
+        }
+    }
+    return 0;
+}
+
+/* One fault of a body, of a kind; 0 where the request has no place for it. */
+enum { TOO_LONG, PADDING, BOOLEAN, COUNT_HIGH, COUNT_LOW, CUT, SPARE, FAULTS };
+
+static int fault(uint8_t *d, struct made *m, int kind)
+{
+    size_t body = plain_be32(d + BODY - 4);
+    uint32_t records = (uint32_t)m->statistics;
+    switch (kind) {
+    case TOO_LONG:
+        made_up(d, m, chance(NONE_TOO_LONG));
+        return 1;
+    case PADDING:
+        return bad_padding(d, m);
+    case BOOLEAN:
+        if (records != 0)
+            put32(d, m->boolean[chance(records)], chance(2) ? 2 + chance(4) : 1u << (1 + chance(31)));
+        return records != 0;
+    case COUNT_HIGH:
+        put32(d, m->count, chance(2) ? records + 1 : 0xffffffff - chance(3));
+        return 1;
+    case COUNT_LOW:
+        if (records != 0)
+            put32(d, m->count, chance(records));
+        return records != 0;
+    case CUT:
+        resize(d, m, chance(2) ? body - 1 - chance(8) : chance((uint32_t)body));
+        return 1;
+    default:
+        resize(d, m, body + 1 + chance(8));
+        return 1;
+    }
+}
+
+/* A well-formed request is accepted, and its walks give what it was made of. */
+static void whole(unsigned long line, const uint8_t *d, const struct made *m)
+{
+    static struct plain_error e[MOST_ERRORS];
+    static struct plain_statistic y[MOST_STATISTICS];
+    uint32_t kind, end;
+    uint64_t at, len;
+    if (sc_layoutreturn_check(d, m->len, &kind, &at, &len) != 0 || kind < 2 || at != BODY || len != m->len - BODY || sc_report_check(d + at, len) != 0) {
+        differs("made up", line, "a well-formed request is refused");
+        return;
+    }
+    if (walk(d + at, len, e, &end) != m->errors || end != 0 || memcmp(e, m->e, m->errors * sizeof *e) != 0)
+        differs("made up", line, "the walk gives other device errors than the request was made of");
+    if (walk_statistics(d + at, len, y, &end) != m->statistics || end != 0 || memcmp(y, m->y, m->statistics * sizeof *y) != 0)
+        differs("made up", line, "the walk gives other statistics than the request was made of");
+    errors_compared += m->errors;
+    statistics_compared += m->statistics;
+}
+
+/* Damage by chance: a number, a length, a count, a few bytes, the length, or padding. Answers the length. */
+static size_t damage(uint8_t *d, const struct made *m)
+{
+    static const uint32_t odd[] = {0, 1, 2, 3, 4, 5, 8, 127, 128, 129, 132, 255, 4096, 4097, 0x7fffffff, 0x80000000, 0xffffffff};
+    size_t n = m->len;
+    for (uint32_t k = 1 + chance(2); k > 0 && n >= BODY + 4; k--)
+        switch (chance(8)) {
+        case 0:
+            put32(d, 4 * chance((uint32_t)(n / 4)), odd[chance(sizeof odd / sizeof *odd)]);
+            break;
+        case 1:
+            put32(d, BODY - 4, plain_be32(d + BODY - 4) + chance(9) - 4);
+            break;
+        case 2:
+            n = chance((uint32_t)n + 1);
+            break;
+        case 3:
+            n += 1 + chance(8);
+            break;
+        case 4:
+            put32(d, BODY, plain_be32(d + BODY) + chance(3) - 1);
+            break;
+        case 5:
+            put32(d, m->count, plain_be32(d + m->count) + chance(3) - 1);
+            break;
+        case 6:
+            if (m->opaques != 0) {
+                size_t at = m->opaque[chance((uint32_t)m->opaques)];
+                put32(d, at, plain_be32(d + at) + chance(9) - 4);
+            }
+            break;
+        default:
+            d[chance((uint32_t)n + 1)] ^= (uint8_t)(1u << chance(8));
+        }
+    return n;
+}
+
+/* Made-up requests: whole; with one fault, which is refused; damaged by chance, beside plain C. Answers how many; `faults` is how many of each kind. */
+static unsigned long by_chance(unsigned long *faults)
 {
     static uint8_t d[MOST_BYTES];
-    static struct plain_error e[MOST_ERRORS], f[MOST_ERRORS];
+    static struct made m;
     unsigned long cases = 0;
-    for (; cases < 40000; cases++) {
-        size_t count;
-        uint32_t kind, end;
-        uint64_t at, len;
-        size_t n = made_up(d, e, &count);
-        if (sc_layoutreturn_check(d, n, &kind, &at, &len) != 0 || kind < 2 || at != 52 || len != n - 52 || sc_report_check(d + at, len) != 0) {
-            differs("made up", cases, "a well-formed request is refused");
-            continue;
+    for (; cases < 60000; cases++) {
+        made_up(d, &m, NONE_TOO_LONG);
+        whole(cases, d, &m);
+        int kind = (int)chance(2 * FAULTS);
+        if (kind >= FAULTS) {
+            beside_plain("damaged by chance", cases, d, damage(d, &m));
+        } else if (fault(d, &m, kind)) {
+            faults[kind]++;
+            uint32_t told;
+            uint64_t at, len;
+            if (sc_layoutreturn_check(d, m.len, &told, &at, &len) != 0 || sc_report_check(d + at, len) != 10036)
+                differs("made up", cases, "a fault is not refused in step 5");
+            beside_plain("made up with a fault", cases, d, m.len);
         }
-        if (walk(d + at, len, f, &end) != count || end != 0 || memcmp(e, f, count * sizeof *e) != 0)
-            differs("made up", cases, "the walk gives other device errors than the request was made of");
-        errors_compared += count;
-        /* then damage: a number, a few bytes, the length, or padding */
-        for (uint32_t k = 1 + chance(2); k > 0; k--) {
-            static const uint32_t odd[] = {0, 1, 2, 3, 4, 5, 8, 255, 4096, 4097, 0x7fffffff, 0x80000000, 0xffffffff};
-            switch (chance(6)) {
-            case 0:
-                put32(d, 4 * chance((uint32_t)(n / 4)), odd[chance(sizeof odd / sizeof *odd)]);
-                break;
-            case 1:
-                put32(d, 48, plain_be32(d + 48) + chance(9) - 4);
-                break;
-            case 2:
-                n = chance((uint32_t)n + 1);
-                break;
-            case 3:
-                n += 1 + chance(8);
-                break;
-            case 4:
-                put32(d, 52, plain_be32(d + 52) + chance(3) - 1);
-                break;
-            default:
-                d[chance((uint32_t)n + 1)] ^= (uint8_t)(1u << chance(8));
-            }
-            if (n < 56)
-                break;
-        }
-        beside_plain("damaged by chance", cases, d, n);
-        memset(d, 0, n + 16);
+        memset(d, 0, sizeof d);
     }
     return cases;
 }
@@ -348,7 +575,7 @@ static unsigned long by_size(void)
 /* The reply of any status in a buffer of any size. */
 static unsigned long replies(void)
 {
-    static const uint32_t statuses[] = {0, 1, 22, 70, 10004, 10013, 10033, 10034, 10036, 0x01020304, 0xffffffff};
+    static const uint32_t statuses[] = {0, 1, 22, 70, 10013, 10025, 10033, 10034, 10036, 0x01020304, 0xffffffff};
     unsigned long cases = 0;
     for (size_t size = 0; size <= 64; size++)
         for (size_t i = 0; i < sizeof statuses / sizeof *statuses; i++, cases++) {
@@ -377,15 +604,22 @@ int main(int count, char **words)
         fprintf(stderr, "usage: layoutreturn DAMAGED LINUX\n");
         return 1;
     }
+    unsigned long faults[FAULTS] = {0}, all_faults = 0;
     unsigned long a = damaged(words[1]), b = linux_client(words[2]);
-    unsigned long c = by_chance(), d = by_size(), e = replies();
+    unsigned long c = by_chance(faults), d = by_size(), e = replies();
     if (a == 0)
         differs(words[1], 0, "no cases");
     if (b == 0)
         differs(words[2], 0, "no cases");
-    if (errors_compared == 0)
-        differs("device errors", 0, "none were compared");
-    printf("layoutreturn: %lu damaged and %lu Linux requests, %lu made up and damaged, %lu sizes, %lu replies, %lu device errors; %lu differences\n", a,
-           b, c, d, e, errors_compared, differences);
+    if (errors_compared == 0 || statistics_compared == 0)
+        differs("device errors and statistics", 0, "none were compared");
+    for (int kind = 0; kind < FAULTS; kind++) {
+        all_faults += faults[kind];
+        if (faults[kind] == 0)
+            differs("made up", (unsigned long)kind, "a kind of fault that never came up");
+    }
+    printf("layoutreturn: %lu damaged and %lu Linux requests, %lu made up (%lu with a fault), %lu sizes, %lu replies, %lu device errors, %lu statistics; "
+           "%lu differences\n",
+           a, b, c, all_faults, d, e, errors_compared, statistics_compared, differences);
     return differences != 0;
 }
