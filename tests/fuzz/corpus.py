@@ -6,11 +6,12 @@ import sys
 
 CAPTURES = os.path.join(os.path.dirname(os.path.abspath(__file__)), "..", "captures")
 LAYOUT = 0
-LAYOUTRETURN, GRACE, REGISTERED, INTENT, TWO_MIRRORS, FOUR_MIRRORS, ROOM_40 = 1, 2, 4, 8, 1 << 4, 3 << 4, 2 << 6
+LAYOUTRETURN, GRACE, REGISTERED, INTENT, TWO_MIRRORS, FOUR_MIRRORS, OLD, ROOM_40 = 1, 2, 4, 8, 1 << 4, 3 << 4, 1 << 6, 2 << 6
 CHOICES = [
     LAYOUTRETURN | GRACE | REGISTERED | INTENT | FOUR_MIRRORS,
     LAYOUTRETURN | GRACE | REGISTERED | INTENT | TWO_MIRRORS | ROOM_40,
     LAYOUTRETURN | REGISTERED | INTENT | FOUR_MIRRORS,
+    LAYOUTRETURN | GRACE | REGISTERED | INTENT | FOUR_MIRRORS | OLD,
 ]
 
 
@@ -33,6 +34,40 @@ def padded(request):
             yield kept + bytes(less - 1) + b"\x01"
 
 
+def number(body, at):
+    """The 4-byte number at a place."""
+    return int.from_bytes(body[at : at + 4], "big")
+
+
+def split(body):
+    """A well-formed body as its error records with their count, and a list of its statistics records."""
+    at = 4
+    for _ in range(number(body, 0)):
+        at += 36 + 24 * number(body, at + 32)
+    errors, records, at = body[:at], [], at + 4
+    while at < len(body):
+        end = at + 80
+        for _ in range(3):
+            end += 4 + (number(body, end) + 3) // 4 * 4
+        end += 144
+        records.append(body[at:end])
+        at = end
+    return errors, records
+
+
+def at_the_edge(request):
+    """The request with two of each of its statistics records, whose bytes come to 2^64 - 1 and to one more."""
+    errors, records = split(request[52:])
+    for first in (2**63 - 1, 2**63):
+        body = errors + (2 * len(records)).to_bytes(4, "big")
+        for record in records:
+            for count in (first, 2**63):
+                word = count.to_bytes(8, "big")
+                body += record[:40] + word + record[48:56] + word + record[64:]
+        if records and len(body) <= 4096:
+            yield request[:48] + len(body).to_bytes(4, "big") + body
+
+
 def seeds():
     for body in hex_words("layout-bodies.txt"):
         yield bytes([LAYOUT]) + body
@@ -42,6 +77,10 @@ def seeds():
                 yield bytes([choice]) + request
     for request in list(hex_words("linux-layoutreturn.txt"))[:12]:
         for other in padded(request):
+            for choice in CHOICES:
+                yield bytes([choice]) + other
+    for request in list(hex_words("linux-layoutreturn.txt"))[:17]:
+        for other in at_the_edge(request):
             for choice in CHOICES:
                 yield bytes([choice]) + other
 

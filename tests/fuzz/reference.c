@@ -1,5 +1,5 @@
 /* The reference for the fuzz target, built with the fuzzer's instrumentation so that it steers towards new cases.
-   In this order: a reader over bytes; layout bodies; requests; reports; LAYOUTRETURN. */
+   In this order: a reader over bytes; layout bodies; requests; statistics; reports; LAYOUTRETURN. */
 #include "reference.h"
 
 #include <string.h>
@@ -126,7 +126,7 @@ enum {
     BADIOMODE = 10049,
     GRACE = 10013,
     NO_GRACE = 10033,
-    NOTSUPP = 10004,
+    BAD_STATEID = 10025,
     STALE = 70,
     RECLAIM_BAD = 10034,
     NO_ROOM = 28
@@ -177,12 +177,76 @@ static bool read_request(struct reader r, struct request *q)
     return r.sound && r.left == 0;
 }
 
+/* ---- Statistics ---- */
+
+enum { MOST_OPAQUE = 128 };
+
+/* A sum of 64-bit numbers that no request is long enough to pass. */
+__extension__ typedef unsigned __int128 wide;
+
+/* A counted string or handle and its padding; false if it is malformed. */
+static bool take_opaque(struct reader *r)
+{
+    uint64_t length = take_number(r, 4);
+    if (length > MOST_OPAQUE)
+        return false;
+    for (uint64_t i = 0; i < length; i++)
+        take(r, 1);
+    for (uint64_t i = length; i % 4 != 0; i++)
+        if (*take(r, 1) != 0)
+            return false;
+    return r->sound;
+}
+
+static void take_time(struct reader *r)
+{
+    take_number(r, 8);
+    take_number(r, 4);
+}
+
+static void take_latency(struct reader *r)
+{
+    for (int i = 0; i < 5; i++)
+        take_number(r, 8);
+    take_time(r);
+    take_time(r);
+}
+
+/* The layout update of a statistics record; false if it is malformed. */
+static bool take_update(struct reader *r)
+{
+    for (int i = 0; i < 3; i++)
+        if (!take_opaque(r))
+            return false;
+    take_latency(r);
+    take_latency(r);
+    take_time(r);
+    return take_number(r, 4) <= 1 && r->sound;
+}
+
+/* A statistics record and its device; false if it is malformed. */
+static bool take_statistic(struct reader *r, struct statistic *s, const uint8_t **device)
+{
+    take_number(r, 8);
+    take_number(r, 8);
+    take(r, 16);
+    take_number(r, 8);
+    s->read = take_number(r, 8);
+    take_number(r, 8);
+    s->written = take_number(r, 8);
+    *device = take(r, DEVICE);
+    return take_update(r);
+}
+
 /* ---- Reports: steps 5 and 7 ---- */
 
-/* What a report's device errors come to for a file. */
+/* What a report comes to for a file: its device errors, and the bytes that its statistics count. */
 struct findings {
     bool unknown, failed[MOST_MIRRORS];
+    wide read[MOST_MIRRORS], written[MOST_MIRRORS];
 };
+
+static const struct file_state no_file;
 
 static void find(const struct file_state *file, const uint8_t *device, bool failed, struct findings *found)
 {
@@ -209,30 +273,82 @@ static void take_errors(struct reader *r, const struct file_state *file, struct 
     }
 }
 
+/* Reads the error records. */
+static void take_records(struct reader *r, const struct file_state *file, struct findings *found)
+{
+    uint64_t records = take_number(r, 4);
+    for (uint64_t i = 0; i < records && r->sound; i++) {
+        take(r, 16);
+        take(r, 16);
+        take_errors(r, file, found);
+    }
+}
+
+static void add(const struct file_state *file, const uint8_t *device, struct statistic s, struct findings *found)
+{
+    for (size_t i = 0; i < file->mirrors; i++) {
+        if (memcmp(file->ids[i], device, DEVICE) != 0)
+            continue;
+        found->read[i] += s.read;
+        found->written[i] += s.written;
+    }
+}
+
 /* Step 5: 0 or the status that refuses the body. */
 static uint32_t read_report(struct reader r, const struct file_state *file, struct findings *found)
 {
-    uint64_t records = take_number(&r, 4);
-    for (uint64_t i = 0; i < records && r.sound; i++) {
-        take(&r, 16);
-        take(&r, 16);
-        take_errors(&r, file, found);
-    }
+    take_records(&r, file, found);
     uint64_t statistics = take_number(&r, 4);
     if (!r.sound)
         return BADXDR;
-    if (statistics != 0)
-        return NOTSUPP;
+    for (uint64_t i = 0; i < statistics; i++) {
+        struct statistic s;
+        const uint8_t *device;
+        if (!take_statistic(&r, &s, &device))
+            return BADXDR;
+        add(file, device, s, found);
+    }
     return r.left == 0 ? 0 : BADXDR;
 }
 
-/* Step 7. */
-static void apply(struct file_state *file, const struct findings *found)
+size_t reference_statistics(const uint8_t *body, size_t len, struct statistic *list, size_t max, uint32_t *status)
+{
+    struct reader r = {body, len, true};
+    struct findings found = {0};
+    struct statistic s;
+    const uint8_t *device;
+    size_t count = 0;
+    *status = read_report(r, &no_file, &found);
+    take_records(&r, &no_file, &found);
+    uint64_t statistics = take_number(&r, 4);
+    if (!r.sound)
+        return 0;
+    for (; count < statistics && take_statistic(&r, &s, &device); count++) {
+        s.device = (size_t)(device - body);
+        if (count < max)
+            list[count] = s;
+    }
+    return count;
+}
+
+static struct sums told(const wide *bytes)
+{
+    struct sums s;
+    for (size_t i = 0; i < MOST_MIRRORS; i++) {
+        s.over[i] = bytes[i] > UINT64_MAX;
+        s.bytes[i] = s.over[i] ? UINT64_MAX : (uint64_t)bytes[i];
+    }
+    return s;
+}
+
+/* Step 7: a report that names a stranger is ignored, but for the mark. */
+static void apply(struct file_state *file, const struct findings *found, struct totals *totals)
 {
     if (found->unknown) {
         file->marked = true;
         return;
     }
+    *totals = (struct totals){told(found->read), told(found->written)};
     for (size_t i = 0; i < file->mirrors; i++) {
         if (!found->failed[i])
             continue;
@@ -243,7 +359,7 @@ static void apply(struct file_state *file, const struct findings *found)
 
 /* ---- LAYOUTRETURN ---- */
 
-static int64_t answer_of(struct file_state *file, const uint8_t *request, size_t len)
+static int64_t answer_of(struct file_state *file, const uint8_t *request, size_t len, struct totals *totals)
 {
     struct request q;
     struct findings found = {0};
@@ -256,6 +372,8 @@ static int64_t answer_of(struct file_state *file, const uint8_t *request, size_t
     if (q.return_type != 1)
         return REFERENCE_HANDED_ON;
     bool anonymous = all_zero(q.stateid, 16);
+    if (file->old && anonymous)
+        return BAD_STATEID;
     if (file->in_grace && !anonymous)
         return GRACE;
     if (!file->in_grace)
@@ -267,15 +385,16 @@ static int64_t answer_of(struct file_state *file, const uint8_t *request, size_t
         return STALE;
     if (!file->has_intent)
         return RECLAIM_BAD;
-    apply(file, &found);
+    apply(file, &found, totals);
     return 0;
 }
 
-int64_t reference_layoutreturn(struct file_state *file, const uint8_t *request, size_t len, uint8_t *reply, size_t room)
+int64_t reference_layoutreturn(struct file_state *file, const uint8_t *request, size_t len, uint8_t *reply, size_t room, struct totals *totals)
 {
+    *totals = (struct totals){0};
     if (room < 24)
         return NO_ROOM;
-    int64_t answer = answer_of(file, request, len);
+    int64_t answer = answer_of(file, request, len, totals);
     if (answer == REFERENCE_HANDED_ON)
         return answer;
     for (size_t i = 0; i < 4; i++)
