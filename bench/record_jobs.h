@@ -3,12 +3,12 @@
 static R P(state), P(held);
 static uint64_t P(sum);
 
-/* FILES files with two mirrors each, and so many clients' intents on each; afterwards restarted, and grace ended, as asked */
-static void P(filled)(int intents, int restarted, int ended)
+/* FILES files with so many mirrors and clients' intents each; afterwards restarted, and grace ended, as asked */
+static void P(mirrored)(int devices, int intents, int restarted, int ended)
 {
     P(record_fresh)(&P(state));
     for (int k = 0; k < FILES; k++)
-        P(record_register)(&P(state), number(k), mirrors, 32);
+        P(record_register)(&P(state), number(k), mirrors, 16 * (size_t)devices);
     for (int c = 1; c <= intents; c++)
         for (int k = 0; k < FILES; k++)
             P(record_open)(&P(state), number(k), (uint64_t)c);
@@ -18,10 +18,13 @@ static void P(filled)(int intents, int restarted, int ended)
         P(record_end_grace)(&P(state));
 }
 
+static void P(filled)(int intents, int restarted, int ended) { P(mirrored)(2, intents, restarted, ended); }
+
 static void P(empty)(void) { P(record_fresh)(&P(state)); }
 static void P(idle)(void) { P(filled)(0, 0, 0); }
 static void P(full)(void) { P(filled)(8, 0, 0); }
 static void P(grace)(void) { P(filled)(8, 1, 0); }
+static void P(grace_4)(void) { P(mirrored)(4, 8, 1, 0); }
 static void P(lost)(void) { P(filled)(8, 1, 1); }
 
 /* in grace, and every second client has reclaimed */
@@ -33,6 +36,13 @@ static void P(half)(void)
             P(record_reclaim)(&P(state), number(k), (uint64_t)c);
 }
 
+/* a LAYOUTRETURN in the record, with four places lent for its totals */
+static uint64_t P(returned)(int k, const uint8_t *request, size_t len)
+{
+    uint64_t status = P(record_layoutreturn)(&P(held), file[k], client[k], request, len, reply, sizeof reply, bytes_read, 4, bytes_written, 4, &read_over, &written_over);
+    return status + bytes_read[3] + bytes_written[0] + read_over + written_over;
+}
+
 /* calls that leave the record as it is come MANY times, on any file and client; calls that change it once on each file, in any order */
 #define ANY for (int k = 0; k < MANY; k++) P(sum) +=
 #define EACH for (int k = 0; k < FILES; k++) P(sum) +=
@@ -41,9 +51,12 @@ static void P(open_ninth)(void) { ANY P(record_open)(&P(held), file[k], 9); }
 static void P(close_open)(void) { ANY P(record_close)(&P(held), file[k], client[k]) + P(record_open)(&P(held), file[k], client[k]); }
 static void P(reclaim)(void) { ANY P(record_reclaim)(&P(held), file[k], client[k]); }
 static void P(repaired)(void) { EACH P(record_repaired)(&P(held), each[k]); }
-static void P(report_1)(void) { ANY P(record_layoutreturn)(&P(held), file[k], client[k], one, one_len, reply, sizeof reply) + reply[7]; }
-static void P(report_20)(void) { ANY P(record_layoutreturn)(&P(held), file[k], client[k], twenty, twenty_len, reply, sizeof reply) + reply[7]; }
-static void P(handed_on)(void) { ANY P(record_layoutreturn)(&P(held), file[k], client[k], bulk, sizeof bulk, reply, sizeof reply); }
+static void P(report_1)(void) { ANY P(returned)(k, one, one_len) + reply[7]; }
+static void P(report_20)(void) { ANY P(returned)(k, twenty, twenty_len) + reply[7]; }
+static void P(statistics_1)(void) { ANY P(returned)(k, live, live_len) + reply[7]; }
+static void P(statistics_4)(void) { ANY P(returned)(k, four, four_len) + reply[7]; }
+static void P(statistics_8)(void) { ANY P(returned)(k, eight, eight_len) + reply[7]; }
+static void P(handed_on)(void) { ANY P(returned)(k, bulk, sizeof bulk); }
 static void P(enter)(void) { EACH P(record_register)(&P(held), each[k], mirrors, 32); }
 static void P(forget)(void) { EACH P(record_forget)(&P(held), each[k]); }
 static void P(restart)(void) { EACH P(record_restart)(&P(held)); }

@@ -1,4 +1,4 @@
-/* The recovery record in plain C, working in place: written from paper 01 alone. NAME is put before each function's name. First what the calls
+/* The recovery record in plain C, working in place: written from the papers alone. NAME is put before each function's name. First what the calls
  * share, then the calls in the paper's order, LAYOUTRETURN and the two lists. */
 #include "record_plain.h"
 #include <string.h>
@@ -40,6 +40,13 @@ static uint32_t be32(const uint8_t *p)
     uint32_t x;
     memcpy(&x, p, 4);
     return __builtin_bswap32(x);
+}
+
+static uint64_t be64(const uint8_t *p)
+{
+    uint64_t x;
+    memcpy(&x, p, 8);
+    return __builtin_bswap64(x);
 }
 
 /* ---- the calls */
@@ -177,36 +184,98 @@ uint32_t CALL(record_restart)(struct plain_record *r)
 }
 
 /* ---- LAYOUTRETURN */
-/* Step 5, and the blame of step 7 for a file: 10036, 10004, or 0. */
-static uint32_t report(const uint8_t *s, size_t n, const struct plain_file *f, uint8_t *blamed, bool *unknown)
+/* Bytes by mirror place, and a bit for each place that had more than 2^64 - 1. */
+struct sums {
+    uint64_t bytes[4];
+    uint32_t over;
+};
+
+/* What a report says of a file. */
+struct heard {
+    uint8_t blamed;
+    bool unknown;
+    struct sums read, written;
+};
+
+static void add(struct sums *s, int place, uint64_t n)
+{
+    if (__builtin_add_overflow(s->bytes[place], n, &s->bytes[place])) {
+        s->bytes[place] = UINT64_MAX;
+        s->over |= 1u << place;
+    }
+}
+
+/* The place past the error records, and what they say; 0 where they are malformed. */
+static size_t errors(const uint8_t *s, size_t n, const struct plain_file *f, struct heard *h)
 {
     if (n < 4)
-        return 10036;
+        return 0;
     size_t at = 4;
     for (uint32_t records = be32(s); records != 0; records--) {
         if (n - at < 36)
-            return 10036;
+            return 0;
         uint32_t devices = be32(s + at + 32);
         at += 36;
         if ((n - at) / 24 < devices)
-            return 10036;
+            return 0;
         for (; devices != 0; devices--, at += 24) {
             int i = f == NULL ? -1 : place(f, s + at);
             if (i < 0)
-                *unknown = true;
+                h->unknown = true;
             else if (be32(s + at + 16) != 0)
-                *blamed |= (uint8_t)(1 << i);
+                h->blamed |= (uint8_t)(1 << i);
         }
     }
-    if (n - at < 4)
-        return 10036;
-    if (be32(s + at) != 0)
-        return 10004;
-    return n - at == 4 ? 0 : 10036;
+    return at;
 }
 
-/* Steps 1 to 7: the status, or HANDED_ON. */
-static uint32_t returned(struct plain_record *r, uint64_t file, uint64_t client, const uint8_t *s, size_t n)
+/* The place past a string or handle of at most 128 bytes and its padding; 0 where it is malformed. */
+static size_t past_opaque(const uint8_t *s, size_t n, size_t at)
+{
+    if (n - at < 4)
+        return 0;
+    size_t len = be32(s + at), padded = (len + 3) / 4 * 4;
+    if (len > 128 || n - at - 4 < padded)
+        return 0;
+    for (size_t i = len; i < padded; i++)
+        if (s[at + 4 + i] != 0)
+            return 0;
+    return at + 4 + padded;
+}
+
+/* The place past a statistics record; 0 where it is malformed. Three opaque fields follow its first 80 bytes, and 140 bytes before its boolean. */
+static size_t past_statistic(const uint8_t *s, size_t n, size_t at)
+{
+    if (n - at < 80)
+        return 0;
+    at += 80;
+    for (int i = 0; i < 3; i++)
+        if ((at = past_opaque(s, n, at)) == 0)
+            return 0;
+    return n - at < 144 || be32(s + at + 140) > 1 ? 0 : at + 144;
+}
+
+/* Step 5, and what step 7 needs of it: 10036, or 0. Nothing is counted where a stranger is named. */
+static uint32_t report(const uint8_t *s, size_t n, const struct plain_file *f, struct heard *h)
+{
+    size_t at = errors(s, n, f, h), end;
+    if (at == 0 || n - at < 4)
+        return 10036;
+    uint32_t records = be32(s + at);
+    for (at += 4; records != 0; records--, at = end) {
+        if ((end = past_statistic(s, n, at)) == 0)
+            return 10036;
+        int i = f == NULL || h->unknown ? -1 : place(f, s + at + 64);
+        if (i >= 0) {
+            add(&h->read, i, be64(s + at + 40));
+            add(&h->written, i, be64(s + at + 56));
+        }
+    }
+    return at == n ? 0 : 10036;
+}
+
+/* Steps 1 to 7: the status, or HANDED_ON. What is heard counts where the status is 0. */
+static uint32_t returned(struct plain_record *r, uint64_t file, uint64_t client, const uint8_t *s, size_t n, struct heard *h)
 {
     static const uint8_t zeros[16];
     uint32_t body = 0;
@@ -236,29 +305,28 @@ static uint32_t returned(struct plain_record *r, uint64_t file, uint64_t client,
     if (!anonymous)
         return 10013;
     struct plain_file *f = find(r, file);
-    uint8_t blamed = 0;
-    bool unknown = false;
-    uint32_t status = report(s + 52, body, f, &blamed, &unknown);
+    uint32_t status = report(s + 52, body, f, h);
     if (status != 0)
         return status;
     if (f == NULL)
         return 70;
     if (intent(f, client) == NULL)
         return 10034;
-    if (unknown) {
+    if (h->unknown) {
         f->marked = true;
-    } else if (blamed != 0) {
-        f->blamed |= blamed;
+    } else if (h->blamed != 0) {
+        f->blamed |= h->blamed;
         f->marked = true;
     }
     return 0;
 }
 
-uint32_t CALL(record_layoutreturn)(struct plain_record *r, uint64_t file, uint64_t client, const uint8_t *request, size_t request_len, uint8_t *reply, size_t reply_len)
+/* Steps 1 to 7, after the reply's room. */
+static uint32_t replied(struct plain_record *r, uint64_t file, uint64_t client, const uint8_t *request, size_t request_len, uint8_t *reply, size_t reply_len, struct heard *h)
 {
     if (reply_len < 24)
         return 28;
-    uint32_t status = returned(r, file, client, request, request_len);
+    uint32_t status = returned(r, file, client, request, request_len, h);
     if (status == (uint32_t)HANDED_ON)
         return status;
     uint32_t word = __builtin_bswap32(status);
@@ -267,6 +335,24 @@ uint32_t CALL(record_layoutreturn)(struct plain_record *r, uint64_t file, uint64
         memset(reply + 4, 0, 20);
         reply[7] = 1;
     }
+    return status;
+}
+
+/* Sums by place, or zeros, in what is lent. */
+static void hand_out(const struct sums *s, bool counts, uint64_t *lent, size_t len, uint32_t *over)
+{
+    for (size_t i = 0; i < len; i++)
+        lent[i] = counts && i < 4 ? s->bytes[i] : 0;
+    *over = counts ? s->over : 0;
+}
+
+uint32_t CALL(record_layoutreturn)(struct plain_record *r, uint64_t file, uint64_t client, const uint8_t *request, size_t request_len, uint8_t *reply, size_t reply_len,
+                                   uint64_t *read, size_t read_len, uint64_t *written, size_t written_len, uint32_t *read_over, uint32_t *written_over)
+{
+    struct heard h = {0};
+    uint32_t status = replied(r, file, client, request, request_len, reply, reply_len, &h);
+    hand_out(&h.read, status == 0, read, read_len, read_over);
+    hand_out(&h.written, status == 0, written, written_len, written_over);
     return status;
 }
 

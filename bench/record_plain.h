@@ -1,4 +1,4 @@
-/* The recovery record in plain C, working in place: written from paper 01 alone. NAME is put before each function's name. */
+/* The recovery record in plain C, working in place: written from the papers alone. NAME is put before each function's name. */
 #ifndef RECORD_PLAIN_H
 #define RECORD_PLAIN_H
 #include <stdbool.h>
@@ -37,7 +37,8 @@ struct plain_record {
     uint32_t P##record_forget(struct plain_record *, uint64_t); \
     uint32_t P##record_end_grace(struct plain_record *); \
     uint32_t P##record_restart(struct plain_record *); \
-    uint32_t P##record_layoutreturn(struct plain_record *, uint64_t, uint64_t, const uint8_t *, size_t, uint8_t *, size_t); \
+    uint32_t P##record_layoutreturn(struct plain_record *, uint64_t, uint64_t, const uint8_t *, size_t, uint8_t *, size_t, uint64_t *, size_t, uint64_t *, size_t, \
+                                    uint32_t *, uint32_t *); \
     uint32_t P##record_resilver(const struct plain_record *, uint64_t *, size_t, uint8_t *, size_t, uint64_t *); \
     uint32_t P##record_offered(const struct plain_record *, uint64_t *, size_t, uint8_t *, size_t, uint64_t *);
 #endif

@@ -1,6 +1,6 @@
 /*
  * The calls on a record through target/staticlib/libcapi.a: where a record lies and how big it is, marked examples K10 to K13, and random calls
- * (seed: the argument, or 1) beside bench/record_plain.c, which is plain C from paper 01: each answer, each reply and both lists.
+ * (seed: the argument, or 1) beside bench/record_plain.c, which is plain C from the papers: each answer, each reply, all totals and both lists.
  * Prints one line, and ends with 1 where anything differs.
  */
 #include "record_plain.h"
@@ -30,7 +30,7 @@ static void expect(int good, const char *what, unsigned long n)
 }
 
 /* An answer beside plain C's. Each of these has to come up among the random calls. */
-static const uint32_t answers[] = {0, 17, 22, 28, 70, 10004, 10008, 10013, 10025, 10033, 10034, 10036, 10049, 10062, SC_HANDED_ON};
+static const uint32_t answers[] = {0, 17, 22, 28, 70, 10008, 10013, 10025, 10033, 10034, 10036, 10049, 10062, SC_HANDED_ON};
 enum { ANSWERS = sizeof answers / sizeof answers[0] };
 static unsigned long seen[ANSWERS];
 
@@ -105,6 +105,44 @@ static size_t report(int first, int many, uint32_t status)
     return (size_t)(52 + 44 + 24 * many);
 }
 
+/* ---- totals */
+/* What is lent for the totals of one call, with a word past each slice that no call may touch. */
+enum { LENT = 6, FILL = 0x5c };
+
+struct lent {
+    uint64_t read[LENT + 1], written[LENT + 1];
+    uint32_t before, read_over, between, written_over, after;
+    size_t read_len, written_len;
+};
+
+static struct lent lend(size_t read_len, size_t written_len)
+{
+    struct lent t;
+    memset(&t, FILL, sizeof t);
+    t.read_len = read_len;
+    t.written_len = written_len;
+    return t;
+}
+
+/* Whether a column is so many sums, zeros in the places past them that are lent, and what it was filled with after that. */
+static int column(const uint64_t *lent, size_t len, const uint64_t *sums)
+{
+    uint64_t filled;
+    memset(&filled, FILL, sizeof filled);
+    for (size_t i = 0; i <= LENT; i++)
+        if (lent[i] != (i >= len ? filled : i < SC_PLACES ? sums[i] : 0))
+            return 0;
+    return 1;
+}
+
+/* Whether the numbers beside the flags are as they were. */
+static int flags_alone(const struct lent *t)
+{
+    uint32_t filled;
+    memset(&filled, FILL, sizeof filled);
+    return t->before == filled && t->between == filled && t->after == filled;
+}
+
 /* ---- K10 to K13 */
 static int lists(int idle, uint64_t n, uint64_t file, uint8_t source)
 {
@@ -124,8 +162,11 @@ static void example(int reclaims, int reports)
         expect(sc_record_reclaim(&held.r, 7, 1) == 0, "K11's reclaim", 0);
     if (reports >= 0) {
         static const uint8_t good[24] = {0, 0, 0, 0, 0, 0, 0, 1};
+        static const uint64_t none[SC_PLACES];
         size_t n = report(reports, 1, 5);
-        expect(n == 120 && sc_record_layoutreturn(&held.r, 7, 1, request, n, reply, 30) == 0, "a report", 0);
+        struct lent t = lend(4, 4);
+        expect(n == 120 && sc_record_layoutreturn(&held.r, 7, 1, request, n, reply, 30, t.read, 4, t.written, 4, &t.read_over, &t.written_over) == 0, "a report", 0);
+        expect(column(t.read, 4, none) && column(t.written, 4, none) && t.read_over == 0 && t.written_over == 0 && flags_alone(&t), "a report's totals", 0);
         expect(memcmp(reply, good, 24) == 0 && reply[24] == 0x99 && reply[29] == 0x99, "a reply", 0);
     }
     expect(sc_record_end_grace(&held.r) == 0, "the end of grace", 0);
@@ -141,6 +182,95 @@ static void examples(void)
     expect(lists(0, 1, 7, 1) && lists(1, 0, 0, 0) && sc_record_close(&held.r, 7, 1) == 0 && lists(1, 1, 7, 1), "K12", 0);
     example(1, 2);
     expect(lists(0, 1, 7, 0), "K13", 0);
+}
+
+/* ---- totals of one file with the mirrors of devices 0, 1 and 2, and a client with an intent */
+static void put64(uint8_t *p, uint64_t x)
+{
+    put32(p, (uint32_t)(x >> 32));
+    put32(p + 4, (uint32_t)x);
+}
+
+/* One statistics record more at the end of a request that ends with them; its strings and handle have so many bytes. Its latencies count other bytes. */
+static size_t statistic(size_t len, size_t count, const uint8_t *id, uint64_t read, uint64_t written, const size_t *opaques)
+{
+    uint8_t *s = request + len;
+    put32(request + count, request[count + 3] + 1u);
+    memset(s, 0x11, 80);
+    put64(s + 40, read);
+    put64(s + 56, written);
+    memcpy(s + 64, id, 16);
+    s += 80;
+    for (int i = 0; i < 3; i++) {
+        size_t padded = (opaques[i] + 3) / 4 * 4;
+        put32(s, (uint32_t)opaques[i]);
+        memset(s + 4, 0x7a, opaques[i]);
+        memset(s + 4 + opaques[i], 0, padded - opaques[i]);
+        s += 4 + padded;
+    }
+    memset(s, 0x22, 140);
+    put32(s + 140, 1);
+    s += 144;
+    put32(request + 48, (uint32_t)(s - request - 52));
+    return (size_t)(s - request);
+}
+
+/* A request of the client 1 on the file 7 gets the answer; its totals are so many bytes and flags, or zeros. */
+static void totals(const char *what, size_t len, uint64_t client, size_t room, uint32_t answer, const uint64_t *read, const uint64_t *written, uint32_t read_over, uint32_t written_over)
+{
+    static const size_t lens[] = {0, 1, 3, 4, 5, 6};
+    for (size_t i = 0; i < 6; i++) {
+        uint8_t reply[24];
+        struct lent t = lend(lens[i], lens[(i + 2) % 6]);
+        uint32_t x = sc_record_layoutreturn(&held.r, 7, client, request, len, reply, room, t.read, t.read_len, t.written, t.written_len, &t.read_over, &t.written_over);
+        expect(x == answer, what, i);
+        expect(column(t.read, t.read_len, read) && t.read_over == read_over, what, 10 + i);
+        expect(column(t.written, t.written_len, written) && t.written_over == written_over, what, 20 + i);
+        expect(flags_alone(&t), what, 30 + i);
+    }
+}
+
+/* The file in grace, in a record of either edition. */
+static void with_mirrors(int old)
+{
+    (old ? sc_record_fresh_old : sc_record_fresh)(&held.r);
+    expect(sc_record_register(&held.r, 7, device[0], 48) == 0 && sc_record_open(&held.r, 7, 1) == 0 && sc_record_restart(&held.r) == 0, "a file with three mirrors", 0);
+}
+
+static void edges(void)
+{
+    static const uint64_t most = UINT64_MAX, none[SC_PLACES], sums[SC_PLACES] = {UINT64_MAX, 3, UINT64_MAX}, other[SC_PLACES] = {7, UINT64_MAX, UINT64_MAX};
+    static const size_t opaques[3] = {3, 127, 128};
+    with_mirrors(0);
+    /* device 0 reads 2^64 - 1 in two records, device 2 one byte more; device 1 writes and device 2 writes too much; device 3 is no mirror */
+    size_t count = report(0, 1, 0) - 4, len = count + 4;
+    len = statistic(len, count, device[0], most - 5, 3, opaques);
+    len = statistic(len, count, device[3], most, most, opaques);
+    len = statistic(len, count, device[2], most, most, opaques);
+    len = statistic(len, count, device[0], 5, 4, opaques);
+    len = statistic(len, count, device[1], 3, most, opaques);
+    len = statistic(len, count, device[2], 1, 0, opaques);
+    len = statistic(len, count, device[2], 9, most, opaques);
+    totals("sums at the edge", len, 1, 24, 0, sums, other, 4, 4);
+    expect(lists(0, 0, 0, 0), "statistics mark nothing", 0);
+    totals("a client without an intent", len, 2, 24, 10034, none, none, 0, 0);
+    totals("no room for the reply", len, 1, 23, 28, none, none, 0, 0);
+    totals("a byte too few", len - 1, 1, 24, 10036, none, none, 0, 0);
+    request[len - 1] = 2;
+    totals("a boolean above 1", len, 1, 24, 10036, none, none, 0, 0);
+    request[len - 1] = 1;
+    request[12 + 3] = 2;
+    totals("handed on", 16, 1, 24, SC_HANDED_ON, none, none, 0, 0);
+    request[12 + 3] = 1;
+    memcpy(request + 92, device[3], 16);
+    totals("an ignored report", len, 1, 24, 0, none, none, 0, 0);
+    expect(lists(0, 1, 7, 0), "an ignored report marks", 0);
+    memcpy(request + 92, device[0], 16);
+    with_mirrors(1);
+    totals("an old record", len, 1, 24, 10025, none, none, 0, 0);
+    with_mirrors(0);
+    expect(sc_record_end_grace(&held.r) == 0, "the end of grace", 0);
+    totals("out of grace", len, 1, 24, 10033, none, none, 0, 0);
 }
 
 /* ---- random calls */
@@ -170,18 +300,52 @@ static void compare_lists(unsigned long n)
     }
 }
 
+/* How often a total was flagged, was 2^64 - 1 without a flag, and was neither that nor 0. */
+static unsigned long flagged, full, counted;
+
+/* So many statistics records of any devices at the end of a request, whose bytes often come to about 2^64. */
+static size_t statistics(size_t len, uint64_t many)
+{
+    static const uint64_t some[] = {0, 1, 4096, UINT64_MAX / 2, UINT64_MAX / 2 + 1, UINT64_MAX - 1, UINT64_MAX};
+    static const size_t lens[] = {0, 1, 4, 9, 127, 128};
+    size_t count = len - 4;
+    for (; many > 0; many--) {
+        size_t opaques[3];
+        for (int i = 0; i < 3; i++)
+            opaques[i] = below(40) ? lens[below(6)] : 129;
+        len = statistic(len, count, device[below(DEVICES)], some[below(7)], below(3) ? some[below(7)] : random64(), opaques);
+    }
+    return len;
+}
+
+static void tell(const uint64_t *sums, size_t len, uint32_t over)
+{
+    for (size_t i = 0; i < len && i < SC_PLACES; i++) {
+        flagged += over >> i & 1;
+        full += sums[i] == UINT64_MAX && !(over >> i & 1);
+        counted += sums[i] != UINT64_MAX && sums[i] != 0;
+    }
+}
+
 static void compare_returns(unsigned long n, uint64_t file, uint64_t client)
 {
     uint8_t reply[2][30];
     memset(reply, 0x44, sizeof reply);
-    size_t len = report((int)below(DEVICES), (int)below(4), below(3) ? 5 : 0), room = below(8) ? 30 : below(30);
+    size_t len = report((int)below(DEVICES), below(3) ? 0 : (int)below(4), below(3) ? 5 : 0), room = below(8) ? 30 : below(30);
+    struct lent t = lend(below(2) ? 4 : below(LENT + 1), below(2) ? 4 : below(LENT + 1)), u = t;
+    if (below(3) != 0)
+        len = statistics(len, below(6));
     if (below(6) == 0)
         request[below(len)] ^= (uint8_t)(1u << below(8));
     if (below(10) == 0)
         len = below(len + 1);
-    uint32_t x = sc_record_layoutreturn(&held.r, file, client, request, len, reply[0], room);
-    uint32_t y = plain_record_layoutreturn(&plain, file, client, request, len, reply[1], room);
+    uint32_t x = sc_record_layoutreturn(&held.r, file, client, request, len, reply[0], room, t.read, t.read_len, t.written, t.written_len, &t.read_over, &t.written_over);
+    uint32_t y = plain_record_layoutreturn(&plain, file, client, request, len, reply[1], room, u.read, u.read_len, u.written, u.written_len, &u.read_over, &u.written_over);
     same(x, y, "a LAYOUTRETURN", n);
+    expect(memcmp(t.read, u.read, sizeof t.read) == 0 && memcmp(t.written, u.written, sizeof t.written) == 0, "totals", n);
+    expect(t.read_over == u.read_over && t.written_over == u.written_over && flags_alone(&t), "flags", n);
+    tell(t.read, t.read_len, t.read_over);
+    tell(t.written, t.written_len, t.written_over);
     expect(memcmp(reply[0], reply[1], sizeof reply[0]) == 0, "a reply", n);
 }
 
@@ -190,7 +354,7 @@ static void random_calls(int old)
     (old ? sc_record_fresh_old : sc_record_fresh)(&held.r);
     (old ? plain_record_fresh_old : plain_record_fresh)(&plain);
     for (unsigned long n = 0; n < CALLS; n++) {
-        uint64_t file = 10 * below(70), client = below(CLIENTS);
+        uint64_t file = 10 * below(below(2) ? 70 : 6), client = below(below(2) ? CLIENTS : 2);
         uint8_t mirrors[96];
         size_t len = below(8) ? 16 * (1 + below(4)) : below(96);
         int first = (int)below(DEVICES);
@@ -222,6 +386,7 @@ static void random_calls(int old)
     }
     for (int i = 0; !old && i < ANSWERS; i++)
         expect(seen[i] != 0, "an answer that never came up", answers[i]);
+    expect((flagged != 0 && full != 0 && counted != 0) == !old, "totals of the random calls: flags, 2^64 - 1 without one, or others", flagged);
 }
 
 int main(int argc, char **argv)
@@ -232,8 +397,10 @@ int main(int argc, char **argv)
         memset(device[i], 0xa0 + i, 16);
     layout();
     examples();
+    edges();
     random_calls(1);
     random_calls(0);
-    printf("capi: %d random calls beside plain C, the struct and K10 to K13: %lu differences\n", CALLS, differences);
+    printf("capi: %d random calls beside plain C, with %lu totals (%lu flagged, %lu of 2^64 - 1 that are not); the struct, totals at the edge and K10 to K13: %lu differences\n", CALLS,
+           counted + flagged + full, flagged, full, differences);
     return differences != 0;
 }
