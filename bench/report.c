@@ -1,7 +1,7 @@
 /*
- * The check of an error report (step 5) beside plain C compiled in this program, turn about; the least time of many rounds of each.
+ * The check of a report (step 5) beside plain C compiled in this program, turn about; the least time of many rounds of each.
  * report LINUX: the file of captured requests, whose largest body is one of the inputs. Prints a line a body; exits 1 where a check takes
- * more than 1.2 times plain C. The walk of the device errors is printed too, without a limit.
+ * more than 1.2 times plain C. The walks of the device errors and of the statistics records are printed too, without a limit.
  */
 #include <stdio.h>
 #include <time.h>
@@ -31,7 +31,7 @@ static uint32_t plain_next(const uint8_t *s, size_t n, uint64_t *at, uint32_t *r
     size_t left = a < n ? n - a : 0;
     while (d == 0) {
         if (r == 0)
-            return left < 4 ? 10036 : plain_be32(s + a) != 0 ? 10004 : left == 4 ? 0 : 10036;
+            return a > n ? 10036 : plain_statistics_check(s, n, a);
         if (left < 36)
             return 10036;
         d = plain_be32(s + a + 32);
@@ -51,6 +51,37 @@ static uint32_t plain_next(const uint8_t *s, size_t n, uint64_t *at, uint32_t *r
     return 1;
 }
 
+static uint32_t plain_statistics_next(const uint8_t *s, size_t n, uint64_t *at, uint32_t *left, uint64_t *device, uint64_t *read, uint64_t *written)
+    __attribute__((noinline));
+
+/* sc_statistics_next in plain C. */
+static uint32_t plain_statistics_next(const uint8_t *s, size_t n, uint64_t *at, uint32_t *left, uint64_t *device, uint64_t *read, uint64_t *written)
+{
+    uint64_t a = *at;
+    uint32_t more = *left;
+    *device = *read = *written = 0;
+    if (a == 0) {
+        a = plain_past_errors(s, n);
+        if (a == 0 || n - a < 4)
+            return 10036;
+        more = plain_be32(s + a);
+        a += 4;
+    }
+    if (a > n)
+        return 10036;
+    if (more == 0)
+        return a == n ? 0 : 10036;
+    size_t end = plain_past_statistic(s, n, a);
+    if (end == 0)
+        return 10036;
+    *device = a + PLAIN_DEVICE;
+    *read = plain_be64(s + a + PLAIN_READ);
+    *written = plain_be64(s + a + PLAIN_WRITTEN);
+    *at = end;
+    *left = more - 1;
+    return 1;
+}
+
 static double now(void)
 {
     struct timespec t;
@@ -60,6 +91,7 @@ static double now(void)
 
 typedef uint32_t check(const uint8_t *, size_t);
 typedef uint32_t next(const uint8_t *, size_t, uint64_t *, uint32_t *, uint32_t *, uint32_t *, uint64_t *, uint32_t *);
+typedef uint32_t statistics_next(const uint8_t *, size_t, uint64_t *, uint32_t *, uint64_t *, uint64_t *, uint64_t *);
 
 static volatile uint32_t sink;
 
@@ -89,19 +121,43 @@ static double walks(next *f, const uint8_t *body, size_t n)
     return took / (CALLS / 20);
 }
 
+static double statistics_walks(statistics_next *f, const uint8_t *body, size_t n)
+{
+    uint64_t sum = 0;
+    double from = now();
+    for (int i = 0; i < CALLS / 20; i++) {
+        uint64_t at = 0, device, read, written;
+        uint32_t left = 0;
+        while (f(body, n, &at, &left, &device, &read, &written) == 1)
+            sum += device + read + written;
+    }
+    double took = now() - from;
+    sink = (uint32_t)sum;
+    return took / (CALLS / 20);
+}
+
+static void least(double *best, double took)
+{
+    if (took < *best)
+        *best = took;
+}
+
 static int beside(const char *name, const uint8_t *body, size_t n)
 {
     check *volatile library = sc_report_check, *volatile plain = plain_report_check;
     next *volatile library_next = sc_report_next, *volatile plain_walk = plain_next;
-    double a = 1e18, b = 1e18, c = 1e18, d = 1e18, t;
+    statistics_next *volatile library_statistics = sc_statistics_next, *volatile plain_statistics = plain_statistics_next;
+    double a = 1e18, b = 1e18, c = 1e18, d = 1e18, e = 1e18, f = 1e18;
     for (int i = 0; i < ROUNDS; i++) {
-        a = (t = checks(library, body, n)) < a ? t : a;
-        b = (t = checks(plain, body, n)) < b ? t : b;
-        c = (t = walks(library_next, body, n)) < c ? t : c;
-        d = (t = walks(plain_walk, body, n)) < d ? t : d;
+        least(&a, checks(library, body, n));
+        least(&b, checks(plain, body, n));
+        least(&c, walks(library_next, body, n));
+        least(&d, walks(plain_walk, body, n));
+        least(&e, statistics_walks(library_statistics, body, n));
+        least(&f, statistics_walks(plain_statistics, body, n));
     }
-    printf("%-34s %5zu bytes, status %5u: check %8.1f ns, C %8.1f, ratio %.2f; walk %8.1f ns, C %8.1f, ratio %.2f\n", name, n,
-           (unsigned)sc_report_check(body, n), a, b, a / b, c, d, c / d);
+    printf("%-36s %5zu bytes, status %5u: check %7.1f ns, C %7.1f, ratio %.2f; errors %7.1f ns, C %7.1f, ratio %.2f; statistics %7.1f ns, C %7.1f, ratio %.2f\n",
+           name, n, (unsigned)sc_report_check(body, n), a, b, a / b, c, d, c / d, e, f, e / f);
     return a > 1.2 * b;
 }
 
@@ -112,8 +168,15 @@ static size_t put32(uint8_t *d, size_t at, uint32_t x)
     return at + 4;
 }
 
-/* `records` error records of `devices` device errors each. */
-static size_t made(uint8_t *d, uint32_t records, uint32_t devices)
+static size_t put_opaque(uint8_t *d, size_t at, uint32_t len)
+{
+    at = put32(d, at, len);
+    memset(d + at, 'x', len);
+    return at + (len + 3) / 4 * 4;
+}
+
+/* `records` error records of `devices` device errors each, and `statistics` statistics records whose address parts and handles have so many bytes. */
+static size_t made(uint8_t *d, uint32_t records, uint32_t devices, uint32_t statistics, const uint32_t *lens)
 {
     memset(d, 0, MOST);
     size_t at = put32(d, 0, records);
@@ -122,7 +185,15 @@ static size_t made(uint8_t *d, uint32_t records, uint32_t devices)
         for (uint32_t j = 0; j < devices; j++, at += 24)
             put32(d, at + 16, j % 7);
     }
-    return put32(d, at, 0);
+    at = put32(d, at, statistics);
+    for (uint32_t i = 0; i < statistics; i++) {
+        put32(d, at + PLAIN_READ + 4, 4096);
+        at += PLAIN_UPDATE;
+        for (int j = 0; j < 3; j++)
+            at = put_opaque(d, at, lens[j]);
+        at += 2 * PLAIN_LATENCY + PLAIN_DURATION + 4;
+    }
+    return at;
 }
 
 static int digit(int c)
@@ -161,9 +232,14 @@ int main(int count, char **words)
         fprintf(stderr, "usage: report LINUX (a file of captured requests)\n");
         return 1;
     }
+    static const uint32_t linux_lens[3] = {3, 12, 128}, none[3], odd[3] = {125, 126, 127};
     int slow = beside("largest captured report", body, n);
-    slow |= beside("68 records, a device error each", body, made(body, 68, 1));
-    slow |= beside("113 records without device errors", body, made(body, 113, 0));
-    slow |= beside("a record of 168 device errors", body, made(body, 1, 168));
+    slow |= beside("68 records, a device error each", body, made(body, 68, 1, 0, none));
+    slow |= beside("113 records without device errors", body, made(body, 113, 0, 0, none));
+    slow |= beside("a record of 168 device errors", body, made(body, 1, 168, 0, none));
+    slow |= beside("20 error records, 4 statistics", body, made(body, 20, 1, 4, linux_lens));
+    slow |= beside("17 error records, 8 statistics", body, made(body, 17, 1, 8, linux_lens));
+    slow |= beside("17 statistics with empty strings", body, made(body, 0, 0, 17, none));
+    slow |= beside("6 statistics with all padding", body, made(body, 0, 0, 6, odd));
     return slow;
 }
