@@ -35,14 +35,14 @@ fn raised(mask: u32, place: u32, up: bool) -> u32
     if up { masks::with(mask, place) } else { mask }
 }
 
-// The set of the places whose flag is up.
-fn mask(flags: [bool; PLACES]) -> u32
+// The set of the places whose flag is 1.
+fn mask(flags: [u64; PLACES]) -> u32
     ensures { λ r. ⌜ r ≡ maskOf flags ⌝ }
 {
     let mut m: u32 = 0;
     let mut i: usize = 0;
     while i < PLACES {
-        let up = flags[i];
+        let up = flags[i] == 1;
         m = raised(m, i as u32, up);
         i = i + 1;
     }

@@ -8,7 +8,7 @@ use native.Mathlib.Omega.{arith}
 use native.Mathlib.Nat.{add-assoc, add-zero}
 use borrow.Author.Tests.{lt-ltb, le-ltb, ltb-true, ltb-false}
 use lib.ListN.{length, replicate, getD}
-use lib.Dec.{ltb}
+use lib.Dec.{ltb, eqb}
 use Rattle.reports.specs.Device.{halves}
 use Rattle.reports.specs.Statistics.{Statistic}
 use Rattle.reports.specs.Report.{over}
@@ -44,9 +44,9 @@ grown-is k e = by-past (ltb most k) refl
 passed-is : (k e : ℕ) → passedBy e (cut k) (passes k) ≡ passes (k + e)
 passed-is k e = by-past (ltb most k) refl
   where
-    by-past : (b : Bool) → ltb most k ≡ b → cond b true (ltb (most - cond b most k) e) ≡ passes (k + e)
-    by-past true q = sym (lt-ltb most (k + e) (omega (arith, ltb-true most k q)))
-    by-past false q = no-room k e (ltb-false most k q)
+    by-past : (b : Bool) → ltb most k ≡ b → cond (eqb (cond b 1 0) 1) 1 (cond (ltb (most - cond b most k) e) 1 0) ≡ passes (k + e)
+    by-past true q = rw (lt-ltb most (k + e) (omega (arith, ltb-true most k q)))
+    by-past false q = rw (no-room k e (ltb-false most k q))
 
 -- ---- sums by place after one record: a m is the sum of the mirror m so far
 abbrev more : (Mirror → ℕ) → ℕ → ℕ → ℕ → Mirror → ℕ
@@ -61,7 +61,7 @@ module _ (a : Mirror → ℕ) (h l n : ℕ) where
   passed-each : (ms : List Mirror) → passedIn (sharesOf ms h l n) (map cut (map a ms)) (map passes (map a ms)) ≡ map passes (map (more a h l n) ms)
   unfolding passedIn sharesOf
   passed-each [] = refl
-  passed-each (m ∷ ms) = ap₂ {C = List Bool} (λ b bs. b ∷ bs) (passed-is (a m) (cond (isAt h l m) n 0)) (passed-each ms)
+  passed-each (m ∷ ms) = ap₂ {C = List ℕ} (λ b bs. b ∷ bs) (passed-is (a m) (cond (isAt h l m) n 0)) (passed-each ms)
 
   added-each : (ms : List Mirror) → addedSums (sharesOf ms h l n) (cutSums (map a ms)) ≡ cutSums (map (more a h l n) ms)
   added-each ms = ap₂ {C = Sums} (λ bs fs. record { bytes = bs; over = fs }) (grown-each ms) (passed-each ms)
@@ -142,7 +142,7 @@ sharing ms h l n k x = cond (isAt h l (getD ms k noMirror)) n 0
 abbrev pub growing : List ℕ → ℕ → ℕ → ℕ
 growing es k b = grownBy (getD es k 0) b
 
-abbrev pub passing : List ℕ → List ℕ → ℕ → Bool → Bool
+abbrev pub passing : List ℕ → List ℕ → ℕ → ℕ → ℕ
 passing es bs k up = passedBy (getD es k 0) (getD bs k 0) up
 
 shared-places : (ms : List Mirror) (h l n : ℕ) (es : List ℕ) → length ms ≡ length es → mapAt (sharing ms h l n) es ≡ map (λ m. cond (isAt h l m) n 0) ms
@@ -158,12 +158,12 @@ grown-places es [] e = refl
 grown-places [] (b ∷ bs) e = absurd (omega (arith, e))
 grown-places (x ∷ es) (b ∷ bs) e = ap {B = List ℕ} (λ t. grownBy x b ∷ t) (grown-places es bs (omega (arith, e)))
 
-passed-places : (es bs : List ℕ) (fs : List Bool) → length es ≡ length fs → length bs ≡ length fs → mapAt (passing es bs) fs ≡ passedIn es bs fs
+passed-places : (es bs fs : List ℕ) → length es ≡ length fs → length bs ≡ length fs → mapAt (passing es bs) fs ≡ passedIn es bs fs
 unfolding mapAt passedIn
 passed-places es bs [] e q = refl
 passed-places [] bs (f ∷ fs) e q = absurd (omega (arith, e))
 passed-places (x ∷ es) [] (f ∷ fs) e q = absurd (omega (arith, q))
-passed-places (x ∷ es) (b ∷ bs) (f ∷ fs) e q = ap {B = List Bool} (λ t. passedBy x b f ∷ t) (passed-places es bs fs (omega (arith, e)) (omega (arith, q)))
+passed-places (x ∷ es) (b ∷ bs) (f ∷ fs) e q = ap {B = List ℕ} (λ t. passedBy x b f ∷ t) (passed-places es bs fs (omega (arith, e)) (omega (arith, q)))
 
 pub mapped-shared : (ms : List Mirror) (h l n : ℕ) (es : List ℕ) {fs : List ℕ} {i : ℕ} → Mapping (sharing ms h l n) es fs i → length ms ≡ length es → length es ≤ i
     → fs ≡ sharesOf ms h l n
@@ -173,6 +173,6 @@ mapped-shared ms h l n es s e k = mapped-at s k ∙ shared-places ms h l n es e
 pub mapped-grown : (es bs : List ℕ) {cs : List ℕ} {i : ℕ} → Mapping (growing es) bs cs i → length es ≡ length bs → length bs ≤ i → cs ≡ grownIn es bs
 mapped-grown es bs s e k = mapped-at s k ∙ grown-places es bs e
 
-pub mapped-passed : (es bs : List ℕ) (fs : List Bool) {gs : List Bool} {i : ℕ} → Mapping (passing es bs) fs gs i → length es ≡ length fs → length bs ≡ length fs
+pub mapped-passed : (es bs fs : List ℕ) {gs : List ℕ} {i : ℕ} → Mapping (passing es bs) fs gs i → length es ≡ length fs → length bs ≡ length fs
     → length fs ≤ i → gs ≡ passedIn es bs fs
 mapped-passed es bs fs s e q k = mapped-at s k ∙ passed-places es bs fs e q

@@ -1,7 +1,7 @@
 -- DEFINITION. The totals of bytes read and written of one report, by mirror (Ticket 3), in this order: a sum as it is told; a device's sum; the totals of
 -- some devices.
 use mathlib.Core.List.{List, [], _∷_, map}
-use mathlib.Core.Bool.{Bool, cond}
+use mathlib.Core.Bool.{cond}
 use Prim.Native.Nat.{ℕ, _+_}
 use lib.ListN.{replicate}
 use lib.Dec.{ltb}
@@ -16,12 +16,12 @@ use Rattle.mirroring.specs.declared.totals.Totals.{Totals}
 abbrev pub most : ℕ
 most = 18446744073709551615
 
--- a sum that would pass 2^64 - 1 stays at that number and is flagged, and no other is
+-- a sum that would pass 2^64 - 1 stays at that number and is flagged by 1, and every other by 0
 abbrev pub cut : ℕ → ℕ
 cut n = cond (ltb most n) most n
 
-abbrev pub passes : ℕ → Bool
-passes n = ltb most n
+abbrev pub passes : ℕ → ℕ
+passes n = cond (ltb most n) 1 0
 
 abbrev pub cutSums : List ℕ → Sums
 cutSums ns = record { bytes = map cut ns; over = map passes ns }

@@ -1,9 +1,9 @@
 -- MODEL of the code: the totals of a file's places for mirrors, and totals that are added to, one record after another. proofs/Summing.antt proves that
 -- these end at those.
 use mathlib.Core.List.{List, [], _∷_, map}
-use mathlib.Core.Bool.{Bool, true, cond}
+use mathlib.Core.Bool.{cond}
 use Prim.Native.Nat.{ℕ, _+_, _-_}
-use lib.Dec.{ltb}
+use lib.Dec.{ltb, eqb}
 use Rattle.reports.specs.Statistics.{Statistic}
 use Rattle.reports.specs.Report.{Report, Whole, Malformed}
 use Rattle.mirroring.specs.Mirrors.{isAt}
@@ -28,15 +28,15 @@ sharesOf ms h l n = map (λ m. cond (isAt h l m) n 0) ms
 abbrev pub grownBy : ℕ → ℕ → ℕ
 grownBy e b = cond (ltb (most - b) e) most (b + e)
 
-abbrev pub passedBy : ℕ → ℕ → Bool → Bool
-passedBy e b up = cond up true (ltb (most - b) e)
+abbrev pub passedBy : ℕ → ℕ → ℕ → ℕ
+passedBy e b up = cond (eqb up 1) 1 (cond (ltb (most - b) e) 1 0)
 
 unfoldable pub grownIn : List ℕ → List ℕ → List ℕ
 grownIn es [] = []
 grownIn [] (b ∷ bs) = b ∷ bs
 grownIn (e ∷ es) (b ∷ bs) = grownBy e b ∷ grownIn es bs
 
-unfoldable pub passedIn : List ℕ → List ℕ → List Bool → List Bool
+unfoldable pub passedIn : List ℕ → List ℕ → List ℕ → List ℕ
 passedIn es bs [] = []
 passedIn [] bs (up ∷ ups) = up ∷ ups
 passedIn (e ∷ es) [] (up ∷ ups) = up ∷ ups

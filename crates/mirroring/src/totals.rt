@@ -11,11 +11,12 @@ pub const PLACES: usize = 4;
 // The largest sum.
 const MOST: u64 = 18446744073709551615;
 
-// A sum of bytes for each mirror, by place, and whether it passed 2^64 - 1, where it stays; a place without a mirror has none.
+// A sum of bytes for each mirror, by place, and 1 where it passed 2^64 - 1, at which it stays; a place without a mirror has none. A flag is as wide as a
+// sum, since the compiler packs four bytes into one number and takes them out again at each record.
 #[repr(C)]
 pub struct Sums {
     pub bytes: [u64; PLACES],
-    pub over: [bool; PLACES],
+    pub over: [u64; PLACES],
 }
 
 // What was read from each mirror, and what was written to it.
@@ -42,11 +43,14 @@ fn grown_by(more: u64, sum: u64) -> u64
     sum + more
 }
 
-// Whether the sum has passed 2^64 - 1 by then.
-fn passed_by(more: u64, sum: u64, over: bool) -> bool
+// The sum's flag by then.
+fn passed_by(more: u64, sum: u64, over: u64) -> u64
     ensures { λ r. ⌜ r ≡ passedBy more sum over ⌝ }
 {
-    if over { true } else { MOST - sum < more }
+    if over == 1 {
+        return 1;
+    }
+    if MOST - sum < more { 1 } else { 0 }
 }
 
 // What a record of `n` bytes adds to each mirror's sum. Here and below each place is written by its own number, which the compiler can keep in registers.
@@ -79,7 +83,7 @@ fn grown(extra: [u64; PLACES], sums: [u64; PLACES]) -> [u64; PLACES]
 }
 
 // And each sum's flag.
-fn passed(extra: [u64; PLACES], sums: [u64; PLACES], flags: [bool; PLACES]) -> [bool; PLACES]
+fn passed(extra: [u64; PLACES], sums: [u64; PLACES], flags: [u64; PLACES]) -> [u64; PLACES]
     ensures { λ r. ⌜ r ≡ passedIn extra sums flags ⌝ }
 {
     let mut fs = flags;
@@ -97,7 +101,7 @@ impl Sums {
         ensures { λ r. ⌜ r ≡ cutSums noSums ⌝ }
     {
         let bs = [0u64; PLACES];
-        let fs = [false; PLACES];
+        let fs = [0u64; PLACES];
         Sums {
             bytes: bs,
             over: fs,

@@ -20,6 +20,9 @@ long c = search needs
 loop-holds : tie.Need-loop-holds Inv-loop μ-loop
 loop-holds c = masking-none _
 
+mul-up : tie.Need-mul-up Inv-loop μ-loop
+mul-up c = omega arith
+
 array-read-up : tie.Need-array-read-up Inv-loop μ-loop
 array-read-up c = omega arith
 
@@ -48,6 +51,7 @@ mask-spec =
     Inv-loop
     μ-loop
     loop-holds
+    mul-up
     array-read-up
     cast-raised
     raised-requires

@@ -1,6 +1,5 @@
 -- The loop maps by place: `Mapping` holds at its head.
 use mathlib.Core.Path.{_≡_, sym, _∙_}
-use mathlib.Core.Bool.{false}
 use Prim.Native.Nat.{_-_}
 use lib.ListN.{length}
 use Rattle.places.proofs.Loops.{Mapping, mapping-none, mapping-more}
@@ -40,11 +39,17 @@ mul-passed-by-2 c = omega arith
 array-read-passed-by-2 : tie.Need-array-read-passed-by-2 Inv-loop μ-loop
 array-read-passed-by-2 c = omega arith
 
+mul-passed-by-3 : tie.Need-mul-passed-by-3 Inv-loop μ-loop
+mul-passed-by-3 c = omega arith
+
 array-read-passed-by-3 : tie.Need-array-read-passed-by-3 Inv-loop μ-loop
 array-read-passed-by-3 c = omega arith
 
 passed-by-requires : tie.Need-passed-by-requires Inv-loop μ-loop
 passed-by-requires c κs = search needs
+
+mul-fs : tie.Need-mul-fs Inv-loop μ-loop
+mul-fs c = omega arith
 
 array-write-fs : tie.Need-array-write-fs Inv-loop μ-loop
 array-write-fs c = omega arith
@@ -57,7 +62,7 @@ loop-less c = omega arith
 
 loop-again : tie.Need-loop-again Inv-loop μ-loop
 loop-again c =
-    mapping-more (c .before .before .loop .inv) false (omega (arith, long (c .before .before .before))) _ (c .passed-by .ensures)
+    mapping-more (c .before .before .loop .inv) 0 (omega (arith, long (c .before .before .before))) _ (c .passed-by .ensures)
 
 returns : tie.Need-returns Inv-loop μ-loop
 returns c =
@@ -75,8 +80,10 @@ passed-spec =
     array-read-passed-by
     mul-passed-by-2
     array-read-passed-by-2
+    mul-passed-by-3
     array-read-passed-by-3
     passed-by-requires
+    mul-fs
     array-write-fs
     add-i
     loop-less
