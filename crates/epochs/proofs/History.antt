@@ -1,5 +1,6 @@
--- What paper 01 says of the record after any calls is so (`AfterAnyCalls` of specs/History.antt). In this order:
+-- What paper 01 says of the record after any calls, and of a refused call, is so (`AfterAnyCalls`, `RefusedUnchanged` of specs/History.antt). In this order:
 --     Refusals, judged-by     what holds of each refusal, and of the accepted call where no refusal applies, holds of what is judged
+--     refused-unchanged       the claim of a refused call
 --     counts                  C rises exactly at a start that is accepted where R is 0
 --     Of                      flags on members only: a node joins, leaves, gets the flag, loses it
 --     Period                  R is 0 or C - 1, and is 0 exactly where nobody has NEED: a node starts, and finishes
@@ -20,7 +21,7 @@ use Rattle.epochs.specs.declared.Epochs.{Epochs}
 use Rattle.epochs.specs.declared.Answered.{Answered}
 use Rattle.epochs.specs.declared.MayReclaim.the-variants.{Yes, No, NoSuchNode}
 use Rattle.epochs.specs.Epochs.{member, needs, noGrace, above31, allEnforce, fresh, Rule, _⇒_, joinRules, leaveRules, startRules, enforceRules, finishRules, stopRules, joined, departed, newEpoch, begun, flagged, enforced, finished, stopped, accepted, refused, judged, joinOf, leaveOf, startOf, enforceOf, finishOf, stopOf, mayReclaimOf, reclaimNumber}
-use Rattle.epochs.specs.History.{Call, join, leave, start, enforce, finish, stopEnforcing, mayReclaim, called, after, isStart, raises, raised, Sound, AfterAnyCalls}
+use Rattle.epochs.specs.History.{Call, join, leave, start, enforce, finish, stopEnforcing, mayReclaim, called, after, isStart, raises, raised, Sound, AfterAnyCalls, RefusedUnchanged}
 
 -- ---- a call is refused by one of its rules, or none applies
 abbrev Refusals : (Answered → Type 0) → Epochs → List Rule → Type 0
@@ -36,6 +37,23 @@ unfolding judged
 judged-by Q e [] next refusals accepts = accepts tt
 judged-by Q e ((true ⇒ s) ∷ rules) next refusals accepts = refusals .0
 judged-by Q e ((false ⇒ s) ∷ rules) next refusals accepts = judged-by Q e rules next (refusals .1) (λ none. accepts (refl, none))
+
+-- ---- a refused call
+stays-refused : (e : Epochs) (rules : List Rule) (next : Epochs) → (judged e rules next .status ≡ 0 → ⊥) → judged e rules next .epochs ≡ e
+unfolding judged
+stays-refused e [] next z = absurd (z refl)
+stays-refused e ((true ⇒ s) ∷ rules) next z = refl
+stays-refused e ((false ⇒ s) ∷ rules) next z = stays-refused e rules next z
+
+pub refused-unchanged : RefusedUnchanged
+unfolding joinOf leaveOf startOf enforceOf finishOf stopOf
+refused-unchanged e (join node) = stays-refused e (joinRules e node) (joined e node)
+refused-unchanged e (leave node) = stays-refused e (leaveRules e node) (departed e node)
+refused-unchanged e (start node) = stays-refused e (startRules e node) (flagged (begun e) node)
+refused-unchanged e (enforce node) = stays-refused e (enforceRules e node) (enforced e node)
+refused-unchanged e (finish node) = stays-refused e (finishRules e node) (finished e node)
+refused-unchanged e (stopEnforcing node) = stays-refused e (stopRules e node) (stopped e node)
+refused-unchanged e (mayReclaim node) = λ _. refl
 
 -- ---- C
 abbrev Counts : Epochs → Bool → Answered → Type 0

@@ -3,7 +3,9 @@
 --     after            the record after a list of calls
 --     raises, raised   whether a call is a start that is accepted where R is 0; how many of a list are
 --     Sound            what holds of a record
---     AfterAnyCalls    the claim, which proofs/History.antt proves
+--     AfterAnyCalls    the claim of any history
+--     RefusedUnchanged     the claim of a refused call on any record
+-- proofs/History.antt proves both claims.
 use Prim.Native.Nat.{ℕ, _+_, _-_}
 use mathlib.Core.Path.{_≡_}
 use mathlib.Core.Logic.{_⊎_, _↔_}
@@ -62,3 +64,7 @@ pub record Sound (e : Epochs) (starts : ℕ) : Type 0 where
 
 unfoldable pub AfterAnyCalls : Type 0
 AfterAnyCalls = (calls : List Call) → Sound (after fresh calls) (raised fresh calls)
+
+-- a refused call leaves the record as it was, of EVERY record value and not only of those that a history leads to
+abbrev pub RefusedUnchanged : Type 0
+RefusedUnchanged = (e : Epochs) (c : Call) → (called e c .status ≡ 0 → ⊥) → called e c .epochs ≡ e

@@ -72,7 +72,7 @@ it-is n r l i w z = is-file (l .grace) n (getD (r .files) i noFile) w (z .pair n
 
 -- ---- a call on one file: h is its code, g and t what the ledger makes of the row
 -- a file that is put back as it was changes nothing
-still : (r : Record) (n s : ℕ) (a : FileAnswered) → a ≡ fileAnswered s (r .head) (fileAt n r) → putFile r (placeIn n r) a ≡ answered s r
+pub still : (r : Record) (n s : ℕ) (a : FileAnswered) → a ≡ fileAnswered s (r .head) (fileAt n r) → putFile r (placeIn n r) a ≡ answered s r
 still r n s a e = rw (e, set-getD (r .files) (placeIn n r) noFile)
 
 -- a refusal whatever the file

@@ -11,3 +11,4 @@ mod Within
 mod Worse
 pub mod RestartTwice
 pub mod OnlyTotals
+pub mod Unchanged

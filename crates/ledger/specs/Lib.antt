@@ -4,3 +4,4 @@ pub mod History
 pub mod Demand3
 pub mod RestartTwice
 pub mod OnlyTotals
+pub mod Unchanged
