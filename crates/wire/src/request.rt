@@ -68,7 +68,7 @@ fn laid_out(s: &[u8]) -> Form
             }
             Form::Malformed
         }
-        _ => Form::Malformed,
+        0 | 4..=4294967295 => Form::Malformed,
     }
 }
 
@@ -79,7 +79,7 @@ fn refusal(layout: u32, iomode: u32) -> u32
     match layout {
         4 => match iomode {
             1..=3 => 0,
-            _ => 10049,
+            0 | 4..=4294967295 => 10049,
         },
         _ => 10062,
     }

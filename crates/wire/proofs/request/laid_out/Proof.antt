@@ -27,8 +27,8 @@ file-laid-out-requires c κs = search needs
 
 returns-3 : tie.Need-returns-3
 returns-3 c =
-    let s = c .before .before .before .before .before .before .before .before .before .args .s .now in
-    form-bulk s (omega arith) (c .before .before .before .before .before .before .be32 .ensures) (omega arith) (c .before .before .before .before .be322 .ensures) (omega arith) (omega arith) (omega arith)
+    let s = c .before .before .before .before .before .before .before .before .args .s .now in
+    form-bulk s (omega arith) (c .before .before .before .before .before .be32 .ensures) (omega arith) (c .before .before .before .be322 .ensures) (omega arith) (omega arith) (omega arith)
 
 returns-4 : tie.Need-returns-4
 returns-4 c =
@@ -37,18 +37,18 @@ returns-4 c =
 
 returns-5 : tie.Need-returns-5
 returns-5 c =
-    let s = c .before .before .before .before .before .before .before .before .before .args .s .now in
-    form-spare s (omega arith) (c .before .before .before .before .before .before .be32 .ensures) (omega arith) (c .before .before .before .before .be322 .ensures) (omega arith) (omega arith) (c .if5 .left)
+    let s = c .before .before .before .before .before .before .before .before .args .s .now in
+    form-spare s (omega arith) (c .before .before .before .before .before .be32 .ensures) (omega arith) (c .before .before .before .be322 .ensures) (omega arith) (omega arith) (c .if4 .left)
 
 returns-6 : tie.Need-returns-6
 returns-6 c =
-    let s = c .before .before .before .before .before .before .before .args .s .now in
-    type-low s (omega arith) (c .before .before .before .before .be32 .ensures) (omega arith) (c .before .before .be322 .ensures) (omega arith)
+    let s = c .before .before .before .before .before .before .args .s .now in
+    type-low s (omega arith) (c .before .before .before .be32 .ensures) (omega arith) (c .before .be322 .ensures) (omega arith)
 
 returns-7 : tie.Need-returns-7
 returns-7 c =
-    let s = c .before .before .before .before .before .before .before .before .args .s .now in
-    type-high s (omega arith) (c .before .before .before .before .before .be32 .ensures) (omega arith) (c .before .before .before .be322 .ensures) (omega arith)
+    let s = c .before .before .before .before .before .before .before .args .s .now in
+    type-high s (omega arith) (c .before .before .before .before .be32 .ensures) (omega arith) (c .before .before .be322 .ensures) (omega arith)
 
 pub laid-out-spec : {M : Type 1} → statement M
 laid-out-spec =
