@@ -16,6 +16,24 @@
 extern "C" {
 #endif
 
+/* ---- statuses, by NFS's own names (RFC 8881, 15.1) ----
+ *
+ * What a call answers where it refuses; 0 is success. The refusals of layout bodies are rules of their own, from 1 to 8.
+ */
+#define SC_NOENT UINT32_C(2)                  /* the node is no member of the cluster */
+#define SC_EXIST UINT32_C(17)                 /* the file is registered, or the node a member, already */
+#define SC_INVAL UINT32_C(22)                 /* a node above 31, a bad mirror list, or nothing to repair or to finish */
+#define SC_NOSPC UINT32_C(28)                 /* no room: in a table, in a buffer that is lent, or for another epoch */
+#define SC_STALE UINT32_C(70)                 /* no such file */
+#define SC_DELAY UINT32_C(10008)              /* not yet: the file needs repair, or an intent is open */
+#define SC_GRACE UINT32_C(10013)              /* a grace period is on */
+#define SC_BAD_STATEID UINT32_C(10025)        /* no intent to close, one that is not reclaimed, or the all-zero stateid where the record is old */
+#define SC_NO_GRACE UINT32_C(10033)           /* no grace period is on */
+#define SC_RECLAIM_BAD UINT32_C(10034)        /* the client has no intent on the file */
+#define SC_BADXDR UINT32_C(10036)             /* malformed bytes */
+#define SC_BADIOMODE UINT32_C(10049)          /* an iomode outside 1 to 3 */
+#define SC_UNKNOWN_LAYOUTTYPE UINT32_C(10062) /* a layout type that is not 4 */
+
 /* ---- layout bodies (RFC 8154), from libwire.a ----
  *
  * A body is a 4-byte count n and n extents of 44 bytes: device id (16), file offset (8), length (8), storage offset (8), state (4), big-endian.

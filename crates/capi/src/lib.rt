@@ -5,7 +5,6 @@
 mod totals;
 
 use files::file::File;
-use files::file::HANDED_ON;
 use files::head::Head;
 use mirroring::blame::Heard;
 use recovery::record::Record;
@@ -76,11 +75,11 @@ fn replied(
     ensures { λ o. ⌜ (o ≡ outcomeOf head (answeredHeard number head client (now (request .entry)) (now (reply .entry)) f)) × (now (reply .exit) ≡ fileReply number head client (now (request .entry)) (now (reply .entry)) f) ⌝ }
 {
     if reply.len() < 24 {
-        let h = Heard::nothing(28);
+        let h = Heard::nothing(statuses::NOSPC);
         return Outcome::of(head, h);
     }
     let h = f.heard(number, head, client, request);
-    if h.status == HANDED_ON {
+    if h.status == statuses::HANDED_ON {
         return Outcome::of(head, h);
     }
     wire::reply::write(reply, h.status);

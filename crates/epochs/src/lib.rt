@@ -38,7 +38,7 @@ impl MayReclaim {
         match self {
             MayReclaim::No => 0,
             MayReclaim::Yes => 1,
-            MayReclaim::NoSuchNode => 22,
+            MayReclaim::NoSuchNode => statuses::INVAL,
         }
     }
 }
@@ -82,10 +82,10 @@ impl Epochs {
         ensures { λ r. ⌜ r ≡ joinOf self node ⌝ }
     {
         if 32 <= node {
-            return self.refused(22);
+            return self.refused(statuses::INVAL);
         }
         if masks::test(self.members, node) {
-            return self.refused(17);
+            return self.refused(statuses::EXIST);
         }
         self.members = masks::with(self.members, node);
         self.need = masks::without(self.need, node);
@@ -98,13 +98,13 @@ impl Epochs {
         ensures { λ r. ⌜ r ≡ leaveOf self node ⌝ }
     {
         if 32 <= node {
-            return self.refused(22);
+            return self.refused(statuses::INVAL);
         }
         if !masks::test(self.members, node) {
-            return self.refused(2);
+            return self.refused(statuses::NOENT);
         }
         if masks::test(self.need, node) {
-            return self.refused(10013);
+            return self.refused(statuses::GRACE);
         }
         self.members = masks::without(self.members, node);
         self.enforcing = masks::without(self.enforcing, node);
@@ -126,14 +126,14 @@ impl Epochs {
         ensures { λ r. ⌜ r ≡ startOf self node ⌝ }
     {
         if 32 <= node {
-            return self.refused(22);
+            return self.refused(statuses::INVAL);
         }
         if !masks::test(self.members, node) {
-            return self.refused(2);
+            return self.refused(statuses::NOENT);
         }
         if self.recovery == 0 {
             if self.current == LAST_EPOCH {
-                return self.refused(28);
+                return self.refused(statuses::NOSPC);
             }
             self.recovery = self.current;
             self.current = self.current + 1;
@@ -147,13 +147,13 @@ impl Epochs {
         ensures { λ r. ⌜ r ≡ enforceOf self node ⌝ }
     {
         if 32 <= node {
-            return self.refused(22);
+            return self.refused(statuses::INVAL);
         }
         if !masks::test(self.members, node) {
-            return self.refused(2);
+            return self.refused(statuses::NOENT);
         }
         if self.recovery == 0 {
-            return self.refused(10033);
+            return self.refused(statuses::NO_GRACE);
         }
         self.enforcing = masks::with(self.enforcing, node);
         self.accepted()
@@ -164,13 +164,13 @@ impl Epochs {
         ensures { λ r. ⌜ r ≡ finishOf self node ⌝ }
     {
         if 32 <= node {
-            return self.refused(22);
+            return self.refused(statuses::INVAL);
         }
         if !masks::test(self.members, node) {
-            return self.refused(2);
+            return self.refused(statuses::NOENT);
         }
         if !masks::test(self.need, node) {
-            return self.refused(22);
+            return self.refused(statuses::INVAL);
         }
         self.need = masks::without(self.need, node);
         if masks::none(self.need) {
@@ -185,13 +185,13 @@ impl Epochs {
         ensures { λ r. ⌜ r ≡ stopOf self node ⌝ }
     {
         if 32 <= node {
-            return self.refused(22);
+            return self.refused(statuses::INVAL);
         }
         if !masks::test(self.members, node) {
-            return self.refused(2);
+            return self.refused(statuses::NOENT);
         }
         if self.recovery != 0 {
-            return self.refused(10013);
+            return self.refused(statuses::GRACE);
         }
         self.enforcing = masks::without(self.enforcing, node);
         self.accepted()

@@ -31,9 +31,6 @@ pub struct FileAnswered {
     pub file: File,
 }
 
-// Stands for "handed on" where a status is answered: no status of NFS is this number.
-pub const HANDED_ON: u32 = 4294967295;
-
 impl File {
     // A place that no file has.
     pub fn blank() -> File
@@ -91,7 +88,7 @@ impl File {
     {
         if head.grace {
             return FileAnswered {
-                status: 10013,
+                status: statuses::GRACE,
                 head: head,
                 file: self,
             };
@@ -99,7 +96,7 @@ impl File {
         let hit = self.is(number);
         if !hit {
             return FileAnswered {
-                status: 70,
+                status: statuses::STALE,
                 head: head,
                 file: self,
             };
@@ -114,7 +111,7 @@ impl File {
         }
         let Found::At(i) = intents::room(old) else {
             return FileAnswered {
-                status: 28,
+                status: statuses::NOSPC,
                 head: head,
                 file: self,
             };
@@ -135,7 +132,7 @@ impl File {
     {
         if !head.grace {
             return FileAnswered {
-                status: 10033,
+                status: statuses::NO_GRACE,
                 head: head,
                 file: self,
             };
@@ -143,7 +140,7 @@ impl File {
         let hit = self.is(number);
         if !hit {
             return FileAnswered {
-                status: 70,
+                status: statuses::STALE,
                 head: head,
                 file: self,
             };
@@ -151,7 +148,7 @@ impl File {
         let old = self.intents;
         let Found::At(_) = intents::holding(old, client) else {
             return FileAnswered {
-                status: 10034,
+                status: statuses::RECLAIM_BAD,
                 head: head,
                 file: self,
             };
@@ -172,7 +169,7 @@ impl File {
         let hit = self.is(number);
         if !hit {
             return FileAnswered {
-                status: 70,
+                status: statuses::STALE,
                 head: head,
                 file: self,
             };
@@ -180,7 +177,7 @@ impl File {
         let old = self.intents;
         let Found::At(i) = intents::holding(old, client) else {
             return FileAnswered {
-                status: 10025,
+                status: statuses::BAD_STATEID,
                 head: head,
                 file: self,
             };
@@ -189,7 +186,7 @@ impl File {
         let barred = unreclaimed(head.grace, came);
         if barred {
             return FileAnswered {
-                status: 10025,
+                status: statuses::BAD_STATEID,
                 head: head,
                 file: self,
             };
@@ -210,14 +207,14 @@ impl File {
         let hit = self.is(number);
         if !hit {
             return FileAnswered {
-                status: 70,
+                status: statuses::STALE,
                 head: head,
                 file: self,
             };
         }
         if !self.marked {
             return FileAnswered {
-                status: 22,
+                status: statuses::INVAL,
                 head: head,
                 file: self,
             };
@@ -226,7 +223,7 @@ impl File {
         let held = intents::busy(xs);
         if held {
             return FileAnswered {
-                status: 10008,
+                status: statuses::DELAY,
                 head: head,
                 file: self,
             };
@@ -247,19 +244,19 @@ impl File {
         ensures { λ r. ⌜ r ≡ forgettable number head self ⌝ }
     {
         if head.grace {
-            return 10013;
+            return statuses::GRACE;
         }
         let hit = self.is(number);
         if !hit {
-            return 70;
+            return statuses::STALE;
         }
         if self.marked {
-            return 10008;
+            return statuses::DELAY;
         }
         let xs = self.intents;
         let held = intents::busy(xs);
         if held {
-            return 10008;
+            return statuses::DELAY;
         }
         0
     }
@@ -277,10 +274,10 @@ impl File {
             return h;
         }
         if !hit {
-            return Heard::nothing(70);
+            return Heard::nothing(statuses::STALE);
         }
         if !held {
-            return Heard::nothing(10034);
+            return Heard::nothing(statuses::RECLAIM_BAD);
         }
         h
     }
@@ -291,7 +288,7 @@ impl File {
     {
         match wire::request::read(request) {
             Request::Refused(k) => Heard::nothing(k),
-            Request::Bulk => Heard::nothing(HANDED_ON),
+            Request::Bulk => Heard::nothing(statuses::HANDED_ON),
             Request::File { anonymous, len } => {
                 let status = phase(head, anonymous);
                 if status != 0 {
@@ -389,10 +386,14 @@ fn phase(head: Head, anonymous: bool) -> u32
 {
     if anonymous {
         if head.old {
-            return 10025;
+            return statuses::BAD_STATEID;
         }
-        if head.grace { 0 } else { 10033 }
+        if head.grace { 0 } else { statuses::NO_GRACE }
     } else {
-        if head.grace { 10013 } else { HANDED_ON }
+        if head.grace {
+            statuses::GRACE
+        } else {
+            statuses::HANDED_ON
+        }
     }
 }

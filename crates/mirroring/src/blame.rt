@@ -165,7 +165,7 @@ pub fn listen(mirrors: [Mirror; 4], body: &[u8]) -> Heard
                 return h;
             }
             Item::Malformed => {
-                return Heard::nothing(10036);
+                return Heard::nothing(statuses::BADXDR);
             }
         }
     }

@@ -1,7 +1,6 @@
 // LAYOUTRETURN on the record (paper 01, "LAYOUTRETURN"): what it answers, the record afterwards, and the reply.
 use crate::record::Record;
 use files::file::FileAnswered;
-use files::file::HANDED_ON;
 use mirroring::totals::Totals;
 ghost use mathlib.Core.Path.{_≡_};
 ghost use Rattle.recovery.specs.Record.{returnedWith, layoutreturnOf, replyAfter};
@@ -38,7 +37,7 @@ impl Record {
         let after = a.after;
         Returned {
             status: h.status,
-            handed: h.status == HANDED_ON,
+            handed: h.status == statuses::HANDED_ON,
             totals: totals,
             after: after,
         }
@@ -51,7 +50,7 @@ impl Record {
         if reply.len() < 24 {
             let none = Totals::none();
             return Returned {
-                status: 28,
+                status: statuses::NOSPC,
                 handed: false,
                 totals: none,
                 after: self,

@@ -50,13 +50,13 @@ impl Record {
         let n = counted(fs, idle);
         if numbers.len() < n {
             return Listed {
-                status: 28,
+                status: statuses::NOSPC,
                 count: 0,
             };
         }
         if sources.len() < n {
             return Listed {
-                status: 28,
+                status: statuses::NOSPC,
                 count: 0,
             };
         }

@@ -180,21 +180,21 @@ impl Record {
         ensures { λ r. ⌜ r ≡ registerOf file (now (mirrors .entry)) self ⌝ }
     {
         if self.head.grace {
-            return self.refused(10013);
+            return self.refused(statuses::GRACE);
         }
         let e = mirroring::enrol::enrol(mirrors);
         if !e.good {
-            return self.refused(22);
+            return self.refused(statuses::INVAL);
         }
         let i = self.place(file);
         let f = self.files[i];
         let hit = f.is(file);
         if hit {
-            return self.refused(17);
+            return self.refused(statuses::EXIST);
         }
         let last = self.files[63];
         if last.used {
-            return self.refused(28);
+            return self.refused(statuses::NOSPC);
         }
         let ms = e.mirrors;
         let x = File::new(file, ms);
@@ -271,7 +271,7 @@ impl Record {
         ensures { λ r. ⌜ r ≡ endOf self ⌝ }
     {
         if !self.head.grace {
-            return self.refused(10033);
+            return self.refused(statuses::NO_GRACE);
         }
         let old = self.files;
         let fs = ended(old);

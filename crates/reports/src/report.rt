@@ -104,7 +104,7 @@ fn device_at(s: &[u8], at: usize, records: u32, devices: u32) -> Found
     ensures { λ r. ⌜ r ≡ nextAt (now (s .entry)) (record { at = at; records = records; devices = devices }) ⌝ }
 {
     if left(s, at) < 24 {
-        return Found::Done(10036);
+        return Found::Done(statuses::BADXDR);
     }
     Found::Error {
         record: place(xdr::be32(s, 0), records),
@@ -159,7 +159,7 @@ pub fn next(s: &[u8], c: Cursor) -> Found
             return Found::Done(statistics::check(s, at));
         }
         if left(s, at) < 36 {
-            return Found::Done(10036);
+            return Found::Done(statuses::BADXDR);
         }
         devices = xdr::be32(s, at + 32);
         at += 36;
@@ -208,6 +208,6 @@ pub fn check(s: &[u8]) -> u32
 {
     match past_errors(s) {
         Past::At(at) => statistics::check(s, at),
-        Past::Malformed => 10036,
+        Past::Malformed => statuses::BADXDR,
     }
 }

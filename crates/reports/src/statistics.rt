@@ -128,7 +128,7 @@ pub(crate) fn check(s: &[u8], at: usize) -> u32
                 return 0;
             }
             Item::Malformed => {
-                return 10036;
+                return statuses::BADXDR;
             }
         }
     }

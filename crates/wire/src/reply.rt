@@ -7,7 +7,7 @@ pub fn write(reply: &mut [u8], status: u32) -> u32
     ensures { λ r. ⌜ (r ≡ replyAnswer status (now (reply .entry))) × (now (reply .exit) ≡ replyIn status (now (reply .entry))) ⌝ }
 {
     if reply.len() < 24 {
-        return 28;
+        return statuses::NOSPC;
     }
     xdr::put32(reply, 0, status);
     if status != 0 {

@@ -118,7 +118,7 @@ pub extern "C" fn sc_statistics_next(
             *device = 0;
             *read = 0;
             *written = 0;
-            10036
+            statuses::BADXDR
         }
     }
 }

@@ -79,9 +79,9 @@ fn refusal(layout: u32, iomode: u32) -> u32
     match layout {
         4 => match iomode {
             1..=3 => 0,
-            0 | 4..=4294967295 => 10049,
+            0 | 4..=4294967295 => statuses::BADIOMODE,
         },
-        _ => 10062,
+        _ => statuses::UNKNOWN_LAYOUTTYPE,
     }
 }
 
@@ -113,7 +113,7 @@ pub fn read(s: &[u8]) -> Request
     ensures { λ r. ⌜ r ≡ requestOf (now (s .entry)) ⌝ }
 {
     match laid_out(s) {
-        Form::Malformed => Request::Refused(10036),
+        Form::Malformed => Request::Refused(statuses::BADXDR),
         Form::Bulk => judged(s, Request::Bulk),
         Form::File(len) => {
             let anonymous = anonymous(s);
