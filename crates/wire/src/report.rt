@@ -92,6 +92,9 @@ pub extern "C" fn sc_statistics_next(
 ) -> u32
     ensures { λ r. ⌜ handedStatistic (now (body .entry)) (now (at .entry)) (now (left .entry)) ≡ record { answer = r; at = now (at .exit); left = now (left .exit); device = now (device .exit); read = now (read .exit); written = now (written .exit) } ⌝ }
 {
+    *device = 0;
+    *read = 0;
+    *written = 0;
     let c = resumed_tail(body, *at as usize, *left);
     match reports::statistics::next(body, c) {
         Item::Given {
@@ -108,17 +111,7 @@ pub extern "C" fn sc_statistics_next(
             *written = w;
             1
         }
-        Item::End => {
-            *device = 0;
-            *read = 0;
-            *written = 0;
-            0
-        }
-        Item::Malformed => {
-            *device = 0;
-            *read = 0;
-            *written = 0;
-            statuses::BADXDR
-        }
+        Item::End => 0,
+        Item::Malformed => statuses::BADXDR,
     }
 }
