@@ -9,8 +9,7 @@ use lib.Dec.{eqb}
 use Rattle.reports.specs.Device.{Device, halves}
 use Rattle.reports.specs.Statistics.{Statistic}
 use Rattle.reports.specs.Report.{DeviceError, Report, Whole, Malformed, over, outcome}
-use Rattle.reports.proofs.Reports.{Given}
-use Rattle.reports.proofs.StatisticsWalk.{Stated}
+use Rattle.reports.specs.Walk.{Given, Stated}
 use Rattle.places.specs.Places.{first}
 use Rattle.places.specs.declared.Found.{Found}
 use Rattle.places.specs.declared.Found.the-variants.{At, Nothing}

@@ -18,6 +18,7 @@ use Rattle.reports.specs.Statistics.{Statistic}
 use Rattle.reports.specs.StatisticsSteps.{pastOf, tailAt, statisticsFrom, tally}
 use Rattle.reports.specs.Report.{Report, DeviceError, ioerr, reportOf, statusOf, withoutStatistics, withoutErrors, over, outcome}
 use Rattle.reports.specs.Report as report
+use Rattle.reports.specs.Walk.{Walk, ends, gives, enters, Given}
 use Rattle.reports.specs.ReportSteps.{naming, errorIn, statistics, devices, records, startOf, stepAt, recordStep, placeOf, deviceStep, nextBy, nextPast, nextAt, errorAt, reportFrom, errorsFrom, after, afterNext, endOf}
 use Rattle.reports.specs.declared.report.Cursor.{Cursor}
 use Rattle.reports.specs.declared.report.Entry.{Entry}
@@ -120,12 +121,6 @@ pub record Forward (s : List ℕ) (c next : Cursor) : Type 0 where
   pub further : c .at + 24 ≤ next .at
   pub within : next .at ≤ length s
 
--- and what it gives of a device error is what the definition says of it
-pub record Given (x : DeviceError) (i h l st : ℕ) : Type 0 where
-  pub place : x .inRecord ≡ i
-  pub device : halves (x .device) ≡ record { high = h; low = l }
-  pub status : x .status ≡ st
-
 abbrev Stepped : List ℕ → Cursor → Entry → Type 0
 Stepped s c (Device i h l st next) = Forward s c next × Given (errorAt s c) i h l st × (next .at ≡ c .at + 24)
 Stepped s c (Record next) = Forward s c next × (c .records ≡ suc (next .records))
@@ -201,11 +196,6 @@ pub fold-begins : {A : Type 0} (f : A → DeviceError → A) (g : A → Statisti
 fold-begins f g bad a s e = ap (λ (x : Cursor). outcome f g bad a (reportFrom s x)) e ∙ ap (outcome f g bad a) (begins s)
 
 -- ---- the walk as a list: the device errors that the steps from a cursor on give, where they end well, are those of the report
-pub data Walk (s : List ℕ) : Cursor → List DeviceError → Type 0 where
-  ends : {c : Cursor} {t : Tail} → stepAt s c ≡ Statistics t → statusOf (statisticsFrom s t) ≡ 0 → Walk s c []
-  gives : {c next : Cursor} {i h l st : ℕ} {xs : List DeviceError} → stepAt s c ≡ Device i h l st next → Walk s next xs → Walk s c (errorAt s c ∷ xs)
-  enters : {c next : Cursor} {xs : List DeviceError} → stepAt s c ≡ Record next → Walk s next xs → Walk s c xs
-
 -- the statistics records name no device errors: those alone are none, if the records are well formed
 no-errors : (s : List ℕ) (t : Tail) → withoutStatistics (statisticsFrom s t) ≡ endOf (statusOf (statisticsFrom s t))
 no-errors = only-statistics (λ p. withoutStatistics p ≡ endOf (statusOf p)) (λ ys. refl) refl

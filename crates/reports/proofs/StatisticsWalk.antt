@@ -16,6 +16,7 @@ use Rattle.reports.specs.Reader.{Read, Got, Bad, Reader, onward, _>>=_, 
 use Rattle.reports.specs.Statistics.{Statistic, ioInfo, nfstime, ioLatency, layoutupdate, iostats}
 use Rattle.reports.specs.Report.{Report, DeviceError, ioerr, reportOf, statusOf, withoutErrors, over, outcome}
 use Rattle.reports.specs.Report as report
+use Rattle.reports.specs.Walk.{TailWalk as Walk, tail-ends as ends, tail-gives as gives, Stated}
 use Rattle.reports.specs.ReportSteps as steps
 use Rattle.reports.specs.StatisticsSteps.{pastOf, tailOf, counting, noTail, tailAt, tailPast, statisticsStart, givenBy, nextOf, statisticsFrom, statisticIn, statisticAt, afterNext, tally}
 use Rattle.reports.specs.declared.fields.Past.{Past}
@@ -275,12 +276,6 @@ pub record Forward (s : List ℕ) (c next : Tail) : Type 0 where
   pub further : c .at + 80 ≤ next .at
   pub within : next .at ≤ length s
 
--- and what it gives of a record is what the definition says of it
-pub record Stated (y : Statistic) (h l r w : ℕ) : Type 0 where
-  pub device : halves (y .device) ≡ record { high = h; low = l }
-  pub read : y .read ≡ r
-  pub written : y .written ≡ w
-
 abbrev Stepped : List ℕ → Tail → Item → Type 0
 Stepped s c (Given h l r w next) = Forward s c next × Stated (statisticAt s c) h l r w
 Stepped s c End = Unit
@@ -357,10 +352,6 @@ module _ (s : List ℕ) (c : Tail) {answer : ℕ} (inv : statusOf (statisticsFro
   status-malformed e = sym (ap statusOf (turn s c e)) ∙ inv
 
 -- ---- the walk as a list: the records that the steps from a cursor on give, where they end well, are those of the report
-pub data Walk (s : List ℕ) : Tail → List Statistic → Type 0 where
-  ends : {c : Tail} → nextOf s c ≡ End → Walk s c []
-  gives : {c next : Tail} {h l r w : ℕ} {ys : List Statistic} → nextOf s c ≡ Given h l r w next → Walk s next ys → Walk s c (statisticAt s c ∷ ys)
-
 visits : (s : List ℕ) {c : Tail} {ys : List Statistic} → Walk s c ys → statisticsFrom s c ≡ report.Whole [] ys
 visits s {c} (ends e) = turn s c e
 visits s {c} (gives e w) = turn s c e ∙ ap (counting (statisticAt s c)) (visits s w)

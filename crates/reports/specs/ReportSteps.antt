@@ -1,5 +1,5 @@
--- MODEL of the code: what stands at a cursor of a report, and the report from a cursor on. proofs/Reports.antt proves that the steps from the
--- start visit the device errors of `reportOf`.
+-- MODEL of the code: what stands at a cursor of a report, and the report from a cursor on. Walk.antt states that the steps from the start visit
+-- the device errors of `reportOf`.
 --     devices, records    the device errors and the error records still to come, and then the rest
 --     startOf, stepAt     what `start` and `step` answer
 --     nextAt              what `next` answers

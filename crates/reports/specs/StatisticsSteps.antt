@@ -1,5 +1,5 @@
--- MODEL of the code: places in a body, by the definition's own readers, and the walk of the statistics records. proofs/StatisticsWalk.antt proves that the
--- steps from the start visit the statistics records of `reportOf`.
+-- MODEL of the code: places in a body, by the definition's own readers, and the walk of the statistics records. Walk.antt states that the steps from
+-- the start visit the statistics records of `reportOf`.
 --     pastOf                     the place past what a reader has read
 --     tailAt, tailPast           the cursor at a body's first statistics record
 --     nextOf                     what `next` answers

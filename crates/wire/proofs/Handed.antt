@@ -31,7 +31,7 @@ pub handed-begins : (s : List ℕ) (r d : ℕ) → errorsFrom s (resumedAt s 0 r
 unfolding resumedAt
 handed-begins s r d = ap withoutStatistics (begins s)
 
-resumes : (s : List ℕ) (c : Cursor) → 24 ≤ c .at → resumedAt s (c .at) (c .records) (c .devices) ≡ c
+pub resumes : (s : List ℕ) (c : Cursor) → 24 ≤ c .at → resumedAt s (c .at) (c .records) (c .devices) ≡ c
 unfolding resumedAt
 resumes s c h = rw (ne-eqb (c .at) 0 (λ z. omega arith))
 
@@ -61,7 +61,7 @@ pub statistics-begin : (s : List ℕ) (n : ℕ) → statisticsFrom s (resumedTai
 unfolding resumedTail
 statistics-begin s n = statistics.begins s
 
-tail-resumes : (s : List ℕ) (c : Tail) → 80 ≤ c .at → resumedTail s (c .at) (c .left) ≡ c
+pub tail-resumes : (s : List ℕ) (c : Tail) → 80 ≤ c .at → resumedTail s (c .at) (c .left) ≡ c
 unfolding resumedTail
 tail-resumes s c h = rw (ne-eqb (c .at) 0 (λ z. omega arith))
 

@@ -1,4 +1,4 @@
--- MODEL of the code: what C is handed of a report, of which crate `reports` has the steps. proofs/Handed.antt proves that C's calls walk the report.
+-- MODEL of the code: what C is handed of a report, of which crate `reports` has the steps. Walk.antt states what C's calls hand out.
 --     Numbers, handed                       what `sc_report_next` answers and leaves in the numbers that it is lent
 --     afterHanded                           the device errors from C's cursor on, by these
 --     StatisticNumbers, handedStatistic     the same for `sc_statistics_next`

@@ -1,5 +1,6 @@
--- LAYOUTRETURN: Request, Reply; RequestSteps is a model of the code. Handed: what C is handed of a report.
+-- LAYOUTRETURN: Request, Reply; RequestSteps is a model of the code. Handed is a model of what C is handed of a report; Walk: what C's walks hand out.
 pub mod Request
 pub mod RequestSteps
 pub mod Handed
+pub mod Walk
 pub mod Reply
