@@ -114,22 +114,23 @@ pub(crate) fn check(s: &[u8], at: usize) -> u32
 {
     let mut c = begin(s, at);
     loop {
-        match next(s, c) {
-            Item::Given {
-                high: _,
-                low: _,
-                read: _,
-                written: _,
-                next,
-            } => {
-                c = next;
-            }
-            Item::End => {
+        let n = c.left;
+        let room = left(s, c.at);
+        if n == 0 {
+            if room == 0 {
                 return 0;
             }
-            Item::Malformed => {
-                return statuses::BADXDR;
-            }
+            return statuses::BADXDR;
         }
+        if room < 80 {
+            return statuses::BADXDR;
+        }
+        let Past::At(end) = past_update(s, c.at + 80) else {
+            return statuses::BADXDR;
+        };
+        c = Tail {
+            at: end,
+            left: n - 1,
+        };
     }
 }
