@@ -8,9 +8,9 @@ use reports::report::Entry;
 use reports::statistics::Item;
 use reports::statistics::Tail;
 ghost use mathlib.Core.Path.{_≡_};
-ghost use mathlib.Core.Bool.{Bool, true, cond};
+ghost use mathlib.Core.Bool.{Bool, true, false, cond};
 ghost use Prim.Native.Nat.{_<_};
-ghost use lib.ListN.{set};
+ghost use lib.ListN.{set, getD};
 ghost use Rattle.reports.specs.Report.{reportOf, outcome};
 ghost use Rattle.reports.specs.StatisticsSteps.{statisticsFrom, tally};
 ghost use Rattle.mirroring.specs.Blame.{heardNothing, told, toldOf, counted, countedOf, heardOf};
@@ -38,10 +38,28 @@ fn raised(up: bool, now: bool) -> bool
     if up { true } else { now }
 }
 
-// The flags with that at `at` up; each place is written by its own number, which the compiler can keep in registers.
+// Whether the flag at `at` is up; each place is read by its own number, which the compiler can keep in registers.
+fn is_up(flags: [bool; 4], at: usize) -> bool
+    ensures { λ r. ⌜ r ≡ getD flags at false ⌝ }
+{
+    let mut i: usize = 0;
+    while i < 4 {
+        if i == at {
+            return flags[i];
+        }
+        i = i + 1;
+    }
+    false
+}
+
+// The flags with that at `at` up, which it mostly is already; each place is written by its own number.
 fn flagged(flags: [bool; 4], at: usize) -> [bool; 4]
     ensures { λ r. ⌜ r ≡ set flags at true ⌝ }
 {
+    let known = is_up(flags, at);
+    if known {
+        return flags;
+    }
     let mut fs = flags;
     let mut i: usize = 0;
     while i < 4 {
