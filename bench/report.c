@@ -1,8 +1,7 @@
 /*
  * The check of a report (step 5) beside plain C compiled in this program, turn about; the least time of many rounds of each.
  * report LINUX: the file of captured requests, whose largest body is one of the inputs. Prints a line a body; exits 1 where a check takes
- * more than 1.2 times plain C and a nanosecond more. Statistics that no client sends, and the walks of the device errors and of the statistics
- * records, are printed without a limit.
+ * more than 1.2 times plain C. The walks of the device errors and of the statistics records are printed too, without a limit.
  */
 #include <stdio.h>
 #include <time.h>
@@ -159,7 +158,7 @@ static int beside(const char *name, const uint8_t *body, size_t n)
     }
     printf("%-36s %5zu bytes, status %5u: check %7.1f ns, C %7.1f, ratio %.2f; errors %7.1f ns, C %7.1f, ratio %.2f; statistics %7.1f ns, C %7.1f, ratio %.2f\n",
            name, n, (unsigned)sc_report_check(body, n), a, b, a / b, c, d, c / d, e, f, e / f);
-    return a > 1.2 * b && a > b + 1;
+    return a > 1.2 * b;
 }
 
 static size_t put32(uint8_t *d, size_t at, uint32_t x)
@@ -240,7 +239,7 @@ int main(int count, char **words)
     slow |= beside("a record of 168 device errors", body, made(body, 1, 168, 0, none));
     slow |= beside("20 error records, 4 statistics", body, made(body, 20, 1, 4, linux_lens));
     slow |= beside("17 error records, 8 statistics", body, made(body, 17, 1, 8, linux_lens));
-    beside("17 statistics with empty strings", body, made(body, 0, 0, 17, none));
-    beside("6 statistics with all padding", body, made(body, 0, 0, 6, odd));
+    slow |= beside("17 statistics with empty strings", body, made(body, 0, 0, 17, none));
+    slow |= beside("6 statistics with all padding", body, made(body, 0, 0, 6, odd));
     return slow;
 }
