@@ -94,7 +94,7 @@ fn heeded(f: File, o: Outcome) -> File
     f.heed(h)
 }
 
-// The same, with its totals handed out.
+// LAYOUTRETURN on one file, but for the change, with its reply and its totals handed out.
 fn heard(
     f: File,
     number: u64,
