@@ -390,9 +390,9 @@ static uint32_t layoutreturn(uint64_t file, uint64_t client, struct lent request
 static bool run_layoutreturn(const struct command *c, const struct word *argument)
 {
     (void)c;
-    uint64_t client, file, room;
+    uint64_t file, client, room;
     struct lent request;
-    if (!read_number(argument[0], UINT64_MAX, &client) || !read_number(argument[1], UINT64_MAX, &file) ||
+    if (!read_number(argument[0], UINT64_MAX, &file) || !read_number(argument[1], UINT64_MAX, &client) ||
         !read_number(argument[2], MAX_ROOM, &room) || !read_bytes(argument[3], MAX_REQUEST, &request))
         return false;
     struct lent reply = lend((size_t)room);

@@ -81,14 +81,14 @@ def report(mirrors, request, in_grace, errors, statistics):
     yield f"register {FILE} {''.join(mirrors)}", "0"
     yield f"open {FILE} {CLIENT}", "0"
     yield "restart", "0"
-    yield f"layoutreturn {CLIENT} {OTHER_FILE} 24 {request}", said("70" if reached else in_grace)
-    yield f"layoutreturn {OTHER_CLIENT} {FILE} 25 {request}", said("10034" if reached else in_grace)
+    yield f"layoutreturn {OTHER_FILE} {CLIENT} 24 {request}", said("70" if reached else in_grace)
+    yield f"layoutreturn {FILE} {OTHER_CLIENT} 25 {request}", said("10034" if reached else in_grace)
     yield "totals", NO_TOTALS
-    yield f"layoutreturn {CLIENT} {FILE} 23 {request}", "28"
+    yield f"layoutreturn {FILE} {CLIENT} 23 {request}", "28"
     yield "resilver 1 1", "0 0"
-    yield f"layoutreturn {CLIENT} {FILE} 24 {request}", said("0" if reached else in_grace)
+    yield f"layoutreturn {FILE} {CLIENT} 24 {request}", said("0" if reached else in_grace)
     yield "totals", totals_after(mirrors, errors, statistics) if reached else NO_TOTALS
-    yield f"layoutreturn {CLIENT} {FILE} 23 {request}", "28"
+    yield f"layoutreturn {FILE} {CLIENT} 23 {request}", "28"
     yield "totals", NO_TOTALS
     entry = source_after(mirrors, errors) if reached else ""
     yield "resilver 1 1", listing(entry)
@@ -103,7 +103,7 @@ def layoutreturn(request, in_grace, out_of_grace, errors, statistics):
     """One request out of grace, then in grace with the letters' mirrors, and with the first four devices that it names."""
     yield "fresh", "0"
     yield f"register {FILE} {LETTERS[0]}", "0"
-    yield f"layoutreturn {CLIENT} {FILE} 24 {request}", said(out_of_grace)
+    yield f"layoutreturn {FILE} {CLIENT} 24 {request}", said(out_of_grace)
     yield "totals", NO_TOTALS
     yield from report(LETTERS, request, in_grace, errors, statistics)
     named = list(dict.fromkeys([device for device, _ in errors] + [device for device, _, _ in statistics]))[:4]

@@ -25,7 +25,7 @@ fn report(device: &str, status: u32) -> String {
     assert_eq!(body.len() / 2, 68);
     let request = format!("{:08x}{:08x}{:08x}{:08x}{:016x}{:016x}{:032x}{:08x}{body}", 0, 4, 3, 1, 0, u64::MAX, 0, 68);
     assert_eq!(request.len() / 2, 120);
-    format!("layoutreturn 1 7 24 {request}")
+    format!("layoutreturn 7 1 24 {request}")
 }
 
 fn registered() -> String {
@@ -126,7 +126,7 @@ fn statistic(device: &str, read: u64, written: u64) -> String {
 fn counted(errors: &str, records: &[String]) -> String {
     let body = format!("{errors}{:08x}{}", records.len(), records.concat());
     let request = format!("{:08x}{:08x}{:08x}{:08x}{:016x}{:016x}{:032x}{:08x}{body}", 0, 4, 3, 1, 0, u64::MAX, 0, body.len() / 2);
-    format!("layoutreturn 1 7 24 {request}")
+    format!("layoutreturn 7 1 24 {request}")
 }
 
 /// Ticket 3: sums by mirror place, another device's nowhere; cut at 2^64 - 1 and flagged only past it; none for an ignored report.
@@ -141,7 +141,7 @@ fn statistics_of_a_report() {
     assert_eq!(and(&[&counted("00000000", &records), "resilver 1 1"]), "0 0");
     let stranger = format!("{:08x}{:016x}{:016x}{:032x}{:08x}{C}{:08x}{:08x}", 1, 0, 0, 0, 1, 0, 38);
     assert_eq!(and(&[&counted(&stranger, &records), "totals"]), "0:0 0:0 0:0 0:0");
-    assert_eq!(and(&[&counted("00000000", &records), "layoutreturn 1 7 23 -", "totals"]), "0:0 0:0 0:0 0:0");
+    assert_eq!(and(&[&counted("00000000", &records), "layoutreturn 7 1 23 -", "totals"]), "0:0 0:0 0:0 0:0");
     assert_eq!(and(&["totals"]), "0:0 0:0 0:0 0:0");
 }
 

@@ -181,7 +181,7 @@ impl Ledger {
         Ok(())
     }
 
-    pub fn layoutreturn(&mut self, client: u64, file: u64, room: usize, request: &[u8]) -> Result<Totals, Other> {
+    pub fn layoutreturn(&mut self, file: u64, client: u64, room: usize, request: &[u8]) -> Result<Totals, Other> {
         let report = layoutreturn::judge(self.edition, self.in_grace, room, request)?;
         let row = self.row(file)?;
         refuse_if(!row.intents.contains(&client), RECLAIM_BAD)?;

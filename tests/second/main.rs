@@ -53,9 +53,9 @@ impl Desk {
             ("forget", [f]) => Some(answered(self.ledger.forget(number(f)?))),
             ("end", []) => Some(answered(self.ledger.end_of_grace())),
             ("restart", []) => Some(answered(self.ledger.restart())),
-            ("layoutreturn", [c, f, r, q]) => {
-                let (client, file, room, request) = (number(c)?, number(f)?, room(r)?, bytes(q, MAX_REQUEST)?);
-                let call = self.ledger.layoutreturn(client, file, room, &request);
+            ("layoutreturn", [f, c, r, q]) => {
+                let (file, client, room, request) = (number(f)?, number(c)?, room(r)?, bytes(q, MAX_REQUEST)?);
+                let call = self.ledger.layoutreturn(file, client, room, &request);
                 self.totals = *call.as_ref().unwrap_or(&Totals::default());
                 Some(said(call))
             }

@@ -114,10 +114,10 @@ impl<W: Write> Campaigns<W> {
         self.call(&format!("register {file} {mirrors}"))
     }
 
-    fn layoutreturn(&mut self, pool: &Pool, client: u64, file: u64) -> Done {
+    fn layoutreturn(&mut self, pool: &Pool, file: u64, client: u64) -> Done {
         let room = self.r.weighted(&[(90, 24), (2, 0), (1, 4), (3, 23), (2, 25), (1, 100)]);
         let request = hex(&request(&mut self.r, &pool.devices));
-        self.call(&format!("layoutreturn {client} {file} {room} {request}"))?;
+        self.call(&format!("layoutreturn {file} {client} {room} {request}"))?;
         if self.r.percent(40) {
             self.call("totals")?;
         }
@@ -140,7 +140,7 @@ impl<W: Write> Campaigns<W> {
         let (file, client) = (self.r.pick(&pool.files), self.r.pick(&pool.clients));
         match self.r.weighted(&WALK) {
             "register" => self.register(pool, file),
-            "layoutreturn" => self.layoutreturn(pool, client, file),
+            "layoutreturn" => self.layoutreturn(pool, file, client),
             name @ ("open" | "reclaim" | "close") => self.call(&format!("{name} {file} {client}")),
             name @ ("repaired" | "forget") => self.call(&format!("{name} {file}")),
             name @ ("resilver" | "offered") => self.listing(name, pool.files.len() as u64 / 2),
@@ -157,7 +157,7 @@ impl<W: Write> Campaigns<W> {
             4 | 5 => self.call(&format!("close {file} {client}")),
             6 => self.listing("resilver", 2),
             7 if self.r.percent(20) => self.call("restart"),
-            _ => self.layoutreturn(pool, client, file),
+            _ => self.layoutreturn(pool, file, client),
         }
     }
 
@@ -311,7 +311,7 @@ impl<W: Write> Campaigns<W> {
             self.call("restart")?;
             for _ in 0..self.r.below(16) {
                 let (file, client) = (self.r.pick(&pool.files), self.r.pick(&pool.clients));
-                self.layoutreturn(&pool, client, file)?;
+                self.layoutreturn(&pool, file, client)?;
                 self.listing("resilver", 2)?;
             }
             self.call("end")?;
@@ -333,7 +333,7 @@ impl<W: Write> Campaigns<W> {
         self.call(&format!("open {file} {client}"))?;
         self.call("restart")?;
         for _ in 0..24 {
-            self.layoutreturn(&pool, client, file)?;
+            self.layoutreturn(&pool, file, client)?;
             self.call("totals")?;
         }
         self.call("resilver 1 1")
@@ -386,7 +386,7 @@ impl<W: Write> Campaigns<W> {
             0..=3 => self.call(&format!("reclaim {file} {client}")),
             4..=6 => self.call(&format!("close {file} {client}")),
             7 => self.call(&format!("repaired {file}")),
-            8 => self.layoutreturn(pool, client, file),
+            8 => self.layoutreturn(pool, file, client),
             _ => self.call("restart"),
         }
     }
