@@ -1,5 +1,5 @@
 -- What paper 01 says of the record after any calls, and of a refused call, is so (`AfterAnyCalls`, `RefusedUnchanged` of specs/History.antt). In this order:
---     Refusals, judged-by     what holds of each refusal, and of the accepted call where no refusal applies, holds of what is judged
+--     judged-by               what holds of each refusal, and of the accepted call where no refusal applies, holds of what is judged
 --     refused-unchanged       the claim of a refused call
 --     counts                  C rises exactly at a start that is accepted where R is 0
 --     Of                      flags on members only: a node joins, leaves, gets the flag, loses it
@@ -15,35 +15,27 @@ use mathlib.Core.Bool.{Bool, true, false, not, cond, _&&_, true≢false, false�
 use mathlib.Core.List.{List, [], _∷_}
 use lib.Dec.{eqb}
 use borrow.Author.Tests.{eqb-false, eq-eqb, ne-eqb, leb-false, lt-leb, not-false}
+use Rattle.statuses.specs.Rules.{Rule}
+use Rattle.statuses.proofs.Rules.{Each, NoneApplies, decided-by, any-rule}
 use Rattle.masks.specs.Mask.{has, plus, minus, empty}
 use Rattle.masks.proofs.Laws.{plus-lt, minus-lt, has-zero, has-below, each-empty, plus-node, plus-keeps, plus-came, minus-was, minus-out, minus-keeps, minus-same, some-empty, empty-some, within-each, each-within}
 use Rattle.epochs.specs.declared.Epochs.{Epochs}
 use Rattle.epochs.specs.declared.Answered.{Answered}
 use Rattle.epochs.specs.declared.MayReclaim.the-variants.{Yes, No, NoSuchNode}
-use Rattle.epochs.specs.Epochs.{member, needs, noGrace, above31, allEnforce, fresh, Rule, _⇒_, joinRules, leaveRules, startRules, enforceRules, finishRules, stopRules, joined, departed, newEpoch, begun, flagged, enforced, finished, stopped, accepted, refused, judged, joinOf, leaveOf, startOf, enforceOf, finishOf, stopOf, mayReclaimOf, reclaimNumber}
+use Rattle.epochs.specs.Epochs.{member, needs, noGrace, above31, allEnforce, fresh, joinRules, leaveRules, startRules, enforceRules, finishRules, stopRules, joined, departed, newEpoch, begun, flagged, enforced, finished, stopped, accepted, refused, judged, joinOf, leaveOf, startOf, enforceOf, finishOf, stopOf, mayReclaimOf, reclaimNumber}
 use Rattle.epochs.specs.History.{Call, join, leave, start, enforce, finish, stopEnforcing, mayReclaim, called, after, isStart, raises, raised, Sound, AfterAnyCalls, RefusedUnchanged}
 
 -- ---- a call is refused by one of its rules, or none applies
-abbrev Refusals : (Answered → Type 0) → Epochs → List Rule → Type 0
-Refusals Q e [] = Unit {0}
-Refusals Q e ((b ⇒ s) ∷ rules) = Q (refused s e) × Refusals Q e rules
-
-abbrev NoneApplies : List Rule → Type 0
-NoneApplies [] = Unit {0}
-NoneApplies ((b ⇒ s) ∷ rules) = (b ≡ false) × NoneApplies rules
-
-judged-by : (Q : Answered → Type 0) (e : Epochs) (rules : List Rule) (next : Epochs) → Refusals Q e rules → (NoneApplies rules → Q (accepted next)) → Q (judged e rules next)
+judged-by : (Q : Answered → Type 0) (e : Epochs) (rules : List (Rule ℕ)) (next : Epochs) → Each (λ s. refused s e) Q rules → (NoneApplies rules → Q (accepted next)) → Q (judged e rules next)
 unfolding judged
-judged-by Q e [] next refusals accepts = accepts tt
-judged-by Q e ((true ⇒ s) ∷ rules) next refusals accepts = refusals .0
-judged-by Q e ((false ⇒ s) ∷ rules) next refusals accepts = judged-by Q e rules next (refusals .1) (λ none. accepts (refl, none))
+judged-by Q e rules next refusals accepts = decided-by (λ s. refused s e) Q rules (accepted next) refusals accepts
 
 -- ---- a refused call
-stays-refused : (e : Epochs) (rules : List Rule) (next : Epochs) → (judged e rules next .status ≡ 0 → ⊥) → judged e rules next .epochs ≡ e
-unfolding judged
-stays-refused e [] next z = absurd (z refl)
-stays-refused e ((true ⇒ s) ∷ rules) next z = refl
-stays-refused e ((false ⇒ s) ∷ rules) next z = stays-refused e rules next z
+abbrev Stays : Epochs → Answered → Type 0
+Stays e a = (a .status ≡ 0 → ⊥) → a .epochs ≡ e
+
+stays-refused : (e : Epochs) (rules : List (Rule ℕ)) (next : Epochs) → Stays e (judged e rules next)
+stays-refused e rules next = judged-by (Stays e) e rules next (any-rule (λ s. refused s e) (Stays e) (λ s z. refl) rules) (λ _ z. absurd (z refl))
 
 pub refused-unchanged : RefusedUnchanged
 unfolding joinOf leaveOf startOf enforceOf finishOf stopOf

@@ -1,7 +1,7 @@
 -- DEFINITION. Cluster grace epochs (paper 01, "Cluster epochs"; source document 002): what each call on a node's epoch record answers, and the record afterwards. In this order:
 --     above31, member, needs, enforces     what a number and a record say of a node.        noGrace, lastEpoch, allEnforce     and of the cluster
 --     fresh                    the record that a history begins with
---     Rule, joinRules ..       each call's refusals in order, a condition and its number
+--     joinRules ..             each call's refusals in order, a condition and its number (`Rule` of the crate statuses)
 --     joined ..                the record that an accepted call leaves
 --     judged, joinOf ..        each call: its answer and the record afterwards
 --     mayReclaimOf, reclaimNumber     the call that only asks, and the number of each of its answers
@@ -10,6 +10,7 @@ use Prim.Native.Nat.{ℕ, _+_, _-_, _^_}
 use mathlib.Core.Bool.{Bool, not, cond, _&&_}
 use mathlib.Core.List.{List, [], _∷_}
 use lib.Dec.{eqb, leb}
+use Rattle.statuses.specs.Rules.{Rule, _⇒_, decided}
 use Rattle.masks.specs.Mask.{has, plus, minus, empty, within}
 use Rattle.epochs.specs.declared.Epochs.{Epochs}
 use Rattle.epochs.specs.declared.Answered.{Answered}
@@ -48,26 +49,22 @@ abbrev pub fresh : Epochs
 fresh = record { current = 1; recovery = 0; members = 0; need = 0; enforcing = 0 }
 
 -- ---- the refusals of each call, in order: a condition, and its number
-pub data Rule : Type 0 where
-  _⇒_ : Bool → ℕ → Rule
-
-infix 68 _⇒_
-abbrev pub joinRules : Epochs → ℕ → List Rule
+abbrev pub joinRules : Epochs → ℕ → List (Rule ℕ)
 joinRules e node = above31 node ⇒ 22 ∷ member e node ⇒ 17 ∷ []
 
-abbrev pub leaveRules : Epochs → ℕ → List Rule
+abbrev pub leaveRules : Epochs → ℕ → List (Rule ℕ)
 leaveRules e node = above31 node ⇒ 22 ∷ not (member e node) ⇒ 2 ∷ needs e node ⇒ 10013 ∷ []
 
-abbrev pub startRules : Epochs → ℕ → List Rule
+abbrev pub startRules : Epochs → ℕ → List (Rule ℕ)
 startRules e node = above31 node ⇒ 22 ∷ not (member e node) ⇒ 2 ∷ (noGrace e && lastEpoch e) ⇒ 28 ∷ []
 
-abbrev pub enforceRules : Epochs → ℕ → List Rule
+abbrev pub enforceRules : Epochs → ℕ → List (Rule ℕ)
 enforceRules e node = above31 node ⇒ 22 ∷ not (member e node) ⇒ 2 ∷ noGrace e ⇒ 10033 ∷ []
 
-abbrev pub finishRules : Epochs → ℕ → List Rule
+abbrev pub finishRules : Epochs → ℕ → List (Rule ℕ)
 finishRules e node = above31 node ⇒ 22 ∷ not (member e node) ⇒ 2 ∷ not (needs e node) ⇒ 22 ∷ []
 
-abbrev pub stopRules : Epochs → ℕ → List Rule
+abbrev pub stopRules : Epochs → ℕ → List (Rule ℕ)
 stopRules e node = above31 node ⇒ 22 ∷ not (member e node) ⇒ 2 ∷ not (noGrace e) ⇒ 10013 ∷ []
 
 -- ---- the record that an accepted call leaves
@@ -109,9 +106,8 @@ accepted next = record { status = 0; epochs = next }
 abbrev pub refused : ℕ → Epochs → Answered
 refused s e = record { status = s; epochs = e }
 
-unfoldable pub judged : Epochs → List Rule → Epochs → Answered
-judged e [] next = accepted next
-judged e ((b ⇒ s) ∷ rules) next = cond b (refused s e) (judged e rules next)
+unfoldable pub judged : Epochs → List (Rule ℕ) → Epochs → Answered
+judged e rules next = decided (λ s. refused s e) rules (accepted next)
 
 unfoldable pub joinOf : Epochs → ℕ → Answered
 joinOf e node = judged e (joinRules e node) (joined e node)

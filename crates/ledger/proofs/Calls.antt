@@ -9,6 +9,7 @@ use lib.ListN.{getD, length, length-set, length-map}
 use lib.Seq.{set-getD}
 use lib.Dec.{eqb, leb, ltb}
 use borrow.Author.Tests.{eqb-false, le-leb, lt-leb, leb-true, leb-false, ltb-true, ltb-false}
+use Rattle.statuses.specs.Rules.{_⇒_, refused}
 use Rattle.reports.specs.Device.{Device}
 use Rattle.places.specs.Lists.{any, chosen, none, discard, amend, Above, Rising}
 use Rattle.places.specs.Places.{first, placeOr, leftOut}
@@ -22,7 +23,7 @@ use Rattle.files.specs.declared.head.Head.{Head}
 use Rattle.places.proofs.Slots.{All, Slots, Focus, Hit, slots-map, slots-chosen, slots-at, focus, pairs-map, leftOut-length, missing, found}
 use Rattle.places.proofs.Sets.{true-false, first-nothing, none-at, first-no, rest-no}
 use Rattle.mirroring.proofs.Enrolling.{few-mirrors}
-use Rattle.ledger.specs.Ledger.{Row, Ledger, isRow, newRow, registered, rowOf, refused, _⇒_, openRules, intentRules, closeRules, repairedRules, forgetRules, isMarked, isOffered, needRepair, forCopying, listOf, numbers, source, opened, hasReclaimed, closed, mended, restarted, ended, insert, withRows, withGrace, onRow}
+use Rattle.ledger.specs.Ledger.{Row, Ledger, isRow, newRow, registered, rowOf, openRules, intentRules, closeRules, repairedRules, forgetRules, isMarked, isOffered, needRepair, forCopying, listOf, numbers, source, opened, hasReclaimed, closed, mended, restarted, ended, insert, withRows, withGrace, onRow}
 use Rattle.recovery.specs.Record.{withFiles, answered, placeIn, fileAt, putFile, onPlace, openOf, reclaimOf, closeOf, repairedOf, enter, isFull, registerWith, registerOf, forgets, forgetOf, endOf, restartOf, isWanted, numberOf, listingOf}
 use Rattle.recovery.specs.declared.record.Record.{Record}
 use Rattle.ledger.proofs.Relation.{FileIs, NoFile, Matches, branch, FileKept, FileAgrees, RecordAgrees}

@@ -8,6 +8,7 @@ use native.Mathlib.Omega.{arith}
 use lib.ListN.{getD, length, length-set, length-map}
 use lib.Dec.{eqb, leb}
 use borrow.Author.Tests.{eqb-true, le-leb, lt-leb}
+use Rattle.statuses.specs.Rules.{refused}
 use Rattle.reports.specs.Device.{Device}
 use Rattle.reports.specs.Statistics.{Statistic}
 use Rattle.reports.specs.Report.{DeviceError, Whole}
@@ -29,7 +30,7 @@ use Rattle.places.proofs.Slots.{All, Pairs, Slots, Focus, Room, slots-left, slo
 use Rattle.places.proofs.Sets.{true-false, has-with, with-old, with-new}
 use Rattle.mirroring.proofs.Copies.{MirrorIs, NoMirror, Copies, copies-unblamed, copies-new}
 use Rattle.files.proofs.Heeding.{nothing-heeded}
-use Rattle.ledger.specs.Ledger.{Row, newRow, source, sourceFrom, refused, openRules, intentRules, closeRules, repairedRules, opened, hasReclaimed, closed, mended, restarted, ended, reported, lost}
+use Rattle.ledger.specs.Ledger.{Row, newRow, source, sourceFrom, openRules, intentRules, closeRules, repairedRules, opened, hasReclaimed, closed, mended, restarted, ended, reported, lost}
 use Rattle.ledger.proofs.Relation.{IntentIs, NoIntent, Intents, FileIs, with-intents, with-mark, with-copies, FileAgrees, branch}
 use Rattle.ledger.proofs.Reported.{file-after-report, heard-status}
 

@@ -9,6 +9,7 @@ use native.Mathlib.Omega.{arith}
 use lib.ListN.{getD, length, take, replicate, length-map, List·getD-eq-default}
 use lib.Dec.{eqb, ltb}
 use borrow.Author.Tests.{ne-eqb, le-leb, ltb-true, ltb-false}
+use Rattle.statuses.specs.Rules.{refused}
 use Rattle.reports.specs.Report.{Report, Whole, Malformed, reportOf}
 use Rattle.wire.specs.Request.{requestOf, bodyOf}
 use Rattle.wire.specs.declared.request.Request.{Request}
@@ -26,7 +27,7 @@ use Rattle.files.specs.declared.head.Edition.the-variants.{Current, Old}
 use Rattle.recovery.specs.Calls.{Call, register, opening, reclaim, close, repaired, forget, endGrace, restart, layoutReturn, resilver, offered, replied, lend}
 use Rattle.recovery.specs.Record.{freshAs, endOf}
 use Rattle.recovery.specs.declared.record.Record.{Record}
-use Rattle.ledger.specs.Ledger.{Row, Ledger, noRows, isRow, newRow, registered, rowOf, isOpen, numbers, isMarked, needRepair, refused, intentRules, reportRules, closeRules, repairedRules, lost, hasReclaimed, closed, mended, restarted, ended, reported, errorsOf, onRow, judge, judgeRequest, apply, accepted, feed}
+use Rattle.ledger.specs.Ledger.{Row, Ledger, noRows, isRow, newRow, registered, rowOf, isOpen, numbers, isMarked, needRepair, intentRules, reportRules, closeRules, repairedRules, lost, hasReclaimed, closed, mended, restarted, ended, reported, errorsOf, onRow, judge, judgeRequest, apply, accepted, feed}
 use Rattle.ledger.specs.Lists.{rowPasses}
 use Rattle.ledger.specs.History.{step, recordAfter}
 use Rattle.ledger.specs.Demand3.{ledgerOf}

@@ -7,6 +7,7 @@ use Prim.Native.Nat.{ℕ, _<_}
 use native.Mathlib.Omega.{arith}
 use lib.Dec.{eqb}
 use borrow.Author.Tests.{ne-eqb}
+use Rattle.statuses.specs.Rules.{refused}
 use Rattle.reports.specs.Report.{DeviceError, Report, Whole, Malformed, reportOf}
 use Rattle.wire.specs.Request.{requestOf, bodyOf}
 use Rattle.wire.specs.Reply.{replyIn}
@@ -24,7 +25,7 @@ use Rattle.files.specs.declared.file.FileAnswered.{FileAnswered}
 use Rattle.files.specs.declared.head.Head.{Head}
 use Rattle.files.proofs.Heeding.{nothing-heeded}
 use Rattle.recovery.specs.Calls.{Answer, replied, handedOn}
-use Rattle.ledger.specs.Ledger.{Row, Ledger, registered, rowOf, holds, refused, intentRules, reportRules, judgeRequest, refusal, isFault, isStranger, blame, withMark, withBlame, reported, errorsOf, onRow}
+use Rattle.ledger.specs.Ledger.{Row, Ledger, registered, rowOf, holds, intentRules, reportRules, judgeRequest, refusal, isFault, isStranger, blame, withMark, withBlame, reported, errorsOf, onRow}
 use Rattle.recovery.specs.Record.{fileAt, onPlace}
 use Rattle.recovery.specs.declared.record.Record.{Record}
 use Rattle.ledger.proofs.Relation.{Matches, RecordAgrees}

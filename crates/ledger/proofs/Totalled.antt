@@ -5,6 +5,7 @@ use mathlib.Core.Bool.{Bool, true, false, not, cond}
 use Prim.Native.Nat.{ℕ}
 use lib.ListN.{length, replicate}
 use lib.Dec.{eqb}
+use Rattle.statuses.specs.Rules.{_⇒_, refused}
 use Rattle.reports.specs.Device.{Device}
 use Rattle.reports.specs.Statistics.{Statistic}
 use Rattle.reports.specs.Report.{DeviceError, Report, Whole, Malformed, reportOf}
@@ -27,7 +28,7 @@ use Rattle.files.specs.File.{noFile, ofClient, ofIntent, reportHeard, asksHeard
 use Rattle.files.specs.declared.file.File.{File}
 use Rattle.recovery.specs.Record.{fileAt}
 use Rattle.recovery.specs.declared.record.Record.{Record}
-use Rattle.ledger.specs.Ledger.{Row, Ledger, newRow, registered, rowOf, _⇒_, refused, intentRules, reportRules, isStranger, rowTotals}
+use Rattle.ledger.specs.Ledger.{Row, Ledger, newRow, registered, rowOf, intentRules, reportRules, isStranger, rowTotals}
 use Rattle.ledger.proofs.Relation.{FileIs, Matches}
 use Rattle.ledger.proofs.Reported.{Heeds, named, mirrors-only, heeds-report, whole-heard, malformed-heard}
 use Rattle.ledger.proofs.OneFile.{AtIntent, at-intent}

@@ -6,12 +6,13 @@ use mathlib.Core.Bool.{Bool, true, false, not, cond}
 use Prim.Native.Nat.{ℕ}
 use lib.Dec.{eqb}
 use borrow.Author.Tests.{eqb-true}
+use Rattle.statuses.specs.Rules.{refused}
 use Rattle.reports.specs.Report.{DeviceError}
 use Rattle.places.specs.Lists.{any, has, with, none, discard}
 use Rattle.places.proofs.Sets.{true-false, has-with, any-same}
 use Rattle.mirroring.specs.Devices.{deviceOf, isMirror, placeOf}
 use Rattle.files.specs.declared.head.Edition.the-variants.{Current}
-use Rattle.ledger.specs.Ledger.{Row, refused, intentRules, closeRules, repairedRules, hasReclaimed, closed, mended, restarted, isFault, isStranger, blame, reported, withMark, withBlame, withIntents}
+use Rattle.ledger.specs.Ledger.{Row, intentRules, closeRules, repairedRules, hasReclaimed, closed, mended, restarted, isFault, isStranger, blame, reported, withMark, withBlame, withIntents}
 use Rattle.ledger.proofs.Fed.{Sound, as-was}
 use Rattle.ledger.proofs.Within.{Within, within-self, or-true, has-within, none-within, within-less, within-discard, within-but}
 

@@ -6,6 +6,7 @@ use mathlib.Core.Bool.{Bool, true, false, not, cond}
 use Prim.Native.Nat.{ℕ, suc}
 use lib.ListN.{length}
 use lib.Dec.{eqb, leb, ltb}
+use Rattle.statuses.specs.Rules.{Rule, _⇒_, firstOf, refused}
 use Rattle.reports.specs.Device.{Device}
 use Rattle.reports.specs.Report.{DeviceError, Report, Whole, Malformed, reportOf}
 use Rattle.wire.specs.Request.{requestOf, bodyOf}
@@ -105,19 +106,7 @@ sourceFrom k (d ∷ ds) bs = cond (has k bs) (sourceFrom (suc k) ds bs) k
 abbrev pub source : Row → ℕ
 source w = sourceFrom 0 (w .mirrors) (w .blamed)
 
--- ---- the rules of refusal: the first that applies
-pub data Rule (A : Type 0) : Type 0 where
-  _⇒_ : Bool → A → Rule A
-
-infix 68 _⇒_
-abbrev pub firstOf : {A : Type 0} → List (Rule A) → A → A
-firstOf [] z = z
-firstOf ((b ⇒ s) ∷ rs) z = cond b s (firstOf rs z)
-
--- or 0
-abbrev pub refused : List (Rule ℕ) → ℕ
-refused rs = firstOf rs 0
-
+-- ---- the rules of refusal, of which the first that applies decides
 -- what each call says of the row of its file; g is whether in grace
 abbrev pub openRules : ℕ → Row → List (Rule ℕ)
 openRules c w = holds c w ⇒ 0 ∷ leb 8 (length (w .intents)) ⇒ 28 ∷ []

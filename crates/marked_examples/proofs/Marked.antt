@@ -3,7 +3,7 @@ use mathlib.Core.Path.{refl}
 use Rattle.xdr.specs.Be.{beNat, beBytes}
 use Rattle.extents.specs.Extents.{listFrom, tooFar, outOfOrder, clash, anyOf, refusal, verdict}
 use Rattle.layouts.specs.Layout.{checkBody}
-use Rattle.reports.specs.Reader.{sameBytes, number, opaque, boolean, bounded, inTurn}
+use Rattle.xdr.specs.Reader.{sameBytes, number, opaque, boolean, bounded, inTurn}
 use Rattle.wire.specs.Reply.{replyBytes, replyIn}
 use Rattle.reports.specs.Report.{deviceError, ioerr, layoutreturn, joined, reportOf, over}
 use Rattle.wire.specs.Request.{fileReturn, returnOf, arguments, refusalOf, isAnonymous, unless, requestOf, bodyOf}

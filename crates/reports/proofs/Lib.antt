@@ -1,12 +1,8 @@
--- The body of a LAYOUTRETURN. Readers: fields read one after another. Bytes: equal bytes. Ends: the place past what is read. Devices: device ids.
--- ReportModel, Reports: the error records. Opaques: an opaque field. StatisticsWalk: the statistics records. Walk: each is visited. ReportExamples: computed
--- examples.
-pub mod Readers
-pub mod Bytes
-pub mod Ends
+-- The body of a LAYOUTRETURN. Devices: device ids. Statuses: the status of a report and of its parts. ReportModel, Reports: the error records. StatisticsWalk: the statistics records. Walk: each is visited.
+-- ReportExamples: computed examples.
 pub mod Devices
+pub mod Statuses
 pub mod ReportModel
-pub mod Opaques
 pub mod StatisticsWalk
 pub mod Reports
 pub mod Walk

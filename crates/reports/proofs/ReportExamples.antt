@@ -4,7 +4,7 @@ use mathlib.Core.List.{List, [], _∷_, _++_, map}
 use Prim.Native.Nat.{ℕ}
 use lib.ListN.{replicate}
 use Rattle.xdr.specs.Be.{beNat}
-use Rattle.reports.specs.Reader.{number, opaque, boolean, bounded, sameBytes, inTurn}
+use Rattle.xdr.specs.Reader.{number, opaque, boolean, bounded, sameBytes, inTurn}
 use Rattle.reports.specs.Report.{Report, Whole, Malformed, deviceError, ioerr, layoutreturn, joined, reportOf}
 use Rattle.reports.specs.Statistics.{iostats, ioInfo, nfstime, ioLatency, layoutupdate}
 

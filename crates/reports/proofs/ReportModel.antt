@@ -10,15 +10,16 @@ use lib.ListN.{length, drop, length-drop}
 use lib.Seq.{drop-drop}
 use lib.Dec.{ltb, eqb}
 use Rattle.xdr.specs.Be.{beNat}
-use Rattle.reports.specs.Reader.{Read, Got, Bad, Reader, onward, _>>=_, give, number, inTurn, counted}
+use Rattle.xdr.specs.Reader.{Read, Got, Bad, Reader, onward, _>>=_, give, number, inTurn, counted}
+use Rattle.xdr.specs.Past.{pastOf}
 use Rattle.reports.specs.Report.{Report, Whole, Malformed, DeviceError, Contents, deviceError, ioerr, layoutreturn, joined, judged, reportOf, withoutErrors}
 use Rattle.reports.specs.Statistics.{Statistic, iostats}
-use Rattle.reports.specs.StatisticsSteps.{pastOf, tailOf}
-use Rattle.reports.specs.declared.fields.Past.{Past}
-use Rattle.reports.specs.declared.fields.Past.the-variants as past
+use Rattle.reports.specs.StatisticsSteps.{tailOf}
+use Rattle.xdr.specs.declared.fields.Past.{Past}
+use Rattle.xdr.specs.declared.fields.Past.the-variants as past
 use Rattle.reports.specs.ReportSteps.{naming, errorIn, statistics, devices, records}
-use Rattle.reports.proofs.Readers.{Leads, no-bytes, number-first, opaque-first, then}
-use Rattle.reports.proofs.Ends.{Ends, number-ends, opaque-ends, give-ends, then-ends, counted-ends, Reached}
+use Rattle.xdr.proofs.Readers.{Leads, no-bytes, number-first, opaque-first, then}
+use Rattle.xdr.proofs.Ends.{Ends, number-ends, opaque-ends, give-ends, then-ends, counted-ends, Reached}
 
 -- a device error is 24 bytes
 device-read : (i : ℕ) → Leads 24 (deviceError i) (λ s. give (errorIn i s))

@@ -13,9 +13,10 @@ use lib.Dec.{ltb, eqb}
 use borrow.Author.Tests.{lt-ltb, le-ltb, eq-eqb, ne-eqb, ltb-true, ltb-false, eqb-false}
 use Rattle.xdr.specs.Be.{beNat}
 use Rattle.reports.specs.Device.{halves}
-use Rattle.reports.specs.Reader.{counted, number}
+use Rattle.xdr.specs.Reader.{counted, number}
+use Rattle.xdr.specs.Past.{pastOf}
 use Rattle.reports.specs.Statistics.{Statistic}
-use Rattle.reports.specs.StatisticsSteps.{pastOf, tailAt, statisticsFrom, tally}
+use Rattle.reports.specs.StatisticsSteps.{tailAt, statisticsFrom, tally}
 use Rattle.reports.specs.Report.{Report, DeviceError, ioerr, reportOf, statusOf, withoutStatistics, withoutErrors, over, outcome}
 use Rattle.reports.specs.Report as report
 use Rattle.reports.specs.Walk.{Walk, ends, gives, enters, Given}
@@ -26,12 +27,13 @@ use Rattle.reports.specs.declared.report.Entry.the-variants.{Device, Rec
 use Rattle.reports.specs.declared.report.Found.{Found}
 use Rattle.reports.specs.declared.report.Found.the-variants.{Error, Done}
 use Rattle.reports.proofs.Devices.{halves-taken}
+use Rattle.reports.proofs.Statuses.{statistics-status}
 use Rattle.reports.proofs.ReportModel.{as-walked, rest-is, no-errors-read, ioerr-ends}
-use Rattle.reports.proofs.Ends.{reached, unread, counted-ends}
-use Rattle.reports.specs.declared.fields.Past.{Past}
-use Rattle.reports.specs.declared.fields.Past.the-variants as past
+use Rattle.xdr.proofs.Ends.{reached, unread, counted-ends}
+use Rattle.xdr.specs.declared.fields.Past.{Past}
+use Rattle.xdr.specs.declared.fields.Past.the-variants as past
 use Rattle.reports.specs.declared.statistics.Tail.{Tail}
-use Rattle.reports.proofs.Readers.{by-test}
+use Rattle.xdr.proofs.Readers.{by-test}
 use Rattle.reports.proofs.StatisticsWalk.{only-statistics, tail-begins, tally-rest}
 
 -- ---- the law of a walk
@@ -377,10 +379,6 @@ module _ (s : List ℕ) (c : Cursor) where
   next-done e = rw e at (coming (suc (c .records)) s c (omega arith) .comes)
 
 -- ---- the status of a report whose error records are read is that of what they leave
-statistics-status : (p : Report) → statusOf (withoutErrors p) ≡ statusOf p
-statistics-status (report.Whole xs ys) = refl
-statistics-status report.Malformed = refl
-
 module _ (s : List ℕ) {r : Past} (i : r ≡ pastOf (length s) (counted ioerr s)) where
   pub status-past : {at : ℕ} → r ≡ past.At at → {k : ℕ} → k ≡ statusOf (statistics (drop at s)) → k ≡ statusOf (reportOf s)
   unfolding statistics

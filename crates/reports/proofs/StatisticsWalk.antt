@@ -12,21 +12,23 @@ use lib.Seq.{drop-drop, drop-length}
 use lib.Dec.{ltb, leb, eqb}
 use Rattle.xdr.specs.Be.{beNat}
 use Rattle.reports.specs.Device.{Device, halves}
-use Rattle.reports.specs.Reader.{Read, Got, Bad, Reader, onward, _>>=_, give, number, boolean, bounded, inTurn, counted}
+use Rattle.xdr.specs.Reader.{Read, Got, Bad, Reader, onward, _>>=_, give, number, boolean, bounded, inTurn, counted}
+use Rattle.xdr.specs.Past.{pastOf}
 use Rattle.reports.specs.Statistics.{Statistic, ioInfo, nfstime, ioLatency, layoutupdate, iostats}
 use Rattle.reports.specs.Report.{Report, DeviceError, ioerr, reportOf, statusOf, withoutErrors, over, outcome}
 use Rattle.reports.specs.Report as report
 use Rattle.reports.specs.Walk.{TailWalk as Walk, tail-ends as ends, tail-gives as gives, Stated}
 use Rattle.reports.specs.ReportSteps as steps
-use Rattle.reports.specs.StatisticsSteps.{pastOf, tailOf, counting, noTail, tailAt, tailPast, statisticsStart, givenBy, nextOf, statisticsFrom, statisticIn, statisticAt, afterNext, tally}
-use Rattle.reports.specs.declared.fields.Past.{Past}
-use Rattle.reports.specs.declared.fields.Past.the-variants as past
+use Rattle.reports.specs.StatisticsSteps.{tailOf, counting, noTail, tailAt, tailPast, statisticsStart, givenBy, nextOf, statisticsFrom, statisticIn, statisticAt, afterNext, tally}
+use Rattle.xdr.specs.declared.fields.Past.{Past}
+use Rattle.xdr.specs.declared.fields.Past.the-variants as past
 use Rattle.reports.specs.declared.statistics.Tail.{Tail}
 use Rattle.reports.specs.declared.statistics.Item.{Item}
 use Rattle.reports.specs.declared.statistics.Item.the-variants.{Given, End, Malformed}
 use Rattle.reports.proofs.Devices.{halves-taken}
-use Rattle.reports.proofs.Readers.{Leads, no-bytes, number-first, opaque-first, boolean-first, then, by-test, any-place}
-use Rattle.reports.proofs.Ends.{EndOf, end-drop, end-of-end, end-shorter, Ends, Leaves, number-ends, give-ends, boolean-ends, bounded-ends, then-ends, counted-ends, reached, further, unread, goes-on, goes-nowhere}
+use Rattle.xdr.proofs.Readers.{Leads, no-bytes, number-first, opaque-first, boolean-first, then, by-test, any-place}
+use Rattle.xdr.proofs.Ends.{EndOf, end-drop, end-of-end, end-shorter, Ends, Leaves, number-ends, give-ends, boolean-ends, bounded-ends, then-ends, counted-ends, reached, further, unread, goes-on, goes-nowhere}
+use Rattle.reports.proofs.Statuses.{counted-status}
 use Rattle.reports.proofs.ReportModel.{rest-is, no-errors-read, ioerr-ends}
 
 -- ---- structures of fixed size
@@ -333,10 +335,6 @@ unfolding outcome tally over
 tally-rest f g bad a s c = only-statistics (λ p. outcome f g bad a p ≡ tally g bad a p) (λ ys. refl) refl s c
 
 -- ---- the status of the records, which is that of a fold that keeps nothing
-counted-status : (y : Statistic) (p : Report) → statusOf (counting y p) ≡ statusOf p
-counted-status y (report.Whole xs ys) = refl
-counted-status y report.Malformed = refl
-
 pub status-begins : (s : List ℕ) (at : ℕ) {c : Tail} → c ≡ tailAt s at → statusOf (statisticsFrom s c) ≡ statusOf (steps.statistics (drop at s))
 unfolding steps.statistics
 status-begins s at e = ap (λ (x : Tail). statusOf (statisticsFrom s x)) e ∙ ap statusOf (tail-begins s at)

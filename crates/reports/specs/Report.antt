@@ -8,7 +8,7 @@ use mathlib.Core.List.{List, [], _∷_, _++_}
 use mathlib.Core.Bool.{cond}
 use lib.ListN.{length}
 use lib.Dec.{eqb}
-use Rattle.reports.specs.Reader.{Read, Got, Bad, Reader, _>>=_, give, number, opaque, counted}
+use Rattle.xdr.specs.Reader.{Read, Got, Bad, Reader, _>>=_, give, number, opaque, counted}
 use Rattle.reports.specs.Statistics.{Statistic, iostats}
 
 -- a device error: the place of its error record in the report, the device's sixteen bytes, and the status

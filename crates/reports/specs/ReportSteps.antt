@@ -11,7 +11,7 @@ use mathlib.Core.Bool.{cond}
 use lib.ListN.{length, take, drop}
 use lib.Dec.{ltb, eqb}
 use Rattle.xdr.specs.Be.{beNat}
-use Rattle.reports.specs.Reader.{counted}
+use Rattle.xdr.specs.Reader.{counted}
 use Rattle.reports.specs.Statistics.{iostats}
 use Rattle.reports.specs.StatisticsSteps.{tailOf, tailAt, statisticsFrom}
 use Rattle.reports.specs.Report as report

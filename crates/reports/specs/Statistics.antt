@@ -5,7 +5,7 @@
 --     iostats                                   a record
 use Prim.Native.Nat.{ℕ}
 use mathlib.Core.List.{List}
-use Rattle.reports.specs.Reader.{Reader, _>>=_, give, number, opaque, boolean, bounded}
+use Rattle.xdr.specs.Reader.{Reader, _>>=_, give, number, opaque, boolean, bounded}
 
 -- the device's sixteen bytes, and the record's own counts of bytes read and written
 pub record Statistic : Type 0 where

@@ -1,6 +1,4 @@
--- MODEL of the code: places in a body, by the definition's own readers, and the walk of the statistics records. Walk.antt states that the steps from
--- the start visit the statistics records of `reportOf`.
---     pastOf                     the place past what a reader has read
+-- MODEL of the code: the walk of the statistics records. Walk.antt states that the steps from the start visit the statistics records of `reportOf`.
 --     tailAt, tailPast           the cursor at a body's first statistics record
 --     nextOf                     what `next` answers
 --     statisticsFrom             the statistics records from a cursor on; `afterNext` says the same by what stands there
@@ -12,20 +10,16 @@ use lib.ListN.{length, take, drop}
 use lib.Dec.{ltb, eqb}
 use Rattle.xdr.specs.Be.{beNat}
 use Rattle.reports.specs.Device.{halves}
-use Rattle.reports.specs.Reader.{Read, Got, Bad, inTurn, counted}
+use Rattle.xdr.specs.Reader.{Read, Got, Bad, inTurn, counted}
+use Rattle.xdr.specs.Past.{pastOf}
 use Rattle.reports.specs.Statistics.{Statistic, iostats}
 use Rattle.reports.specs.Report as report
 use Rattle.reports.specs.Report.{Report, ioerr, over}
-use Rattle.reports.specs.declared.fields.Past.{Past}
-use Rattle.reports.specs.declared.fields.Past.the-variants as past
+use Rattle.xdr.specs.declared.fields.Past.{Past}
+use Rattle.xdr.specs.declared.fields.Past.the-variants as past
 use Rattle.reports.specs.declared.statistics.Tail.{Tail}
 use Rattle.reports.specs.declared.statistics.Item.{Item}
 use Rattle.reports.specs.declared.statistics.Item.the-variants.{Given, End, Malformed}
-
--- ---- places: of n bytes, those after the last that was read are left
-abbrev pub pastOf : {A : Type 0} → ℕ → Read A → Past
-pastOf n Bad = past.Malformed
-pastOf n (Got a t) = past.At (n - length t)
 
 -- nothing may follow the statistics records
 abbrev pub tailOf : Read (List Statistic) → Report

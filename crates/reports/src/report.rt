@@ -2,17 +2,18 @@
 // In order: the cursor and what stands at one; `start` and `step`, by which a caller walks the body up to its statistics records; `next`, for one that
 // wants the device errors alone; `statistics`, for one that wants the statistics records alone; `check`, the status of step 5. What C calls of it stands
 // in crate `wire`.
-use crate::fields::Past;
-use crate::fields::left;
 use crate::statistics;
 use crate::statistics::Tail;
+use xdr::fields::Past;
+use xdr::fields::left;
 ghost use mathlib.Core.Path.{_≡_};
 ghost use Prim.Native.Nat.{_-_, _≤_};
 ghost use lib.ListN.{length};
-ghost use Rattle.reports.specs.Reader.{counted};
+ghost use Rattle.xdr.specs.Reader.{counted};
+ghost use Rattle.xdr.specs.Past.{pastOf};
 ghost use Rattle.reports.specs.Report.{ioerr, reportOf, statusOf};
 ghost use Rattle.reports.specs.ReportSteps.{startOf, recordStep, stepAt, nextAt};
-ghost use Rattle.reports.specs.StatisticsSteps.{pastOf, statisticsStart};
+ghost use Rattle.reports.specs.StatisticsSteps.{statisticsStart};
 
 // A place in a report: where the next byte is, the records still to come, and the device errors still to come of the record at hand.
 pub struct Cursor {

@@ -1,15 +1,16 @@
 // The statistics records of a LAYOUTRETURN's body (RFC 8435, 9.2; Ticket 3).
 // In order: the cursor and what stands at one; a record; `begin` and `next`, by which a caller walks the records; `check`, their status.
-use crate::fields::Past;
-use crate::fields::left;
-use crate::fields::past_opaque;
+use xdr::fields::Past;
+use xdr::fields::left;
+use xdr::fields::past_opaque;
 ghost use mathlib.Core.Path.{_≡_};
 ghost use Prim.Native.Nat.{_+_, _≤_};
 ghost use lib.ListN.{length, drop};
 ghost use Rattle.reports.specs.Report.{statusOf};
 ghost use Rattle.reports.specs.Statistics.{layoutupdate};
 ghost use Rattle.reports.specs.ReportSteps as steps;
-ghost use Rattle.reports.specs.StatisticsSteps.{pastOf, noTail, tailAt, nextOf};
+ghost use Rattle.reports.specs.StatisticsSteps.{noTail, tailAt, nextOf};
+ghost use Rattle.xdr.specs.Past.{pastOf};
 
 // A place among the statistics records: where the next byte is, and the records still to come.
 pub struct Tail {
@@ -32,17 +33,17 @@ pub enum Item {
     Malformed,
 }
 
-// The place past the layout update of a record: three opaque fields, then 144 bytes that end with a boolean.
+// The place past the layout update of a record: three opaque fields of at most 128 bytes, then 144 bytes that end with a boolean.
 fn past_update(s: &[u8], at: usize) -> Past
     ensures { λ r. ⌜ r ≡ pastOf (length (now (s .entry))) (layoutupdate (drop at (now (s .entry)))) ⌝ }
 {
-    let Past::At(address) = past_opaque(s, at) else {
+    let Past::At(address) = past_opaque(s, at, 128) else {
         return Past::Malformed;
     };
-    let Past::At(handle) = past_opaque(s, address) else {
+    let Past::At(handle) = past_opaque(s, address, 128) else {
         return Past::Malformed;
     };
-    let Past::At(latency) = past_opaque(s, handle) else {
+    let Past::At(latency) = past_opaque(s, handle, 128) else {
         return Past::Malformed;
     };
     if left(s, latency) < 144 {

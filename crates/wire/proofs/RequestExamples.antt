@@ -5,7 +5,7 @@ use mathlib.Core.Bool.{true, false}
 use Prim.Native.Nat.{ℕ}
 use lib.ListN.{length}
 use Rattle.xdr.specs.Be.{beNat}
-use Rattle.reports.specs.Reader.{sameBytes, number, opaque, boolean, bounded}
+use Rattle.xdr.specs.Reader.{sameBytes, number, opaque, boolean, bounded}
 use Rattle.wire.specs.Request.{fileReturn, returnOf, arguments, refusalOf, isAnonymous, unless, requestOf, bodyOf}
 use Rattle.wire.specs.declared.request.Request.{Request}
 use Rattle.wire.specs.declared.request.Request.the-variants.{Refused, Bulk, File}

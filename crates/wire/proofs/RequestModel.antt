@@ -9,14 +9,14 @@ use lib.ListN.{length, take, drop, length-drop}
 use lib.Seq.{drop-drop, length-take-le}
 use lib.Dec.{ltb, leb, eqb}
 use Rattle.xdr.specs.Be.{beNat}
-use Rattle.reports.specs.Reader.{sameBytes, zeros, padding, Read, Got, Bad, Reader, onward, _>>=_, give, only, number, opaque, boolean, bounded}
+use Rattle.xdr.specs.Reader.{sameBytes, zeros, padding, Read, Got, Bad, Reader, onward, _>>=_, give, only, number, opaque, boolean, bounded}
 use Rattle.wire.specs.Request.{Returned, ofFile, ofMany, Arguments, fileReturn, returnOf, arguments, refusalOf, isAnonymous, asked, unless, answered, requestOf}
 use Rattle.wire.specs.RequestSteps.{fileForm, formOf, anonymousIn, judgedIn, answerIn, requestIn}
 use Rattle.wire.specs.declared.request.Form.{Form}
 use Rattle.wire.specs.declared.request.Form.the-variants as form
 use Rattle.wire.specs.declared.request.Request.{Request}
 use Rattle.wire.specs.declared.request.Request.the-variants.{Refused, Bulk, File}
-use Rattle.reports.proofs.Readers.{Leads, no-bytes, number-first, opaque-first, boolean-first, bounded-first, boundedRest, rest-tests, then, shifted, none-left, at-most, where-long, by-test}
+use Rattle.xdr.proofs.Readers.{Leads, no-bytes, number-first, opaque-first, boolean-first, bounded-first, boundedRest, rest-tests, then, shifted, none-left, at-most, where-long, by-test}
 
 -- ---- what is read must be all of the bytes
 abbrev closed : {A : Type 0} → Read A → (A → Request) → Request

@@ -5,22 +5,20 @@ use mathlib.Core.Path.{_≡_, refl, sym, ap, _∙_}
 use mathlib.Core.List.{List, [], _∷_}
 use mathlib.Core.Bool.{Bool, true, false, cond, _&&_, _||_}
 use native.Mathlib.Omega.{arith}
-use native.Mathlib.Numerals.{add-one}
-use native.Mathlib.Nat.{suc-add}
 use borrow.Author.Tests.{lt-ltb, le-ltb, le-leb, lt-leb, eq-eqb, ne-eqb, ltb-true, ltb-false, eqb-true, eqb-false}
-use lib.ListN.{length, take, drop, getD, replicate, length-drop}
-use lib.Seq.{drop-cons, drop-length, take-all}
+use lib.ListN.{length, take, drop, length-drop}
+use lib.Seq.{take-all}
 use lib.Dec.{ltb, leb, eqb}
 use Rattle.xdr.specs.Be.{beNat}
-use Rattle.reports.specs.Reader.{sameBytes, zeros, padding, Got}
+use Rattle.xdr.specs.Reader.{sameBytes, zeros, padding, Got}
 use Rattle.wire.specs.Request.{Arguments, ofFile, refusalOf, unless, arguments, requestOf, bodyOf}
 use Rattle.wire.specs.RequestSteps.{fileForm, formOf, anonymousIn, judgedIn, answerIn, requestIn}
 use Rattle.wire.specs.declared.request.Form.{Form}
 use Rattle.wire.specs.declared.request.Form.the-variants as form
 use Rattle.wire.specs.declared.request.Request.{Request}
 use Rattle.wire.specs.declared.request.Request.the-variants.{Refused, Bulk, File}
-use Rattle.reports.proofs.Readers.{by-test}
-use Rattle.reports.proofs.Bytes.{false-true, some-zeros}
+use Rattle.xdr.proofs.Readers.{by-test}
+use Rattle.xdr.proofs.Bytes.{false-true, first-zeros}
 use Rattle.wire.proofs.RequestModel.{as-tested, body-lies}
 
 -- ---- step 2
@@ -65,14 +63,11 @@ module _ (s : List ℕ) where
     unfolding fileForm
     file-padded k l = simp (← e, le-ltb (length s) 52 h, le-ltb 4096 n k, le-ltb (length s) (52 + n) l)
 
-    few-zeros : (m : ℕ) → m ≡ padding n → take m (zeros 4) ≡ zeros (padding n)
-    few-zeros m q =
-        let f : m + (4 - m) ≡ 4 = omega arith in
-        ap (λ (k : ℕ). take m (zeros k)) (sym f) ∙ some-zeros m (4 - m) ∙ ap zeros q
-
     module _ (k : n ≤ 4096) (l : 52 + n ≤ length s) {m : ℕ} (q : m ≡ padding n) {t : Bool} (r : t ≡ sameBytes (take (length s - (52 + n)) (drop (52 + n) s)) (take m (zeros 4))) where
       padded : t ≡ sameBytes (drop (52 + n) s) (zeros (padding n))
-      padded = rw (← few-zeros m q, ← from-on (52 + n) s) r
+      padded =
+          let z : take m (zeros 4) ≡ zeros (padding n) = first-zeros m (omega (arith, q)) ∙ ap zeros q in
+          rw (← z, ← from-on (52 + n) s) r
 
       pub file-whole : t ≡ true → form.File n ≡ fileForm s
       file-whole y =

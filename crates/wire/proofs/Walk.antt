@@ -17,6 +17,7 @@ use Rattle.reports.specs.declared.report.Found.the-variants.{Error, Done}
 use Rattle.reports.specs.declared.statistics.Tail.{Tail}
 use Rattle.reports.specs.declared.statistics.Item.{Item}
 use Rattle.reports.specs.declared.statistics.Item.the-variants as item
+use Rattle.reports.proofs.Statuses.{named-status, counted-status, errors-status, statistics-status}
 use Rattle.reports.proofs.Reports.{next-forward, next-done}
 use Rattle.reports.proofs.StatisticsWalk.{goes-forward}
 use Rattle.reports.proofs.Walk.{errors-whole, statistics-whole, done-status}
@@ -125,16 +126,12 @@ module _ (s : List ℕ) where
     less = error-less;
     ended = error-ended;
     status = error-status;
-    added-status = named;
+    added-status = named-status;
     added = λ x xs. refl;
     none = refl;
     whole-status = λ xs. refl;
     same = λ xs ys e. cc;
   }
-    where
-      named : (x : DeviceError) (p : Report) → statusOf (naming x p) ≡ statusOf p
-      named x (Whole xs ys) = refl
-      named x Malformed = refl
 
 -- ---- statistics records
 module _ (s : List ℕ) where
@@ -169,26 +166,14 @@ module _ (s : List ℕ) where
     less = statistic-less;
     ended = λ c z. statistic-over s (c .at) (c .left) ∙ ap (afterStatistic s (statisticCall s c)) (ne-eqb (statisticCall s c .answer) 1 z);
     status = statistic-status;
-    added-status = counted;
+    added-status = counted-status;
     added = λ x xs. refl;
     none = refl;
     whole-status = λ xs. refl;
     same = λ xs ys e. cc;
   }
-    where
-      counted : (y : Statistic) (p : Report) → statusOf (counting y p) ≡ statusOf p
-      counted y (Whole xs ys) = refl
-      counted y Malformed = refl
 
 -- ---- the claim
-errors-status : (p : Report) → statusOf (withoutStatistics p) ≡ statusOf p
-errors-status (Whole xs ys) = refl
-errors-status Malformed = refl
-
-statistics-status : (p : Report) → statusOf (withoutErrors p) ≡ statusOf p
-statistics-status (Whole xs ys) = refl
-statistics-status Malformed = refl
-
 pub handed-out : (s : List ℕ) → HandedOut s
 handed-out s = record {
   errors = λ r d. hands-out (error-laws s) (record { at = 0; records = r; devices = d }) s withoutStatistics _ (handed-begins s r d) errors-status (errors-whole (reportOf s)) (λ xs h. ap withoutStatistics (h .1));

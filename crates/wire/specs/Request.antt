@@ -9,7 +9,7 @@ use mathlib.Core.List.{List, [], _∷_}
 use mathlib.Core.Bool.{Bool, cond, _&&_}
 use lib.ListN.{length, take, drop}
 use lib.Dec.{leb, eqb}
-use Rattle.reports.specs.Reader.{sameBytes, zeros, Read, Got, Bad, Reader, _>>=_, give, only, number, opaque, boolean, bounded}
+use Rattle.xdr.specs.Reader.{sameBytes, zeros, Read, Got, Bad, Reader, _>>=_, give, only, number, opaque, boolean, bounded}
 use Rattle.wire.specs.declared.request.Request.{Request}
 use Rattle.wire.specs.declared.request.Request.the-variants.{Refused, Bulk, File}
 

@@ -8,7 +8,7 @@ use mathlib.Core.Bool.{Bool, cond, _&&_}
 use lib.ListN.{length, take, drop}
 use lib.Dec.{ltb, leb, eqb}
 use Rattle.xdr.specs.Be.{beNat}
-use Rattle.reports.specs.Reader.{sameBytes, zeros, padding}
+use Rattle.xdr.specs.Reader.{sameBytes, zeros, padding}
 use Rattle.wire.specs.Request.{refusalOf, isAnonymous, unless}
 use Rattle.wire.specs.declared.request.Form.{Form}
 use Rattle.wire.specs.declared.request.Form.the-variants as form

@@ -1,7 +1,7 @@
 // The arguments of a LAYOUTRETURN: LAYOUTRETURN4args of RFC 8881 (paper 01, "LAYOUTRETURN", steps 1 to 3).
 // In order: what a request asks for; step 1; step 2; the test of the stateid; `read`, the answer of the three steps; the same for C.
-use reports::fields::pad;
-use reports::fields::same;
+use xdr::fields::pad;
+use xdr::fields::same;
 ghost use mathlib.Core.Path.{_≡_};
 ghost use Prim.Native.Nat.{_≤_};
 ghost use lib.ListN.{length};

@@ -3,9 +3,9 @@ use Prim.Native.Nat.{suc, _≤_, _-_}
 use mathlib.Core.Path.{_≡_}
 use lib.ListN.{length, drop}
 use Rattle.xdr.specs.Be.{beNat}
-use Rattle.reports.specs.Reader.{inTurn, counted}
+use Rattle.xdr.specs.Reader.{inTurn, counted}
 use Rattle.reports.specs.Report.{ioerr}
-use Rattle.reports.specs.StatisticsSteps.{pastOf}
+use Rattle.xdr.specs.Past.{pastOf}
 use Rattle.reports.proofs.ReportModel.{errors-short, errors-begin, errors-done, errors-cut, errors-over, errors-on}
 use native.Mathlib.Omega.{arith}
 use borrow.Author.Needs.{needs}

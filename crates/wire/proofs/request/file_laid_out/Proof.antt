@@ -1,7 +1,7 @@
 -- Rests on the laws of step 1 for return type 1.
 use mathlib.Core.Path.{sym}
 use lib.Seq.{length-take-le}
-use Rattle.reports.specs.Reader.{zeros}
+use Rattle.xdr.specs.Reader.{zeros}
 use Rattle.wire.proofs.Requests.{file-short, file-large, file-cut, file-whole, file-spare}
 use native.Mathlib.Omega.{arith}
 use borrow.Author.Needs.{needs}

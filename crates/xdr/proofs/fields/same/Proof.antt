@@ -3,12 +3,12 @@ use Prim.Native.Nat.{_≤_, _-_}
 use mathlib.Core.Path.{_≡_, refl}
 use mathlib.Core.Bool.{false, cond}
 use lib.ListN.{length, drop}
-use Rattle.reports.specs.Reader.{sameBytes}
-use Rattle.reports.proofs.Bytes.{other-length, byte-passed, all-passed}
+use Rattle.xdr.specs.Reader.{sameBytes}
+use Rattle.xdr.proofs.Bytes.{other-length, byte-passed, all-passed}
 use native.Mathlib.Omega.{arith}
 use borrow.Author.Needs.{needs}
-use Rattle.reports.proofs.fields.same.Statement.{statement}
-use Rattle.reports.proofs.fields.same.Tie as tie
+use Rattle.xdr.proofs.fields.same.Statement.{statement}
+use Rattle.xdr.proofs.fields.same.Tie as tie
 
 abbrev Inv-loop : tie.InvT-loop
 Inv-loop a b so₀ i₀ so i = (length a ≡ length b) × (i ≤ length a) × (cond so (sameBytes (drop i a) (drop i b)) false ≡ sameBytes a b)

@@ -1,10 +1,11 @@
-// Fields of variable size (RFC 4506). In order: the bytes that are left; the same bytes; padding; an opaque field.
+// Fields of variable size (RFC 4506). In order: the bytes that are left; the same bytes; padding; an opaque field. Paper 01: "Opaque padding is zero bytes".
+use crate::be32;
 ghost use mathlib.Core.Path.{_≡_};
 ghost use mathlib.Core.Bool.{false, cond};
 ghost use Prim.Native.Nat.{_-_};
 ghost use lib.ListN.{length, drop};
-ghost use Rattle.reports.specs.Reader.{sameBytes, padding, bounded};
-ghost use Rattle.reports.specs.StatisticsSteps.{pastOf};
+ghost use Rattle.xdr.specs.Reader.{sameBytes, padding, bounded};
+ghost use Rattle.xdr.specs.Past.{pastOf};
 
 // The place past what has been read, or bytes that are not of the form.
 pub enum Past {
@@ -13,7 +14,7 @@ pub enum Past {
 }
 
 // The bytes from `at` on.
-pub(crate) fn left(s: &[u8], at: usize) -> usize
+pub fn left(s: &[u8], at: usize) -> usize
     ensures { λ r. ⌜ r ≡ length (now (s .entry)) - at ⌝ }
 {
     if at < s.len() { s.len() - at } else { 0 }
@@ -23,7 +24,7 @@ pub(crate) fn left(s: &[u8], at: usize) -> usize
 fn both(a: bool, b: bool) -> bool
     ensures { λ r. ⌜ r ≡ cond a b false ⌝ }
 {
-    if a { b } else { false }
+    a && b
 }
 
 // Whether two parts hold the same bytes. It looks at all of them, which the compiler can do several at a time.
@@ -49,16 +50,16 @@ pub fn pad(n: usize) -> usize
     (4 - n % 4) % 4
 }
 
-// The place past an opaque field of at most 128 bytes: its length, its bytes and its padding.
-pub(crate) fn past_opaque(s: &[u8], at: usize) -> Past
-    ensures { λ r. ⌜ r ≡ pastOf (length (now (s .entry))) (bounded 128 (drop at (now (s .entry)))) ⌝ }
+// The place past an opaque field of at most `limit` bytes: its length, its bytes and its padding.
+pub fn past_opaque(s: &[u8], at: usize, limit: usize) -> Past
+    ensures { λ r. ⌜ r ≡ pastOf (length (now (s .entry))) (bounded limit (drop at (now (s .entry)))) ⌝ }
 {
     let room = left(s, at);
     if room < 4 {
         return Past::Malformed;
     }
-    let n = xdr::be32(s, at) as usize;
-    if 128 < n {
+    let n = be32(s, at) as usize;
+    if limit < n {
         return Past::Malformed;
     }
     let p = pad(n);

@@ -10,7 +10,7 @@ use borrow.Author.Tests.{eqb-true}
 use lib.ListN.{length, take, drop, getD}
 use lib.Seq.{drop-cons, drop-length}
 use lib.Dec.{eqb}
-use Rattle.reports.specs.Reader.{sameBytes, zeros}
+use Rattle.xdr.specs.Reader.{sameBytes, zeros}
 
 pub false-true : false ≡ true → ⊥
 false-true e =
@@ -65,7 +65,7 @@ all-passed a b i ha hb so h =
     by true = refl
     by false = refl
 
-pub some-zeros : (m n : ℕ) → take m (zeros (m + n)) ≡ zeros m
+some-zeros : (m n : ℕ) → take m (zeros (m + n)) ≡ zeros m
 some-zeros zero n = refl
 some-zeros (suc m) n = rw suc-add (ap (λ (l : List ℕ). 0 ∷ l) (some-zeros m n))
 

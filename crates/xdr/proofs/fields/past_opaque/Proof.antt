@@ -1,12 +1,12 @@
 -- Rests on the laws of an opaque field.
 use mathlib.Core.Path.{sym}
 use lib.Seq.{length-take-le}
-use Rattle.reports.specs.Reader.{zeros}
-use Rattle.reports.proofs.Opaques.{opaque-short, opaque-large, opaque-cut, opaque-past, opaque-unpadded}
+use Rattle.xdr.specs.Reader.{zeros}
+use Rattle.xdr.proofs.Opaques.{opaque-short, opaque-large, opaque-cut, opaque-past, opaque-unpadded}
 use native.Mathlib.Omega.{arith}
 use borrow.Author.Needs.{needs}
-use Rattle.reports.proofs.fields.past_opaque.Statement.{statement}
-use Rattle.reports.proofs.fields.past_opaque.Tie as tie
+use Rattle.xdr.proofs.fields.past_opaque.Statement.{statement}
+use Rattle.xdr.proofs.fields.past_opaque.Tie as tie
 
 left-requires : tie.Need-left-requires
 left-requires c κs = search needs
@@ -14,7 +14,7 @@ left-requires c κs = search needs
 returns : tie.Need-returns
 returns c =
     let a = c .before .before .before .args in
-    opaque-short (a .s .now) (a .at) (omega arith)
+    opaque-short (a .s .now) (a .at) (a .limit) (omega arith)
 
 be32-requires : tie.Need-be32-requires
 be32-requires c κs = search needs
@@ -25,7 +25,7 @@ cast-n c = search needs
 returns-2 : tie.Need-returns-2
 returns-2 c =
     let a = c .before .before .before .before .before .args in
-    opaque-large (a .s .now) (a .at) (omega arith) (c .before .be32 .ensures) (omega arith)
+    opaque-large (a .s .now) (a .at) (a .limit) (omega arith) (c .before .be32 .ensures) (omega arith)
 
 pad-requires : tie.Need-pad-requires
 pad-requires c κs = search needs
@@ -36,7 +36,7 @@ add-if3 c = search needs
 returns-3 : tie.Need-returns-3
 returns-3 c =
     let a = c .before .before .before .before .before .before .before .args in
-    opaque-cut (a .s .now) (a .at) (omega arith) (c .before .before .before .be32 .ensures) (omega arith) (c .before .pad .ensures) (omega arith)
+    opaque-cut (a .s .now) (a .at) (a .limit) (omega arith) (c .before .before .before .be32 .ensures) (omega arith) (c .before .pad .ensures) (omega arith)
 
 add-from : tie.Need-add-from
 add-from c = search needs
@@ -68,12 +68,12 @@ same-requires c κs = search needs
 returns-4 : tie.Need-returns-4
 returns-4 c =
     let a = c .before .before .before .before .before .before .before .before .before .before .before .args in
-    opaque-past (a .s .now) (a .at) (omega arith) (c .before .before .before .before .before .before .before .be32 .ensures) (omega arith) (c .before .before .before .before .before .pad .ensures) (omega arith) (c .before .same .ensures) (c .if4 .taken)
+    opaque-past (a .s .now) (a .at) (a .limit) (omega arith) (c .before .before .before .before .before .before .before .be32 .ensures) (omega arith) (c .before .before .before .before .before .pad .ensures) (omega arith) (c .before .same .ensures) (c .if4 .taken)
 
 returns-5 : tie.Need-returns-5
 returns-5 c =
     let a = c .before .before .before .before .before .before .before .before .before .before .before .args in
-    opaque-unpadded (a .s .now) (a .at) (omega arith) (c .before .before .before .before .before .before .before .be32 .ensures) (omega arith) (c .before .before .before .before .before .pad .ensures) (omega arith) (c .before .same .ensures) (c .if4 .left)
+    opaque-unpadded (a .s .now) (a .at) (a .limit) (omega arith) (c .before .before .before .before .before .before .before .be32 .ensures) (omega arith) (c .before .before .before .before .before .pad .ensures) (omega arith) (c .before .same .ensures) (c .if4 .left)
 
 pub past-opaque-spec : {M : Type 1} → statement M
 past-opaque-spec =

@@ -9,8 +9,8 @@ use borrow.Author.Tests.{lt-ltb, le-ltb, le-leb, lt-leb, eq-eqb, ne-eqb, ltb-tru
 use lib.ListN.{length, take, drop, length-drop}
 use lib.Seq.{drop-drop}
 use lib.Dec.{ltb, leb, eqb}
 use Rattle.xdr.specs.Be.{beNat}
-use Rattle.reports.specs.Reader.{sameBytes, zeros, padding, Read, Got, Bad, Reader, onward, _>>=_, give, only, number, opaque, boolean, bounded, inTurn}
+use Rattle.xdr.specs.Reader.{sameBytes, zeros, padding, Read, Got, Bad, Reader, onward, _>>=_, give, only, number, opaque, boolean, bounded, inTurn}
 
 -- ---- tests that say the same
 -- fewer bytes than v are left after w of them exactly where there are fewer than w + v

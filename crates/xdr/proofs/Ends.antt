@@ -9,11 +9,11 @@ use borrow.Author.Tests.{leb-true, leb-false}
 use lib.ListN.{length, take, drop, length-drop, drop-of-length-le}
 use lib.Seq.{drop-drop}
 use lib.Dec.{ltb, leb, eqb}
-use Rattle.reports.specs.Reader.{sameBytes, zeros, padding, Read, Got, Bad, Reader, onward, _>>=_, give, only, number, opaque, boolean, bounded, inTurn, counted}
-use Rattle.reports.specs.StatisticsSteps.{pastOf}
-use Rattle.reports.specs.declared.fields.Past.{Past}
-use Rattle.reports.specs.declared.fields.Past.the-variants as past
-use Rattle.reports.proofs.Readers.{by-test}
+use Rattle.xdr.specs.Reader.{sameBytes, zeros, padding, Read, Got, Bad, Reader, onward, _>>=_, give, only, number, opaque, boolean, bounded, inTurn, counted}
+use Rattle.xdr.specs.Past.{pastOf}
+use Rattle.xdr.specs.declared.fields.Past.{Past}
+use Rattle.xdr.specs.declared.fields.Past.the-variants as past
+use Rattle.xdr.proofs.Readers.{by-test}
 
 -- ---- ends
 pub record EndOf (t s : List ℕ) : Type 0 where
