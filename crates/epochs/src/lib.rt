@@ -72,7 +72,7 @@ impl Epochs {
         ensures { λ r. ⌜ r ≡ refused status self ⌝ }
     {
         Answered {
-            status: status,
+            status,
             epochs: self,
         }
     }
@@ -136,7 +136,7 @@ impl Epochs {
                 return self.refused(statuses::NOSPC);
             }
             self.recovery = self.current;
-            self.current = self.current + 1;
+            self.current += 1;
             return self.flag(node);
         }
         self.flag(node)
@@ -204,16 +204,11 @@ impl Epochs {
         if 32 <= node {
             return MayReclaim::NoSuchNode;
         }
-        if self.recovery == 0 {
-            return MayReclaim::No;
-        }
-        if !masks::test(self.members, node) {
-            return MayReclaim::No;
-        }
-        if !masks::test(self.need, node) {
-            return MayReclaim::No;
-        }
-        if masks::subset(self.members, self.enforcing) {
+        if self.recovery != 0
+            && masks::test(self.members, node)
+            && masks::test(self.need, node)
+            && masks::subset(self.members, self.enforcing)
+        {
             return MayReclaim::Yes;
         }
         MayReclaim::No

@@ -26,7 +26,7 @@ use mathlib.Core.List.{List, [], _∷_, _++_, map}
 use Prim.Native.Nat.{ℕ, _-_, _^_}
 use Rattle.extents.specs.declared.Verdict.the-variants.{Accepted, Refused}
 use Rattle.recovery.specs.Calls.{Call, close, endGrace, Answer, said, lend}
-use Rattle.marked_examples.specs.Table.{readWrite, read, invalid, A, C, started, reclaimed, reports, list, offers, byRecord, byLedger, ledgerFrom, bothStart, epochsAfter, epochsAre, seven, empty as none-listed, accepted, computed, printed, MarkedExamples}
+use Rattle.marked_examples.specs.Table.{readWrite, read, invalid, A, C, started, reclaimed, reports, list, offers, byRecord, byLedger, ledgerFrom, bothStart, epochsAfter, epochsAre, seven, empty as none-listed, accepted, MarkedExamples}
 use Rattle.marked_examples.specs.Table as table
 use Rattle.epochs.specs.History.{finish}
 
@@ -94,5 +94,5 @@ k15-then = refl
 
 -- ---- the table
 pub marked-examples : MarkedExamples
-unfolding computed printed
+unfolding table.table
 marked-examples = cc (k1-to-k3, k4-to-k9, record-k10, ledger-k10, record-k11, ledger-k11, record-k12, ledger-k12, record-k13, ledger-k13, k14, k15-first, k15-then)

@@ -1,8 +1,8 @@
--- DEFINITION. The marked examples K1 to K15 of paper 01, as one table: what the definitions answer, and what the paper prints. In this order: layout
--- bodies; a report as bytes; histories of the record, by the record's definitions and by the ledger's; epochs; the table; the claim.
+-- DEFINITION. The marked examples K1 to K15 of paper 01, as one table: what the definitions answer, and beside it what the paper prints. In this order:
+-- layout bodies; a report as bytes; histories of the record, by the record's definitions and by the ledger's; rows; the table; the claim.
 use Prim.Native.Nat.{ℕ, _-_, _^_}
 use mathlib.Core.Path.{_≡_}
-use mathlib.Core.List.{List, [], _∷_, _++_}
+use mathlib.Core.List.{List, [], _∷_, _++_, map}
 use mathlib.Core.Bool.{false}
 use lib.ListN.{replicate}
 use Rattle.xdr.specs.Be.{beBytes}
@@ -83,7 +83,7 @@ ledgerFrom l (x ∷ xs) = judge l x ∷ ledgerFrom (feed l x (judge l x)) xs
 abbrev pub byLedger : List Call → List Answer
 byLedger calls = ledgerFrom (noRows Current) calls
 
--- ---- the table: a row is a verdict; the answers to a history, by the record and by the ledger; or the epochs C and R
+-- ---- rows: a verdict; the answers to a history, by the record and by the ledger; or the epochs C and R
 pub data Row : Type 0 where
   body : Verdict → Row
   history : (byTheRecord byTheLedger : List Answer) → Row
@@ -97,31 +97,6 @@ epochsAfter calls = epochsAre (epoch.after epochs.fresh calls .current) (epoch.a
 
 abbrev pub bothStart : List epoch.Call
 bothStart = epoch.join 0 ∷ epoch.join 1 ∷ epoch.start 0 ∷ epoch.start 1 ∷ []
-
--- what the definitions answer
-unfoldable pub computed : List Row
-computed =
-    -- K1 to K3
-    body (checkBody (0 ∷ 0 ∷ 0 ∷ 0 ∷ []))
-    ∷ body (checkBody (0 ∷ 0 ∷ 0 ∷ []))
-    ∷ body (checkBody (beBytes 4 1025))
-    -- K4 to K9
-    ∷ body (checkBody (beBytes 4 2 ++ readWrite 0 10 ++ readWrite 10 10))
-    ∷ body (checkBody (beBytes 4 2 ++ read 0 100 ++ invalid 0 10))
-    ∷ body (checkBody (beBytes 4 2 ++ invalid 0 10 ++ read 0 100))
-    ∷ body (checkBody (beBytes 4 3 ++ read 0 100 ++ invalid 0 10 ++ read 50 10))
-    ∷ body (checkBody (beBytes 4 1 ++ none (2 ^ 64 - 2) 1))
-    ∷ body (checkBody (beBytes 4 1 ++ none (2 ^ 64 - 1) 1))
-    -- K10 to K13
-    ∷ called (started ++ endGrace ∷ list ∷ [])
-    ∷ called (reclaimed ++ endGrace ∷ list ∷ [])
-    ∷ called (reclaimed ++ reports A ∷ endGrace ∷ list ∷ offers ∷ close 7 1 ∷ offers ∷ [])
-    ∷ called (reclaimed ++ reports C ∷ endGrace ∷ list ∷ [])
-    -- K14, and K15 after each of its two calls
-    ∷ epochsAfter bothStart
-    ∷ epochsAfter (bothStart ++ epoch.finish 0 ∷ [])
-    ∷ epochsAfter (bothStart ++ epoch.finish 0 ∷ epoch.finish 1 ∷ [])
-    ∷ []
 
 -- the list has file 7 with a source, and nothing else; or nothing
 abbrev pub seven : ℕ → Answer
@@ -137,33 +112,56 @@ both given = history given given
 abbrev pub accepted : Answer
 accepted = replied 0 noTotals (beBytes 4 0 ++ beBytes 4 1 ++ replicate 16 0)
 
--- what the paper prints
-unfoldable pub printed : List Row
-printed =
-    -- K1: accepted, 0 extents. K2: 1. K3: 2
-    body (Accepted 0)
-    ∷ body (Refused 1 0)
-    ∷ body (Refused 2 0)
-    -- K4, K5: accepted. K6: 6 at 1. K7: 7 at 2. K8: accepted. K9: 5 at 0
-    ∷ body (Accepted 2)
-    ∷ body (Accepted 2)
-    ∷ body (Refused 6 1)
-    ∷ body (Refused 7 2)
-    ∷ body (Accepted 1)
-    ∷ body (Refused 5 0)
-    -- K10: 7, source 0
-    ∷ both (said 0 ∷ said 0 ∷ said 0 ∷ said 0 ∷ seven 0 ∷ [])
-    -- K11: empty
-    ∷ both (said 0 ∷ said 0 ∷ said 0 ∷ said 0 ∷ said 0 ∷ empty ∷ [])
-    -- K12: 7, source 1; offered only after close
-    ∷ both (said 0 ∷ said 0 ∷ said 0 ∷ said 0 ∷ accepted ∷ said 0 ∷ seven 1 ∷ empty ∷ said 0 ∷ seven 1 ∷ [])
-    -- K13: 7, source 0
-    ∷ both (said 0 ∷ said 0 ∷ said 0 ∷ said 0 ∷ accepted ∷ said 0 ∷ seven 0 ∷ [])
-    -- K14: C = 2, R = 1. K15: R = 1; then R = 0
-    ∷ epochsAre 2 1
-    ∷ epochsAre 2 1
-    ∷ epochsAre 2 0
+-- an example: what the definitions answer, and what the paper prints
+pub data Example : Type 0 where
+  _gives_ : (answer printed : Row) → Example
+
+infix 68 _gives_
+abbrev pub answerOf : Example → Row
+answerOf (a gives b) = a
+
+abbrev pub printedIn : Example → Row
+printedIn (a gives b) = b
+
+-- ---- the table
+unfoldable pub table : List Example
+table =
+    -- K1: four zero bytes
+    body (checkBody (0 ∷ 0 ∷ 0 ∷ 0 ∷ [])) gives body (Accepted 0)
+    -- K2: three bytes
+    ∷ body (checkBody (0 ∷ 0 ∷ 0 ∷ [])) gives body (Refused 1 0)
+    -- K3: count 1,025, nothing more
+    ∷ body (checkBody (beBytes 4 1025)) gives body (Refused 2 0)
+    -- K4: read-write [0,10), [10,20)
+    ∷ body (checkBody (beBytes 4 2 ++ readWrite 0 10 ++ readWrite 10 10)) gives body (Accepted 2)
+    -- K5: read [0,100), invalid [0,10)
+    ∷ body (checkBody (beBytes 4 2 ++ read 0 100 ++ invalid 0 10)) gives body (Accepted 2)
+    -- K6: invalid [0,10), read [0,100)
+    ∷ body (checkBody (beBytes 4 2 ++ invalid 0 10 ++ read 0 100)) gives body (Refused 6 1)
+    -- K7: read [0,100), invalid [0,10), read [50,60)
+    ∷ body (checkBody (beBytes 4 3 ++ read 0 100 ++ invalid 0 10 ++ read 50 10)) gives body (Refused 7 2)
+    -- K8: state 3, offset 2^64 - 2, length 1
+    ∷ body (checkBody (beBytes 4 1 ++ none (2 ^ 64 - 2) 1)) gives body (Accepted 1)
+    -- K9: the same at 2^64 - 1
+    ∷ body (checkBody (beBytes 4 1 ++ none (2 ^ 64 - 1) 1)) gives body (Refused 5 0)
+    -- K10: register 7 (devices A, B), client 1 opens, restart, end; list: 7, source 0
+    ∷ called (started ++ endGrace ∷ list ∷ [])
+    gives both (said 0 ∷ said 0 ∷ said 0 ∷ said 0 ∷ seven 0 ∷ [])
+    -- K11: as K10 with client 1's reclaim before the end; empty
+    ∷ called (reclaimed ++ endGrace ∷ list ∷ [])
+    gives both (said 0 ∷ said 0 ∷ said 0 ∷ said 0 ∷ said 0 ∷ empty ∷ [])
+    -- K12: as K11, and it reports A with status 5 in grace; 7, source 1; offered only after close
+    ∷ called (reclaimed ++ reports A ∷ endGrace ∷ list ∷ offers ∷ close 7 1 ∷ offers ∷ [])
+    gives both (said 0 ∷ said 0 ∷ said 0 ∷ said 0 ∷ accepted ∷ said 0 ∷ seven 1 ∷ empty ∷ said 0 ∷ seven 1 ∷ [])
+    -- K13: as K11, and it reports a device C in grace; 7, source 0
+    ∷ called (reclaimed ++ reports C ∷ endGrace ∷ list ∷ [])
+    gives both (said 0 ∷ said 0 ∷ said 0 ∷ said 0 ∷ accepted ∷ said 0 ∷ seven 0 ∷ [])
+    -- K14: nodes 0, 1 join; 0 starts, 1 starts; C = 2, R = 1
+    ∷ epochsAfter bothStart gives epochsAre 2 1
+    -- K15: then 0 finishes; 1 finishes; R = 1; then R = 0
+    ∷ epochsAfter (bothStart ++ epoch.finish 0 ∷ []) gives epochsAre 2 1
+    ∷ epochsAfter (bothStart ++ epoch.finish 0 ∷ epoch.finish 1 ∷ []) gives epochsAre 2 0
     ∷ []
 
 abbrev pub MarkedExamples : Type 0
-MarkedExamples = computed ≡ printed
+MarkedExamples = map answerOf table ≡ map printedIn table
