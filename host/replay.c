@@ -25,10 +25,7 @@ enum {
     GUARD = 64, /* bytes before and after each lent buffer; a multiple of every alignment */
     REPLY_REFUSED = 4,
     REPLY_ACCEPTED = 24,
-    NO_ROOM = 28,
-    MAX_EXTENTS = 1024,
-    EXTENT = 44,
-    COUNT = 4
+    NO_ROOM = 28
 };
 
 enum { EXIT_TROUBLE = 1, EXIT_USAGE = 2, EXIT_BROKEN = 3 };
@@ -457,29 +454,21 @@ static bool run_listing(const struct command *c, const struct word *argument)
     return true;
 }
 
-/* The big-endian number of `width` bytes at `at`. */
-static uint64_t big_endian(const uint8_t *at, size_t width)
+/* Prints the extent at place i of a body that was accepted with n, as the library hands it out. */
+static void print_extent(struct lent body, uint64_t n, uint64_t i)
 {
-    uint64_t n = 0;
-    for (size_t i = 0; i < width; i++)
-        n = n << 8 | at[i];
-    return n;
-}
-
-/* An extent: device id (16), file offset (8), length (8), storage offset (8), state (4). */
-static void print_extent(const uint8_t *extent)
-{
-    printf(" %" PRIu64 ":%" PRIu64, big_endian(extent + 16, 8), big_endian(extent + 24, 8));
-    printf(":%" PRIu64 ":%" PRIu64, big_endian(extent + 32, 8), big_endian(extent + 40, 4));
+    uint64_t device, offset, length, storage;
+    uint32_t state;
+    if (sc_layout_extent(bytes_of(body), body.len, n, i, &device, &offset, &length, &storage, &state) != 0)
+        broken("a place below the count of a layout body gives no extent");
+    printf(" %" PRIu64 ":%" PRIu64 ":%" PRIu64 ":%" PRIu32, offset, length, storage, state);
 }
 
 static void print_body(struct lent body, uint64_t n)
 {
-    if (n > MAX_EXTENTS || body.len != COUNT + EXTENT * (size_t)n)
-        broken("a layout body is accepted with a count that is not its own");
     printf("extents %" PRIu64, n);
-    for (size_t i = 0; i < n; i++)
-        print_extent(bytes_of(body) + COUNT + EXTENT * i);
+    for (uint64_t i = 0; i < n; i++)
+        print_extent(body, n, i);
     putchar('\n');
 }
 

@@ -18,7 +18,7 @@ extern "C" {
 
 /* ---- statuses, by NFS's own names (RFC 8881, 15.1) ----
  *
- * What a call answers where it refuses; 0 is success. The refusals of layout bodies are rules of their own, from 1 to 8.
+ * What a call answers where it refuses; 0 is success. The refusals of layout bodies are rules of their own, from 1 to 9.
  */
 #define SC_NOENT UINT32_C(2)                  /* the node is no member of the cluster */
 #define SC_EXIST UINT32_C(17)                 /* the file is registered, or the node a member, already */
@@ -42,10 +42,16 @@ extern "C" {
  *   2  n above 1,024                                         6  out of order
  *   3  a state above 3                                       7  an overlap with an earlier extent
  *   4  length 0                                              8  (writing) the buffer is too short
+ *                                                            9  (an extent by place) a place at or past n
  */
 
 /* Checks a body. 0: accepted, and *place is n; else the refusal, and *place is the extent's place (0 for 1 and 2). */
 uint32_t sc_layout_check(const uint8_t *body, size_t body_len, uint64_t *place);
+
+/* The extent at place i of a body that sc_layout_check accepted with n extents, in constant time. 0: *device is where in the body the 16 bytes of the
+ * device id begin, and the others are the extent's numbers. 9: i is at or past n, or past what the body has room for, and all five are 0. */
+uint32_t sc_layout_extent(const uint8_t *body, size_t body_len, uint64_t n, uint64_t i, uint64_t *device, uint64_t *offset, uint64_t *length,
+                          uint64_t *storage, uint32_t *state);
 
 /* Writes a list of extents, lent as columns (16 bytes a device id; one number each otherwise), as a body at the start of out.
  * 0: written, and *place is how many extents; the first 4 + 44n bytes of out are the body, and the rest is as it was.

@@ -1,6 +1,6 @@
-/* The layout check and the layout writer through the C exports.
+/* The layout check, the extents by place and the layout writer through the C exports.
  * Usage: layout FILE: each line of FILE is a body in hex, its refusal (0 accepted) and the place (or how many extents).
- * Every accepted body is also written back from its extents, into a buffer with guard bytes; and is refused without its last byte. */
+ * Every accepted body is also read place by place, written back from its extents, into a buffer with guard bytes, and refused without its last byte. */
 #include "stellcircle.h"
 #include <stdio.h>
 #include <stdlib.h>
@@ -41,6 +41,28 @@ static uint64_t number(const uint8_t *s, int width)
     for (int i = 0; i < width; i++)
         x = x << 8 | s[i];
     return x;
+}
+
+/* Holds the extent at place i to its 44 bytes, or to 9 and zeros where it is at or past n. */
+static void read_place(const uint8_t *body, size_t len, uint64_t n, uint64_t i, unsigned long line)
+{
+    uint64_t device = 77, offset = 77, length = 77, storage = 77;
+    uint32_t state = 77, rule = sc_layout_extent(body, len, n, i, &device, &offset, &length, &storage, &state);
+    if (i >= n) {
+        expect(rule == 9 && (device | offset | length | storage | state) == 0, line, "a place past the count is not 9 and zeros");
+        return;
+    }
+    const uint8_t *e = body + 4 + 44 * i;
+    expect(rule == 0 && body + device == e, line, "an extent is not where it lies");
+    expect(offset == number(e + 16, 8) && length == number(e + 24, 8), line, "an extent's offset or length is another");
+    expect(storage == number(e + 32, 8) && state == number(e + 40, 4), line, "an extent's storage offset or state is another");
+}
+
+static void read_places(const uint8_t *body, size_t len, uint64_t n, unsigned long line)
+{
+    for (uint64_t i = 0; i <= n; i++)
+        read_place(body, len, n, i, line);
+    read_place(body, len, n, UINT64_MAX, line);
 }
 
 /* Writes the n extents of an accepted body back, with room bytes of buffer, and holds the buffer to what it must be. */
@@ -84,6 +106,7 @@ static void check(const uint8_t *body, size_t len, uint32_t rule, uint64_t place
     checked++;
     if (rule == 0) {
         accepted++;
+        read_places(body, len, place, line);
         write_back(body, len, (size_t)place, len + 100, line);
         write_back(body, len, (size_t)place, len, line);
         write_back(body, len, (size_t)place, len - 1, line);

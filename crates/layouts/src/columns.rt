@@ -1,13 +1,13 @@
 // Writing a layout body (RFC 8154) from a list of extents that is lent as columns: 16 bytes a device id, and a number each for offset, length,
 // storage offset and state. Paper 01, "Layout bodies": uneven columns get 1 before all else; then rules 2 to 7, then 8.
 // In this order: rule 1; rules 3 to 7; the stores of one extent, and of all; the writer.
+use crate::fields;
 use extents::Verdict;
 ghost use mathlib.Core.Path.{_≡_};
-ghost use mathlib.Core.List.{[], _++_};
+ghost use mathlib.Core.List.{[]};
 ghost use Prim.Native.Nat.{_+_, _*_, _<_, _≤_};
-ghost use lib.ListN.{length, take, drop, getD};
+ghost use lib.ListN.{length};
 ghost use lib.Seq.{sets};
-ghost use Rattle.xdr.specs.Be.{beBytes};
 ghost use Rattle.extents.specs.Extents.{verdict};
 ghost use Rattle.layouts.specs.Layout.{extentBytes, extentsBytes};
 ghost use Rattle.layouts.specs.Columns.{even, Even, rowOf, columnList, writeColumns, writtenBy};
@@ -51,34 +51,6 @@ fn scan(devs: &[u8], offs: &[u64], lens: &[u64], stos: &[u64], sts: &[u32]) -> V
     Verdict::Accepted(n)
 }
 
-// Stores a device id, as two numbers of 8 bytes.
-fn put_device(d: &mut [u8], at: usize, devs: &[u8], from: usize)
-    requires { ⌜ (at + 16 ≤ length (now d)) × (from + 16 ≤ length (now devs)) ⌝ }
-    ensures { λ _. ⌜ now (d .exit) ≡ sets (now (d .entry)) at (take 16 (drop from (now (devs .entry)))) ⌝ }
-{
-    xdr::copy8(d, at, devs, from);
-    xdr::copy8(d, at + 8, devs, from + 8);
-}
-
-// Stores the four numbers of row i. Each is read right before its store: the compiler joins such stores, and not several in a row.
-fn put_numbers(
-    d: &mut [u8],
-    at: usize,
-    offs: &[u64],
-    lens: &[u64],
-    stos: &[u64],
-    sts: &[u32],
-    i: usize,
-)
-    requires { ⌜ (at + 28 ≤ length (now d)) × (i < length (now offs)) × (i < length (now lens)) × (i < length (now stos)) × (i < length (now sts)) ⌝ }
-    ensures { λ _. ⌜ now (d .exit) ≡ sets (now (d .entry)) at (beBytes 8 (getD (now (offs .entry)) i 0) ++ (beBytes 8 (getD (now (lens .entry)) i 0) ++ (beBytes 8 (getD (now (stos .entry)) i 0) ++ beBytes 4 (getD (now (sts .entry)) i 0)))) ⌝ }
-{
-    xdr::put64(d, at, offs[i]);
-    xdr::put64(d, at + 8, lens[i]);
-    xdr::put64(d, at + 16, stos[i]);
-    xdr::put32(d, at + 24, sts[i]);
-}
-
 // Stores the extent of row i.
 fn put_row(
     d: &mut [u8],
@@ -94,8 +66,8 @@ fn put_row(
     requires { ⌜ Even (now devs) (now offs) (now lens) (now stos) (now sts) ⌝ }
     ensures { λ _. ⌜ now (d .exit) ≡ sets (now (d .entry)) at (extentBytes (rowOf (now (devs .entry)) (now (offs .entry)) (now (lens .entry)) (now (stos .entry)) (now (sts .entry)) i)) ⌝ }
 {
-    put_device(d, at, devs, 16 * i);
-    put_numbers(d, at + 16, offs, lens, stos, sts, i);
+    fields::put_device(d, at, devs, 16 * i);
+    fields::put_numbers(d, at + 16, offs, lens, stos, sts, i);
 }
 
 // Stores the extents of all rows, after the count.

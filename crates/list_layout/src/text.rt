@@ -1,11 +1,13 @@
 // The text that list_layout prints, into a lent buffer. Paper 01, "The program prints".
 // In this order: bytes; a number with the byte after it; an extent's line; all lines; the refusal; the whole text.
+use extents::Extent;
 use extents::Verdict;
 ghost use mathlib.Core.Path.{_≡_};
 ghost use Prim.Native.Nat.{_+_, _*_, _≤_};
-ghost use lib.ListN.{length, drop};
+ghost use lib.ListN.{length};
 ghost use Rattle.io.specs.Counts.{Counts};
-ghost use Rattle.layouts.specs.Layout.{extentOf, extentsOf};
+ghost use Rattle.extents.specs.declared.Verdict.the-variants.{Accepted};
+ghost use Rattle.layouts.specs.Layout.{extentsOf, checkBody};
 ghost use Rattle.list_layout.specs.Text.{decimal, numberText, lineOf, linesOf, acceptedText, refusedText, Put, Listing};
 
 // Stores the bytes of `src` from `at` on, and answers where they end.
@@ -45,26 +47,27 @@ fn put_number(d: &mut [u8], at: usize, x: u64, after: u8) -> usize
     end + 1
 }
 
-// Stores the line of the extent whose 44 bytes stand at `from`.
-fn put_line(d: &mut [u8], at: usize, s: &[u8], from: usize) -> usize
-    requires { ⌜ (at + 84 ≤ length (now d)) × (from + 44 ≤ length (now s)) ⌝ }
-    ensures { λ r. ⌜ Put (now (d .entry)) at (lineOf (extentOf (drop from (now (s .entry))))) (now (d .exit)) r ⌝ }
+// Stores the line of an extent.
+fn put_line(d: &mut [u8], at: usize, e: Extent) -> usize
+    requires { ⌜ at + 84 ≤ length (now d) ⌝ }
+    ensures { λ r. ⌜ Put (now (d .entry)) at (lineOf e) (now (d .exit)) r ⌝ }
 {
-    let a = put_number(d, at, xdr::be64(s, from + 16), 32);
-    let b = put_number(d, a, xdr::be64(s, from + 24), 32);
-    let c = put_number(d, b, xdr::be64(s, from + 32), 32);
-    put_number(d, c, xdr::be32(s, from + 40) as u64, 10)
+    let a = put_number(d, at, e.offset, 32);
+    let b = put_number(d, a, e.len, 32);
+    let c = put_number(d, b, e.storage, 32);
+    put_number(d, c, e.state as u64, 10)
 }
 
-// Stores the lines of the n extents of a body.
+// Stores the lines of the n extents of an accepted body.
 fn put_lines(d: &mut [u8], at: usize, s: &[u8], n: usize) -> usize
-    requires { ⌜ (at + 84 * n ≤ length (now d)) × (length (now s) ≡ 4 + 44 * n) ⌝ }
+    requires { ⌜ (at + 84 * n ≤ length (now d)) × (checkBody (now s) ≡ Accepted n) ⌝ }
     ensures { λ r. ⌜ Put (now (d .entry)) at (linesOf (extentsOf (now (s .entry)) n)) (now (d .exit)) r ⌝ }
 {
     let mut to = at;
     let mut i = 0;
     while i < n {
-        to = put_line(d, to, s, 4 + 44 * i);
+        let got = layouts::layout::extent_in(s, 0, n, i);
+        to = put_line(d, to, got.extent);
         i += 1;
     }
     to
@@ -72,7 +75,7 @@ fn put_lines(d: &mut [u8], at: usize, s: &[u8], n: usize) -> usize
 
 // Stores the text of an accepted body of n extents.
 fn put_accepted(d: &mut [u8], s: &[u8], n: usize) -> usize
-    requires { ⌜ (87040 ≤ length (now d)) × (length (now s) ≡ 4 + 44 * n) × (n ≤ 1024) ⌝ }
+    requires { ⌜ (87040 ≤ length (now d)) × (checkBody (now s) ≡ Accepted n) × (n ≤ 1024) ⌝ }
     ensures { λ r. ⌜ Put (now (d .entry)) 0 (acceptedText n (extentsOf (now (s .entry)) n)) (now (d .exit)) r ⌝ }
 {
     let a = put_bytes(d, 0, b"extents ");

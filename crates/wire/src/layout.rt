@@ -1,10 +1,10 @@
-// For C: the check and the writer of a layout body, from crate `layouts`.
-// In this order: the two numbers of an answer; the check; the writer.
+// For C: the check of a layout body, its extents by place, and the writer, from crate `layouts`.
+// In this order: the two numbers of an answer; the check; the extent at a place; the writer.
 use extents::Verdict;
 ghost use mathlib.Core.Path.{_≡_};
 ghost use lib.ListN.{length};
 ghost use Rattle.extents.specs.Extents.{numberOf, placeOf};
-ghost use Rattle.layouts.specs.Layout.{checkBody};
+ghost use Rattle.layouts.specs.Layout.{checkBody, extentIn, GaveC};
 ghost use Rattle.layouts.specs.Columns.{columnList, writeColumns, WroteC};
 
 // 0, or the number of the rule that refuses; through `place` how many extents there are, or the place of the refused one.
@@ -29,6 +29,31 @@ pub extern "C" fn sc_layout_check(body: &[u8], place: &mut u64) -> u32
     ensures { λ r. ⌜ (r ≡ numberOf (checkBody (now (body .entry)))) × (now (place .exit) ≡ placeOf (checkBody (now (body .entry)))) ⌝ }
 {
     numbers(layouts::layout::check(body), place)
+}
+
+// The extent at place i of a body of which the check counted n, in constant time: 0, where in the body its device id stands, and its numbers. At or
+// past n, or past what the body has room for: 9, and zeros.
+#[no_mangle]
+pub extern "C" fn sc_layout_extent(
+    body: &[u8],
+    n: u64,
+    i: u64,
+    device: &mut u64,
+    offset: &mut u64,
+    len: &mut u64,
+    storage: &mut u64,
+    state: &mut u32,
+) -> u32
+    ensures { λ r. ⌜ GaveC (extentIn (now (body .entry)) 0 n i) r (now (device .exit)) (now (offset .exit)) (now (len .exit)) (now (storage .exit)) (now (state .exit)) ⌝ }
+{
+    let got = layouts::layout::extent_in(body, 0, n as usize, i as usize);
+    let e = got.extent;
+    *device = got.at as u64;
+    *offset = e.offset;
+    *len = e.len;
+    *storage = e.storage;
+    *state = e.state;
+    got.rule
 }
 
 // The writer: 0, or the number of the rule that refuses; through `place` how many extents were written, or the place of the refused one.

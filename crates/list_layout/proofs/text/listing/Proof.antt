@@ -38,8 +38,8 @@ enum-known-n c = search needs
 put-accepted-requires : tie.Need-put-accepted-requires
 put-accepted-requires c κs =
     let a = c .before .before .before .before .before .before .before .before .before .args in
-    let w = accepted (a .s .now) (c .before .before .n .given .0 .0) (sym (c .before .before .before .before .check .ensures) ∙ c .before .before .n .given .1) in
-    (omega arith, w .long, w .few)
+    let v = sym (c .before .before .before .before .check .ensures) ∙ c .before .before .n .given .1 in
+    (omega arith, v, accepted (a .s .now) (c .before .before .n .given .0 .0) v .few)
 
 enum-known-k : tie.Need-enum-known-k
 enum-known-k c = search needs

@@ -19,7 +19,7 @@ put-lines-requires : tie.Need-put-lines-requires
 put-lines-requires c κs =
     let p = c .before .before .before .before .before .before .before .put-bytes .ensures in
     let q = c .before .before .before .put-number .ensures in
-    (omega (arith, p .ends, kept p, number-ends (c .before .before .before .before .before .before .before .before .before .before .before .before .args .n) 10 q, kept q), omega arith)
+    (omega (arith, p .ends, kept p, number-ends (c .before .before .before .before .before .before .before .before .before .before .before .before .args .n) 10 q, kept q), c .before .before .before .before .before .before .before .before .before .before .before .before .pre .1)
 
 same-length : tie.Need-same-length
 same-length c = search needs

@@ -1,17 +1,17 @@
 -- put_lines stores one more line at each turn.
 use native.Mathlib.Nat.{zero-add}
-use Rattle.layouts.specs.Layout.{extentOf}
-use lib.ListN.{drop}
 use native.Mathlib.Numerals.{add-one}
 use Rattle.list_layout.proofs.Texts.{nothing, kept, then, line-ends, line-more}
 use Rattle.list_layout.specs.Text.{linesOf, Put}
+use Rattle.layouts.proofs.Bodies.{given}
 use Rattle.layouts.proofs.Stores.{listFrom-more}
 use Rattle.layouts.specs.Layout.{extentAt}
 use Rattle.extents.specs.Extents.{listFrom}
 use lib.ListN.{length}
-use mathlib.Core.Path.{_≡_}
+use mathlib.Core.Path.{_≡_, ap, _∙_}
 use Prim.Native.Nat.{_+_, _-_, _*_, _≤_}
 use native.Mathlib.Omega.{arith}
+use borrow.Author.Needs.{needs}
 use Rattle.list_layout.proofs.text.put_lines.Statement.{statement}
 use Rattle.list_layout.proofs.text.put_lines.Tie as tie
 
@@ -25,14 +25,11 @@ loop-holds : tie.Need-loop-holds Inv-loop μ-loop
 unfolding listFrom linesOf
 loop-holds c = let a = c .before .before .args in (omega arith, omega arith, nothing (a .d .now) (a .at))
 
-mul-put-line : tie.Need-mul-put-line Inv-loop μ-loop
-mul-put-line c = omega arith
-
-add-put-line : tie.Need-add-put-line Inv-loop μ-loop
-add-put-line c = omega arith
+extent-in-requires : tie.Need-extent-in-requires Inv-loop μ-loop
+extent-in-requires c κs = search needs
 
 put-line-requires : tie.Need-put-line-requires Inv-loop μ-loop
-put-line-requires c κs = (omega (arith, kept (c .before .before .loop .inv .2)), omega arith)
+put-line-requires c κs = omega (arith, kept (c .before .before .before .loop .inv .2))
 
 add-i : tie.Need-add-i Inv-loop μ-loop
 add-i c = omega arith
@@ -42,13 +39,14 @@ loop-less c = omega arith
 
 loop-again : tie.Need-loop-again Inv-loop μ-loop
 loop-again c =
-    let a = c .before .before .before .before .before .before .before .before .args in
-    let m = c .before .before .before .before .before .loop in
+    let m = c .before .before .before .before .before .before .loop in
+    let s = c .before .before .before .before .before .before .before .before .before .args .s .now in
+    let g = c .before .before .before .before .extent-in in
     let p = c .before .before .put-line .ensures in
-    let s = a .s .now in (
+    let e : g .result .extent ≡ extentAt s (m .i) = ap (λ x. x .extent) (g .ensures ∙ given s (c .before .before .before .before .before .before .before .before .before .args .n) (m .i) (c .before .before .before .before .before .before .before .before .before .pre .1) (c .before .before .before .before .before .loop-test .taken)) in (
       omega arith,
-      omega (arith, line-ends (extentOf (drop (4 + 44 * m .i) s)) p),
-      rw (add-one, listFrom-more (extentAt s) (m .i) 0, line-more (listFrom (extentAt s) (m .i) 0) (extentAt s (0 + m .i)), zero-add) (then (m .inv .2) p),
+      omega (arith, line-ends (g .result .extent) p),
+      rw (add-one, listFrom-more (extentAt s) (m .i) 0, line-more (listFrom (extentAt s) (m .i) 0) (extentAt s (0 + m .i)), zero-add, ← e) (then (m .inv .2) p),
     )
 
 same-length : tie.Need-same-length Inv-loop μ-loop
@@ -67,8 +65,7 @@ put-lines-spec =
     Inv-loop
     μ-loop
     loop-holds
-    mul-put-line
-    add-put-line
+    extent-in-requires
     put-line-requires
     add-i
     loop-less
