@@ -1,6 +1,7 @@
 # make run     lists a sample layout body and replays the incident
 # make test    every test, and last the gate: rt ci
 # make bench   the benchmarks, beside plain C in the same process; no part of the gate
+# make bench-counts  the same jobs counted in instructions, by valgrind
 # make fuzz    a long coverage-guided run of the wire checks (SECONDS=3600)
 # make install the header, the archives, list_layout, replay, the man pages and a pkg-config file below PREFIX
 # make fmt     formats the Rattle files
@@ -11,7 +12,7 @@ SECONDS = 3600
 LIBRARIES = wire epochs capi
 
 .DEFAULT_GOAL := test
-.PHONY: setup libraries run test bench fuzz install install-only fmt clean
+.PHONY: setup libraries run test bench bench-counts fuzz install install-only fmt clean
 
 setup:
 	@tests/setup.sh
@@ -30,6 +31,10 @@ test: libraries
 
 bench: libraries
 	@bench/run.sh
+
+bench-counts: libraries
+	@bench/build.sh
+	@bench/counts.py
 
 fuzz: libraries
 	@tests/fuzz/run.sh $(SECONDS)

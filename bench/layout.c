@@ -1,56 +1,57 @@
-/* The layout check and the writer, beside plain C by gcc -O2 and clang -O2, in one process and in turn. */
+/* The layout check and the writer. */
 #include "bench.h"
+#include "plain.h"
 #include "stellcircle.h"
-#include <string.h>
 
-#define PLAIN(P) \
-    uint32_t P##layout_check(const uint8_t *, size_t, uint64_t *); \
-    uint32_t P##layout_write(const uint8_t *, size_t, const uint64_t *, size_t, const uint64_t *, size_t, const uint64_t *, size_t, const uint32_t *, size_t, uint8_t *, size_t, uint64_t *);
 PLAIN(gcc_)
 PLAIN(clang_)
 
-enum { MOST = 1024 };
-static uint8_t devs[16 * MOST], body[4 + 44 * MOST], out[4 + 44 * MOST];
-static uint64_t offs[MOST], lens[MOST], stos[MOST];
-static uint32_t sts[MOST];
+enum { MOST = 1024, CALLS = 20 };
+static uint8_t devices[16 * MOST], body[4 + 44 * MOST], out[4 + 44 * MOST];
+static uint64_t offsets[MOST], lengths[MOST], storages[MOST];
+static uint32_t states[MOST];
 static size_t n;
-static volatile uint64_t sink;
 
-#define JOBS(P) \
-    static void P##check(void) { uint64_t p; sink += P##layout_check(body, 4 + 44 * n, &p) + p; } \
-    static void P##write(void) { uint64_t p; sink += P##layout_write(devs, 16 * n, offs, n, lens, n, stos, n, sts, n, out, 4 + 44 * n, &p) + p; }
-JOBS(sc_)
-JOBS(gcc_)
-JOBS(clang_)
-
-static int fill(void)
+/* A body of so many extents, one after the other, of any states. */
+static void fill(void)
 {
+    uint64_t place;
+    n = (size_t)bench_argument;
     for (size_t i = 0; i < n; i++) {
-        memset(devs + 16 * i, (int)(i % 7), 16);
-        offs[i] = 4096 * i;
-        lens[i] = 4096;
-        stos[i] = 1 << 20;
-        sts[i] = (uint32_t)i * 2654435761u >> 30;
+        memset(devices + 16 * i, (int)(i % 7), 16);
+        offsets[i] = 4096 * i;
+        lengths[i] = 4096;
+        storages[i] = 1 << 20;
+        states[i] = (uint32_t)i * 2654435761u >> 30;
     }
-    uint64_t p;
-    return sc_layout_write(devs, 16 * n, offs, n, lens, n, stos, n, sts, n, body, 4 + 44 * n, &p) == 0;
+    if (sc_layout_write(devices, 16 * n, offsets, n, lengths, n, storages, n, states, n, body, 4 + 44 * n, &place) != 0)
+        exit(1);
 }
 
-int main(void)
-{
-    void (*const checks[])(void) = {sc_check, gcc_check, clang_check}, (*const writes[])(void) = {sc_write, gcc_write, clang_write};
-    double best[3];
-    char name[64];
-    bench_head();
-    for (n = 256; n <= MOST; n *= 2) {
-        if (!fill())
-            return 1;
-        bench_run(3, checks, 400, 20, best);
-        snprintf(name, sizeof name, "layout check, %zu extents", n);
-        bench_row(name, best);
-        bench_run(3, writes, 400, 20, best);
-        snprintf(name, sizeof name, "layout write, %zu extents", n);
-        bench_row(name, best);
+#define JOBS(P, FORM) \
+    static void P##check(void) \
+    { \
+        uint64_t place; \
+        for (int i = 0; i < CALLS; i++) \
+            bench_sum[FORM] += P##layout_check(body, 4 + 44 * n, &place) + place; \
+    } \
+    static void P##write(void) \
+    { \
+        uint64_t place; \
+        for (int i = 0; i < CALLS; i++) \
+            bench_sum[FORM] += P##layout_write(devices, 16 * n, offsets, n, lengths, n, storages, n, states, n, out, 4 + 44 * n, &place) + place; \
     }
-    return 0;
+JOBS(sc_, 0)
+JOBS(gcc_, 1)
+JOBS(clang_, 2)
+
+#define SIZE(N) \
+    {"layout check, " #N " extents", CALLS, 0, N, {fill, fill, fill}, BENCH_FORMS(check)}, \
+    {"layout write, " #N " extents", CALLS, 0, N, {fill, fill, fill}, BENCH_FORMS(write)}
+static const struct bench_job jobs[] = {SIZE(256), SIZE(512), SIZE(1024)};
+
+int main(int argc, char **argv)
+{
+    const struct bench b = {jobs, sizeof jobs / sizeof jobs[0], 400, NULL, NULL};
+    return bench_main(&b, argc, argv);
 }

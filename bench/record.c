@@ -1,18 +1,15 @@
-/* The calls on a full record (64 files, 8 intents each), beside plain C that works in place by gcc -O2 and clang -O2, in one process and in turn: the
- * least time of a call. First with files and clients in random order, which no branch predictor learns, then the calls on one file with both in
- * rising order, which it does. Ends with 1 where an answer differs, or where a call on one file takes more than 1.5 times gcc's in either order, or 1.2
- * times for a LAYOUTRETURN with statistics. How a LAYOUTRETURN grows with its report is limited for the record by value, in by_value.py.
- * `record JOB FORM` runs a job of the first table by one version alone (0 proved, 1 gcc, 2 clang), for a profiler. */
+/* The calls on a full record (64 files, 8 intents each): first with files and clients in random order, which no branch predictor learns, then the calls
+ * that have a limit with both in rising order, which it does. A call on one file may take 1.5 times gcc's time in either order, a LAYOUTRETURN with statistics
+ * 1.2 times; the others have no limit. */
 #include "bench.h"
-#include "record_plain.h"
+#include "bytes.h"
+#include "plain.h"
 #include "stellcircle.h"
-#include <stdlib.h>
-#include <string.h>
 
-RECORD_PLAIN(gcc_)
-RECORD_PLAIN(clang_)
+PLAIN(gcc_)
+PLAIN(clang_)
 
-enum { FILES = 64, MANY = 1024, ROUNDS = 500 };
+enum { FILES = 64, MANY = 1024 };
 static uint8_t mirrors[64], one[52 + 4096], twenty[52 + 4096], live[52 + 4096], four[52 + 4096], eight[52 + 4096], bulk[16], reply[24], sources[FILES];
 static size_t one_len, twenty_len, live_len, four_len, eight_len;
 static uint64_t files[FILES], count, bytes_read[4], bytes_written[4];
@@ -48,27 +45,25 @@ static void shuffle(void)
 
 #define R struct sc_record
 #define P(N) sc_##N
+#define FORM 0
 #include "record_jobs.h"
 #undef R
 #undef P
+#undef FORM
 #define R struct plain_record
 #define P(N) gcc_##N
+#define FORM 1
 #include "record_jobs.h"
 #undef P
+#undef FORM
 #define P(N) clang_##N
+#define FORM 2
 #include "record_jobs.h"
 #undef P
+#undef FORM
 
-/* a call on one file goes in place, and has a limit; the others may copy the record */
-struct job {
-    const char *what;
-    int calls;
-    double limit;
-    void (*prepare[3])(void), (*run[3])(void);
-};
-
-#define BOTH(PREPARE, RUN) {sc_##PREPARE, gcc_##PREPARE, clang_##PREPARE}, {sc_##RUN, gcc_##RUN, clang_##RUN}
-static const struct job jobs[] = {
+#define BOTH(PREPARE, RUN) 0, BENCH_FORMS(PREPARE), BENCH_FORMS(RUN)
+static const struct bench_job jobs[] = {
     {"open, held already", MANY, 1.5, BOTH(full, open_held)},
     {"open, 8 are held", MANY, 1.5, BOTH(full, open_ninth)},
     {"close, and open again", 2 * MANY, 1.5, BOTH(full, close_open)},
@@ -87,13 +82,6 @@ static const struct job jobs[] = {
     {"resilver list, 64 files", FILES, 0, BOTH(lost, resilver)},
     {"offered for copying, 64 files", FILES, 0, BOTH(lost, offered)},
 };
-enum { JOBS = sizeof jobs / sizeof jobs[0], ONE = 5, TWENTY = 6 };
-
-static void put32(uint8_t *p, uint32_t x)
-{
-    for (int i = 0; i < 4; i++)
-        p[i] = (uint8_t)(x >> (24 - 8 * i));
-}
 
 /* an opaque field */
 static uint8_t *opaque(uint8_t *s, uint32_t len)
@@ -148,67 +136,9 @@ static void set_back(int form)
         memcpy(&clang_held, &clang_state, sizeof clang_held);
 }
 
-static void measure(const struct job *j, double *best)
-{
-    for (int form = 0; form < 3; form++) {
-        best[form] = 1e18;
-        j->prepare[form]();
-    }
-    for (int round = 0; round < ROUNDS; round++) {
-        shuffle();
-        for (int form = 0; form < 3; form++) {
-            set_back(form);
-            double t = bench_now();
-            j->run[form]();
-            t = (bench_now() - t) / j->calls;
-            if (t < best[form])
-                best[form] = t;
-        }
-    }
-}
-
-/* Runs the jobs, or those on one file alone, and prints a row for each; 1 where an answer differs or a limit is passed. */
-static int table(double best[][3], int one_file_alone)
-{
-    int bad = 0;
-    bench_head();
-    for (int k = 0; k < JOBS; k++) {
-        if (one_file_alone && jobs[k].limit == 0)
-            continue;
-        sc_sum = gcc_sum = clang_sum = 0;
-        measure(&jobs[k], best[k]);
-        bench_row(jobs[k].what, best[k]);
-        if (sc_sum != gcc_sum || sc_sum != clang_sum) {
-            printf("  the answers differ\n");
-            bad = 1;
-        }
-        if (jobs[k].limit != 0 && best[k][0] > jobs[k].limit * best[k][1]) {
-            printf("  more than %.1f times gcc -O2\n", jobs[k].limit);
-            bad = 1;
-        }
-    }
-    printf("LAYOUTRETURN with 20 error records beside one with 1: %.2f; in plain C %.2f\n", best[TWENTY][0] / best[ONE][0], best[TWENTY][1] / best[ONE][1]);
-    return bad;
-}
-
-/* one version of a job, again and again */
-static int profile(int job, int form)
-{
-    if (job < 0 || job >= JOBS || form < 0 || form > 2)
-        return 1;
-    jobs[job].prepare[form]();
-    for (int round = 0; round < 20; round++) {
-        shuffle();
-        set_back(form);
-        jobs[job].run[form]();
-    }
-    printf("%s: %d calls\n", jobs[job].what, 20 * jobs[job].calls);
-    return 0;
-}
-
 int main(int argc, char **argv)
 {
-    double best[JOBS][3];
+    const struct bench b = {jobs, sizeof jobs / sizeof jobs[0], 500, shuffle, set_back};
     for (int i = 0; i < 4; i++)
         memset(mirrors + 16 * i, 0xaa + 0x11 * i, 16);
     one_len = request(one, 1, 0, 1, 1);
@@ -219,17 +149,12 @@ int main(int argc, char **argv)
     put32(bulk + 4, 4);
     put32(bulk + 8, 2);
     put32(bulk + 12, 2);
-    if (argc == 3)
-        return profile(atoi(argv[1]), atoi(argv[2]));
     if (four_len != 52 + 2728 || eight_len > 52 + 4096)
         return 1;
-    puts("files and clients in random order");
-    int bad = table(best, 0);
+    int bad = bench_main(&b, argc, argv);
     rising = 1;
-    puts("files and clients in rising order");
-    bad |= table(best, 1);
-    printf("a record: %zu bytes; in plain C %zu\n", sizeof(struct sc_record), sizeof(struct plain_record));
-    if (bad)
-        puts("record: an answer differs, or a limit is passed");
+    for (int k = 0; argc == 1 && k < b.count; k++)
+        if (jobs[k].limit != 0)
+            bad |= bench_time(&b, &jobs[k], "; rising order");
     return bad;
 }

@@ -1,7 +1,6 @@
 /* The jobs of bench/record.c for one version of the record, of type R, whose calls are P(record_open) and so on. A job has a state that is put back
- * before each run; a run is its calls, each answer added to P(sum). */
+ * before each run; a run is its calls, each answer added to bench_sum[FORM]. */
 static R P(state), P(held);
-static uint64_t P(sum);
 
 /* FILES files with so many mirrors and clients' intents each; afterwards restarted, and grace ended, as asked */
 static void P(mirrored)(int devices, int intents, int restarted, int ended)
@@ -44,8 +43,8 @@ static uint64_t P(returned)(int k, const uint8_t *request, size_t len)
 }
 
 /* calls that leave the record as it is come MANY times, on any file and client; calls that change it once on each file, in any order */
-#define ANY for (int k = 0; k < MANY; k++) P(sum) +=
-#define EACH for (int k = 0; k < FILES; k++) P(sum) +=
+#define ANY for (int k = 0; k < MANY; k++) bench_sum[FORM] +=
+#define EACH for (int k = 0; k < FILES; k++) bench_sum[FORM] +=
 static void P(open_held)(void) { ANY P(record_open)(&P(held), file[k], client[k]); }
 static void P(open_ninth)(void) { ANY P(record_open)(&P(held), file[k], 9); }
 static void P(close_open)(void) { ANY P(record_close)(&P(held), file[k], client[k]) + P(record_open)(&P(held), file[k], client[k]); }
@@ -60,7 +59,7 @@ static void P(handed_on)(void) { ANY P(returned)(k, bulk, sizeof bulk); }
 static void P(enter)(void) { EACH P(record_register)(&P(held), each[k], mirrors, 32); }
 static void P(forget)(void) { EACH P(record_forget)(&P(held), each[k]); }
 static void P(restart)(void) { EACH P(record_restart)(&P(held)); }
-static void P(end)(void) { P(sum) += P(record_end_grace)(&P(held)); }
+static void P(end)(void) { bench_sum[FORM] += P(record_end_grace)(&P(held)); }
 static void P(resilver)(void) { EACH P(record_resilver)(&P(held), files, FILES, sources, FILES, &count) + count + files[63] + sources[5]; }
 static void P(offered)(void) { EACH P(record_offered)(&P(held), files, FILES, sources, FILES, &count) + count + files[63] + sources[5]; }
 #undef ANY

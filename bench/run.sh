@@ -1,15 +1,14 @@
 #!/bin/sh
-# run.sh: builds and runs the benchmarks: the proved libraries beside plain C by gcc -O2 and clang -O2, in one process and in turn.
+# run.sh: times the proved libraries beside plain C by gcc -O2 and clang -O2, in one process and in turn; a row for each job. Ends with 1 where answers differ
+# or a limit is passed.
 set -e
 cd "$(dirname "$0")/.."
-mkdir -p target/bench
-for compiler in gcc clang; do
-    "$compiler" -std=c11 -O2 -Wall -Wextra -Werror -DNAME=${compiler}_ -c -o target/bench/layout_$compiler.o bench/plain_layout.c
+bench/build.sh
+failed=0
+printf '| %-58s | %8s | %8s | %5s | %8s | %5s |\n|---|---|---|---|---|---|\n' 'Job, least time of a call in ns' proved gcc ratio clang ratio
+for program in layout report record epochs; do
+    target/bench/$program || failed=1
 done
-gcc -std=c11 -O2 -Wall -Wextra -Werror -Iinclude -o target/bench/layout bench/layout.c target/bench/layout_gcc.o target/bench/layout_clang.o target/staticlib/libwire.a
-target/bench/layout
-bench/report.sh
-bench/epochs.sh
-rt check record_bench > target/bench/record_bench.log 2>&1
-bench/by_value.py
-bench/record.sh
+bench/copies.sh target/staticlib/libcapi.a
+[ $failed = 0 ] || echo "bench: an answer differs, or a limit is passed"
+exit $failed

@@ -1,16 +1,17 @@
 /*
  * The calls on a record through target/staticlib/libcapi.a: where a record lies and how big it is, marked examples K10 to K13, and random calls
- * (seed: the argument, or 1) beside bench/record_plain.c, which is plain C from the papers: each answer, each reply, all totals and both lists.
+ * (seed: the argument, or 1) beside tests/plain/record.c: each answer, each reply, all totals and both lists.
  * Prints one line, and ends with 1 where anything differs.
  */
-#include "record_plain.h"
+#include "bytes.h"
+#include "plain.h"
 #include "stellcircle.h"
 #include <inttypes.h>
 #include <stdio.h>
 #include <stdlib.h>
 #include <string.h>
 
-RECORD_PLAIN(plain_)
+PLAIN(plain_)
 
 enum { CALLS = 400000, CLIENTS = 11, DEVICES = 6, ROOM = 80 };
 
@@ -81,12 +82,6 @@ static void layout(void)
 
 /* ---- requests */
 static uint8_t request[4200], device[DEVICES][16];
-
-static void put32(uint8_t *p, uint32_t x)
-{
-    for (int i = 0; i < 4; i++)
-        p[i] = (uint8_t)(x >> (24 - 8 * i));
-}
 
 /* One error record of so many device errors of the devices from `first` on, each with the status. */
 static size_t report(int first, int many, uint32_t status)
@@ -185,12 +180,6 @@ static void examples(void)
 }
 
 /* ---- totals of one file with the mirrors of devices 0, 1 and 2, and a client with an intent */
-static void put64(uint8_t *p, uint64_t x)
-{
-    put32(p, (uint32_t)(x >> 32));
-    put32(p + 4, (uint32_t)x);
-}
-
 /* One statistics record more at the end of a request that ends with them; its strings and handle have so many bytes. Its latencies count other bytes. */
 static size_t statistic(size_t len, size_t count, const uint8_t *id, uint64_t read, uint64_t written, const size_t *opaques)
 {

@@ -3,8 +3,8 @@
 set -e
 cd "$(dirname "$0")/../.."
 mkdir -p target/tests
-gcc -std=c11 -O2 -Wall -Wextra -Werror -DNAME=plain_ -Ibench -c -o target/tests/record_plain.o bench/record_plain.c
-gcc -std=c11 -O2 -Wall -Wextra -Werror -Iinclude -Ibench -o target/tests/capi tests/capi/capi.c target/tests/record_plain.o target/staticlib/libcapi.a target/staticlib/libwire.a target/staticlib/libepochs.a
+tests/plain/build.sh gcc plain
+gcc -std=c11 -O2 -Wall -Wextra -Werror -Iinclude -Itests/plain -o target/tests/capi tests/capi/capi.c target/plain/plain.a target/staticlib/libcapi.a target/staticlib/libwire.a target/staticlib/libepochs.a
 target/tests/capi "$@"
 # the header is good C++11 too
 echo '#include "stellcircle.h"

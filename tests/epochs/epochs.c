@@ -1,15 +1,16 @@
 /*
  * Runs the calls of the proved library on records in memory, and compares each answer and each field afterwards:
- * named cases, a capture of another implementation (the file named by the first argument), and a million random calls against reference.c (seed: the second argument, or 1).
+ * named cases, a capture of another implementation (the file named by the first argument), and a million random calls against tests/plain/epochs.c (seed: the second argument, or 1).
  * Prints one line, and ends with 1 where anything differs.
  */
-#include <stdint.h>
+#include "plain.h"
 #include "stellcircle.h"
-#include "reference.h"
 #include <inttypes.h>
 #include <stdio.h>
 #include <stdlib.h>
 #include <string.h>
+
+PLAIN(plain_)
 
 enum { JOIN, LEAVE, START, ENFORCE, FINISH, STOP, MAY_RECLAIM, CALLS };
 
@@ -43,16 +44,16 @@ static uint32_t call(int c, uint32_t node)
     }
 }
 
-static uint32_t reference_call(struct reference *r, int c, uint32_t node)
+static uint32_t plain_call(struct plain_epochs *r, int c, uint32_t node)
 {
     switch (c) {
-    case JOIN: return reference_join(r, node);
-    case LEAVE: return reference_leave(r, node);
-    case START: return reference_start(r, node);
-    case ENFORCE: return reference_enforce(r, node);
-    case FINISH: return reference_finish(r, node);
-    case STOP: return reference_stop_enforcing(r, node);
-    default: return reference_may_reclaim(r, node);
+    case JOIN: return plain_epochs_join(r, node);
+    case LEAVE: return plain_epochs_leave(r, node);
+    case START: return plain_epochs_start(r, node);
+    case ENFORCE: return plain_epochs_enforce(r, node);
+    case FINISH: return plain_epochs_finish(r, node);
+    case STOP: return plain_epochs_stop_enforcing(r, node);
+    default: return plain_epochs_may_reclaim(r, node);
     }
 }
 
@@ -194,30 +195,11 @@ static uint32_t random_node(unsigned few)
     return random64() % few;
 }
 
-static uint32_t mask(const bool *b)
-{
-    uint32_t m = 0;
-    for (int i = 0; i < NODES; i++)
-        if (b[i])
-            m |= 1u << i;
-    return m;
-}
-
-static void bools(uint32_t m, bool *b)
-{
-    for (int i = 0; i < NODES; i++)
-        b[i] = m >> i & 1;
-}
-
 /* the record of both sides, any values: also such as no history leads to */
-static void set(struct reference *r, uint64_t current, uint64_t recovery, uint32_t members, uint32_t need, uint32_t enforcing)
+static void set(struct plain_epochs *r, uint64_t current, uint64_t recovery, uint32_t members, uint32_t need, uint32_t enforcing)
 {
     held.e = (struct sc_epochs){current, recovery, members, need, enforcing};
-    r->current = current;
-    r->recovery = recovery;
-    bools(members, r->member);
-    bools(need, r->need);
-    bools(enforcing, r->enforcing);
+    *r = (struct plain_epochs){current, recovery, members, need, enforcing};
 }
 
 /* what holds after any calls from a fresh record */
@@ -230,19 +212,19 @@ static void sound(unsigned long n)
 
 static unsigned long random_calls(unsigned long calls)
 {
-    struct reference r;
+    struct plain_epochs r;
     unsigned few = 4;
     bool from_fresh = false;
     hold();
     sc_epochs_fresh(&held.e);
-    reference_fresh(&r);
+    plain_epochs_fresh(&r);
     for (unsigned long n = 1; n <= calls; n++) {
         uint64_t pick = random64() % 1024;
         if (pick < 2) {
             hold();
             sc_epochs_fresh(&held.e);
-            reference_fresh(&r);
-            few = 1 + random64() % NODES;
+            plain_epochs_fresh(&r);
+            few = 1 + random64() % PLAIN_NODES;
             from_fresh = true;
         } else if (pick < 4) {
             set(&r, UINT64_MAX - random64() % 3, 0, random64(), 0, 0);
@@ -254,10 +236,10 @@ static unsigned long random_calls(unsigned long calls)
             from_fresh = false;
         }
         int c = random64() % CALLS;
-        uint32_t node = random_node(few), want = reference_call(&r, c, node);
+        uint32_t node = random_node(few), want = plain_call(&r, c, node);
         if (call(c, node) != want)
             differs("random", n, names[c]);
-        compare("random", n, r.current, r.recovery, mask(r.member), mask(r.need), mask(r.enforcing));
+        compare("random", n, r.current, r.recovery, r.members, r.need, r.enforcing);
         if (from_fresh)
             sound(n);
     }

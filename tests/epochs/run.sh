@@ -3,5 +3,6 @@
 set -e
 cd "$(dirname "$0")/../.."
 mkdir -p target/tests
-gcc -std=c11 -O2 -Wall -Wextra -Werror -Iinclude -o target/tests/epochs tests/epochs/epochs.c tests/epochs/reference.c target/staticlib/libepochs.a
+tests/plain/build.sh gcc plain
+gcc -std=c11 -O2 -Wall -Wextra -Werror -Iinclude -Itests/plain -o target/tests/epochs tests/epochs/epochs.c target/plain/plain.a target/staticlib/libepochs.a
 target/tests/epochs tests/captures/ganesha-epochs.txt "$@"

@@ -1,6 +1,6 @@
 #!/bin/sh
 # run.sh SECONDS: builds the fuzz target with clang's fuzzer and sanitizers and runs it for so long; prints one line, and exits 1 on any difference from
-# the reference, a crash or a touched page. Seeds come from the captures; what earlier runs found stays in target/fuzz/corpus and is used again, and an
+# plain C, a crash or a touched page. Seeds come from the captures; what earlier runs found stays in target/fuzz/corpus and is used again, and an
 # input that fails is kept in target/fuzz. INCLUDE and LIBRARIES: see ../desk/libraries.sh.
 set -u
 if [ $# -ne 1 ]; then
@@ -17,8 +17,8 @@ if ! echo 'int LLVMFuzzerTestOneInput(const char *d, unsigned long n); int LLVMF
     echo "fuzz: needs clang and its fuzzer runtime: apt-get install clang libclang-rt-14-dev (tests/packages.txt)"
     exit 1
 fi
-clang -std=c11 -g -O1 -Wall -Wextra -Wpedantic -Werror -fsanitize=fuzzer,address,undefined -fno-sanitize-recover=all -I"$include" \
-    -o "$folder/wire" "$fuzz/wire.c" "$fuzz/reference.c" $libraries || exit 1
+clang -std=c11 -g -O1 -Wall -Wextra -Wpedantic -Werror -fsanitize=fuzzer,address,undefined -fno-sanitize-recover=all -DNAME=plain_ -I"$include" \
+    -I"$top/tests/plain" -o "$folder/wire" "$fuzz/wire.c" "$top"/tests/plain/*.c $libraries || exit 1
 python3 "$fuzz/corpus.py" "$folder/seeds" || exit 1
 if ! "$folder/wire" -max_total_time="$1" -max_len=65536 -timeout=20 -use_value_profile=1 -dict="$fuzz/wire.dict" -print_final_stats=1 \
     -artifact_prefix="$folder/" "$folder/corpus" "$folder/seeds" > "$folder/log" 2>&1; then
@@ -26,4 +26,4 @@ if ! "$folder/wire" -max_total_time="$1" -max_len=65536 -timeout=20 -use_value_p
     echo "fuzz: FAILED"
     exit 1
 fi
-echo "fuzz: $(sed -n 's/^stat::number_of_executed_units: *//p' "$folder/log") inputs, no difference from the reference"
+echo "fuzz: $(sed -n 's/^stat::number_of_executed_units: *//p' "$folder/log") inputs, no difference from plain C"

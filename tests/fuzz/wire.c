@@ -1,10 +1,10 @@
-/* The fuzz target for the wire checks: layout bodies, and LAYOUTRETURN on a record of one file. Any difference from the reference aborts.
+/* The fuzz target for the wire checks: layout bodies, and LAYOUTRETURN on a record of one file. Any difference from plain C (tests/plain) aborts.
    The first byte chooses: bit 0 layout body or LAYOUTRETURN; for the latter bit 1 grace, 2 registered, 3 intent, 4 and 5 how many mirrors, 6 and 7
    the edition and the reply's room. The other bytes are the body or the request, whose length also chooses how many totals are lent. The libraries are
-   not instrumented, so every body, request, reply and total lent to them lies against a page that can't be touched, once at its start and once at its
+   not instrumented (plain C is, and steers towards new cases), so every body, request, reply and total lent to them lies against a page that can't be touched, once at its start and once at its
    end. In this order: pages; layout bodies; reports; LAYOUTRETURN; the target. */
 #define _DEFAULT_SOURCE
-#include "reference.h"
+#include "plain.h"
 #include "stellcircle.h"
 
 #include <inttypes.h>
@@ -15,11 +15,13 @@
 
 enum { PAGE = 4096, REGION = 17 * PAGE, FILE_NUMBER = 7, CLIENT = 1, FILL = 0x5a };
 
+PLAIN(plain_)
+
 int LLVMFuzzerTestOneInput(const uint8_t *data, size_t size);
 
 static void differ(const char *what, uint64_t got, uint64_t wanted)
 {
-    fprintf(stderr, "wire: %s: the library says %" PRIu64 ", the reference %" PRIu64 "\n", what, got, wanted);
+    fprintf(stderr, "wire: %s: the library says %" PRIu64 ", plain C %" PRIu64 "\n", what, got, wanted);
     abort();
 }
 
@@ -63,139 +65,148 @@ static uint8_t *lend_input(const uint8_t *bytes, size_t len, bool end)
 
 static void layout(const uint8_t *bytes, size_t len, bool end)
 {
-    uint64_t place = UINT64_MAX;
-    struct verdict wanted = reference_layout(bytes, len);
+    uint64_t place = UINT64_MAX, wanted_place;
+    uint32_t wanted = plain_layout_check(bytes, len, &wanted_place);
     uint8_t *body = lend_input(bytes, len, end);
     uint32_t number = sc_layout_check(body, len, &place);
-    same("layout number", number, wanted.number);
-    same("layout place", place, wanted.place);
+    same("layout number", number, wanted);
+    same("layout place", place, wanted_place);
     same("layout body kept", memcmp(body, bytes, len) == 0, true);
 }
 
 /* ---- Reports ---- */
 
-/* The check of a body and the walk of its statistics, which come one by one and end as the check does. */
+/* The walks of a body, of its statistics records and of its device errors: each step beside plain C, and the end as the check says. */
+static void statistics(const uint8_t *body, size_t len, uint32_t status)
+{
+    uint32_t left = 0, plain_left = 0, answer;
+    uint64_t at = 0, plain_at = 0, device, read, written, plain_device, plain_read, plain_written;
+    do {
+        answer = sc_statistics_next(body, len, &at, &left, &device, &read, &written);
+        same("statistics answer", answer, plain_statistics_next(body, len, &plain_at, &plain_left, &plain_device, &plain_read, &plain_written));
+        same("statistics device", device, plain_device);
+        same("statistics read", read, plain_read);
+        same("statistics written", written, plain_written);
+        same("statistics cursor", at == plain_at && left == plain_left, true);
+    } while (answer == 1);
+    same("statistics end", answer, status);
+}
+
+static void errors(const uint8_t *body, size_t len, uint32_t status)
+{
+    uint32_t records = 0, devices = 0, plain_records = 0, plain_devices = 0, place, plain_place, error, plain_error, answer;
+    uint64_t at = 0, plain_at = 0, device, plain_device;
+    do {
+        answer = sc_report_next(body, len, &at, &records, &devices, &place, &device, &error);
+        same("device error answer", answer, plain_report_next(body, len, &plain_at, &plain_records, &plain_devices, &plain_place, &plain_device, &plain_error));
+        same("device error record", place, plain_place);
+        same("device error device", device, plain_device);
+        same("device error status", error, plain_error);
+        same("device error cursor", at == plain_at && records == plain_records && devices == plain_devices, true);
+    } while (answer == 1);
+    same("device errors end", answer, status);
+}
+
 static void report(const uint8_t *body, size_t len)
 {
-    enum { MOST = 512 };
-    static struct statistic wanted[MOST];
-    uint32_t status, left = 0, left_before = 0, answer;
-    uint64_t at = 0, at_before = 0, device, read, written;
-    size_t count = reference_statistics(body, len, wanted, MOST, &status), n = 0;
+    uint32_t status = plain_report_check(body, len);
     same("report", sc_report_check(body, len), status);
-    while ((answer = sc_statistics_next(body, len, &at, &left, &device, &read, &written)) == 1) {
-        same("statistics at most", n < count && n < MOST, true);
-        same("statistics device", device, wanted[n].device);
-        same("statistics read", read, wanted[n].read);
-        same("statistics written", written, wanted[n].written);
-        at_before = at;
-        left_before = left;
-        n++;
-    }
-    same("statistics end", answer, status);
-    same("statistics count", n, count);
-    same("statistics cursor kept", at == at_before && left == left_before, true);
-    same("statistics end's record", device == 0 && read == 0 && written == 0, true);
+    statistics(body, len, status);
+    errors(body, len, status);
 }
 
 /* ---- LAYOUTRETURN ---- */
 
-static const uint8_t devices[MOST_MIRRORS][DEVICE] = {
+static const uint8_t devices[PLAIN_MIRRORS][16] = {
     {0xa0, 0xa0, 0xa0, 0xa0, 0xa0, 0xa0, 0xa0, 0xa0, 0xa0, 0xa0, 0xa0, 0xa0, 0xa0, 0xa0, 0xa0, 0x01},
     {0xb0, 0xb0, 0xb0, 0xb0, 0xb0, 0xb0, 0xb0, 0xb0, 0xb0, 0xb0, 0xb0, 0xb0, 0xb0, 0xb0, 0xb0, 0x02},
     {0xc0, 0xc0, 0xc0, 0xc0, 0xc0, 0xc0, 0xc0, 0xc0, 0xc0, 0xc0, 0xc0, 0xc0, 0xc0, 0xc0, 0xc0, 0x03},
     {0xd0, 0xd0, 0xd0, 0xd0, 0xd0, 0xd0, 0xd0, 0xd0, 0xd0, 0xd0, 0xd0, 0xd0, 0xd0, 0xd0, 0xd0, 0x04},
 };
 
-static struct file_state choose(uint8_t choice)
+/* The record's state as a choice says, in the library and in plain C. */
+static void set_up(struct sc_record *r, struct plain_record *p, uint8_t choice)
 {
-    struct file_state f = {.old = choice >> 6 == 1, .in_grace = choice >> 1 & 1, .registered = choice >> 2 & 1, .mirrors = (choice >> 4 & 3) + 1u, .ids = devices};
-    f.has_intent = f.registered && (choice >> 3 & 1);
-    return f;
+    bool old = choice >> 6 == 1, in_grace = choice >> 1 & 1, registered = choice >> 2 & 1, intent = registered && (choice >> 3 & 1);
+    size_t mirrors = 16 * ((choice >> 4 & 3) + 1u);
+    (old ? sc_record_fresh_old : sc_record_fresh)(r);
+    (old ? plain_record_fresh_old : plain_record_fresh)(p);
+    if (registered)
+        same("register", sc_record_register(r, FILE_NUMBER, devices[0], mirrors) | plain_record_register(p, FILE_NUMBER, devices[0], mirrors), 0);
+    if (intent)
+        same("open", sc_record_open(r, FILE_NUMBER, CLIENT) | plain_record_open(p, FILE_NUMBER, CLIENT), 0);
+    if (in_grace)
+        same("restart", sc_record_restart(r) | plain_record_restart(p), 0);
 }
 
-/* The library's record in the same state. */
-static void set_up(struct sc_record *r, const struct file_state *f)
+/* Both lists, with a place more than there are files. */
+static void check_lists(const struct sc_record *r, const struct plain_record *p)
 {
-    (f->old ? sc_record_fresh_old : sc_record_fresh)(r);
-    if (f->registered)
-        same("register", sc_record_register(r, FILE_NUMBER, f->ids[0], f->mirrors * DEVICE), 0);
-    if (f->has_intent)
-        same("open", sc_record_open(r, FILE_NUMBER, CLIENT), 0);
-    if (f->in_grace)
-        same("restart", sc_record_restart(r), 0);
-}
-
-/* The resilver list has the file exactly when it is marked, with its source, and touches no other place. */
-static void check_list(const struct sc_record *r, const struct file_state *f)
-{
-    uint64_t files[2] = {99, 99}, count = 99;
-    uint8_t sources[2] = {99, 99};
-    same("resilver", sc_record_resilver(r, files, 2, sources, 2, &count), 0);
-    same("resilver count", count, f->marked);
-    same("resilver file", files[0], f->marked ? FILE_NUMBER : 99);
-    same("resilver source", sources[0], f->marked ? reference_source(f) : 99);
-    same("resilver later places", files[1] == 99 && sources[1] == 99, true);
+    for (int idle = 0; idle < 2; idle++) {
+        uint64_t files[2][2] = {{99, 99}, {99, 99}}, count[2] = {99, 99};
+        uint8_t sources[2][2] = {{99, 99}, {99, 99}};
+        uint32_t answer = (idle ? sc_record_offered : sc_record_resilver)(r, files[0], 2, sources[0], 2, &count[0]);
+        same("list", answer, (idle ? plain_record_offered : plain_record_resilver)(p, files[1], 2, sources[1], 2, &count[1]));
+        same("list count", count[0], count[1]);
+        for (int i = 0; i < 2; i++) {
+            same("list file", files[0][i], files[1][i]);
+            same("list source", sources[0][i], sources[1][i]);
+        }
+    }
 }
 
 /* Grace ends, which marks a file with an intent: blame without a mark would show. */
-static void check_end(struct sc_record *r, struct file_state *f)
+static void check_end(struct sc_record *r, struct plain_record *p)
 {
-    if (!f->in_grace)
-        return;
-    same("end of grace", sc_record_end_grace(r), 0);
-    f->marked = f->marked || f->has_intent;
-    check_list(r, f);
+    same("end of grace", sc_record_end_grace(r), plain_record_end_grace(p));
+    check_lists(r, p);
 }
 
-/* One column of totals, and its flags: lent at an edge, and filled before the call. */
+/* One column of totals, and its flags: lent at an edge, and filled before the call; what plain C says of it. */
 struct column {
-    uint64_t *bytes;
+    uint64_t *bytes, plain[6];
     size_t len;
-    uint32_t *over;
+    uint32_t *over, plain_over;
 };
 
 static struct column lend_column(int bytes, int over, size_t len, bool end)
 {
-    struct column c = {(uint64_t *)(void *)at_edge(regions[bytes], 8 * len, end), len, (uint32_t *)(void *)at_edge(regions[over], 4, end)};
+    struct column c = {.bytes = (uint64_t *)(void *)at_edge(regions[bytes], 8 * len, end), .len = len, .over = (uint32_t *)(void *)at_edge(regions[over], 4, end)};
     memset(c.bytes, FILL, 8 * len);
     memset(c.over, FILL, 4);
     return c;
 }
 
-static void check_column(struct column c, const struct sums *wanted)
+static void check_column(const struct column *c)
 {
-    uint32_t flags = 0;
-    for (size_t i = 0; i < c.len; i++)
-        same("layoutreturn total", c.bytes[i], i < MOST_MIRRORS ? wanted->bytes[i] : 0);
-    for (size_t i = 0; i < MOST_MIRRORS; i++)
-        flags |= (uint32_t)wanted->over[i] << i;
-    same("layoutreturn flags", *c.over, flags);
+    for (size_t i = 0; i < c->len; i++)
+        same("layoutreturn total", c->bytes[i], c->plain[i]);
+    same("layoutreturn flags", *c->over, c->plain_over);
 }
 
 static void layoutreturn(uint8_t choice, const uint8_t *bytes, size_t len, bool end)
 {
     static const size_t rooms[4] = {24, 24, 40, 23}, sizes[5] = {4, 0, 3, 5, 6};
     static struct sc_record r;
+    static struct plain_record p;
     size_t room = rooms[choice >> 6];
     uint8_t wanted_reply[40], *reply = at_edge(regions[REPLY], room, end), *request = lend_input(bytes, len, end);
     struct column read = lend_column(READ, READ_OVER, sizes[len / 4 % 5], end);
     struct column written = lend_column(WRITTEN, WRITTEN_OVER, sizes[len / 20 % 5], end);
-    struct file_state f = choose(choice);
-    struct totals totals;
     memset(wanted_reply, FILL, sizeof wanted_reply);
     memset(reply, FILL, room);
-    set_up(&r, &f);
-    int64_t wanted = reference_layoutreturn(&f, bytes, len, wanted_reply, room, &totals);
+    set_up(&r, &p, choice);
+    uint32_t wanted = plain_record_layoutreturn(&p, FILE_NUMBER, CLIENT, bytes, len, wanted_reply, room, read.plain, read.len, written.plain, written.len,
+                                                &read.plain_over, &written.plain_over);
     uint32_t answer = sc_record_layoutreturn(&r, FILE_NUMBER, CLIENT, request, len, reply, room, read.bytes, read.len, written.bytes, written.len,
                                              read.over, written.over);
-    same("layoutreturn answer", answer, wanted == REFERENCE_HANDED_ON ? SC_HANDED_ON : (uint64_t)wanted);
+    same("layoutreturn answer", answer, wanted);
     same("layoutreturn reply", memcmp(reply, wanted_reply, room) == 0, true);
     same("layoutreturn request kept", memcmp(request, bytes, len) == 0, true);
-    check_column(read, &totals.read);
-    check_column(written, &totals.written);
-    check_list(&r, &f);
-    check_end(&r, &f);
+    check_column(&read);
+    check_column(&written);
+    check_lists(&r, &p);
+    check_end(&r, &p);
     if (len >= 52)
         report(request + 52, len - 52);
 }

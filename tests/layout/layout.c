@@ -1,10 +1,13 @@
-/* The layout check, the extents by place and the layout writer through the C exports.
+/* The layout check, the extents by place and the layout writer through the C exports, and the check and the writer in plain C.
  * Usage: layout FILE: each line of FILE is a body in hex, its refusal (0 accepted) and the place (or how many extents).
  * Every accepted body is also read place by place, written back from its extents, into a buffer with guard bytes, and refused without its last byte. */
+#include "plain.h"
 #include "stellcircle.h"
 #include <stdio.h>
 #include <stdlib.h>
 #include <string.h>
+
+PLAIN(plain_)
 
 enum { MOST = 65536, GUARD = 64 };
 
@@ -68,10 +71,10 @@ static void read_places(const uint8_t *body, size_t len, uint64_t n, unsigned lo
 /* Writes the n extents of an accepted body back, with room bytes of buffer, and holds the buffer to what it must be. */
 static void write_back(const uint8_t *body, size_t len, size_t n, size_t room, unsigned long line)
 {
-    static uint8_t devices[16 * 1024], out[MOST + 2 * GUARD], want[MOST + 2 * GUARD];
+    static uint8_t devices[16 * 1024], out[MOST + 2 * GUARD], plain_out[MOST + 2 * GUARD], want[MOST + 2 * GUARD];
     static uint64_t offsets[1024], lengths[1024], storages[1024];
     static uint32_t states[1024];
-    uint64_t place = 77;
+    uint64_t place = 77, plain_place = 77;
     for (size_t i = 0; i < n; i++) {
         const uint8_t *e = body + 4 + 44 * i;
         memcpy(devices + 16 * i, e, 16);
@@ -83,6 +86,8 @@ static void write_back(const uint8_t *body, size_t len, size_t n, size_t room, u
     memset(out, 0xa5, sizeof out);
     memcpy(want, out, sizeof out);
     uint32_t rule = sc_layout_write(devices, 16 * n, offsets, n, lengths, n, storages, n, states, n, out + GUARD, room, &place);
+    memset(plain_out, 0xa5, sizeof plain_out);
+    uint32_t plain_rule = plain_layout_write(devices, 16 * n, offsets, n, lengths, n, storages, n, states, n, plain_out + GUARD, room, &plain_place);
     if (room < len) {
         expect(rule == 8 && place == 0, line, "a short buffer is not refused by 8");
     } else {
@@ -90,6 +95,7 @@ static void write_back(const uint8_t *body, size_t len, size_t n, size_t room, u
         memcpy(want + GUARD, body, len);
     }
     expect(memcmp(out, want, sizeof out) == 0, line, "the buffer is not what it must be");
+    expect(plain_rule == rule && plain_place == place && memcmp(plain_out, want, sizeof want) == 0, line, "plain C writes otherwise");
     if (n > 0) {
         rule = sc_layout_write(devices, 16 * n - 1, offsets, n, lengths, n, storages, n, states, n, out + GUARD, room, &place);
         expect(rule == 1 && place == 0, line, "uneven columns are not refused by 1");
@@ -100,9 +106,10 @@ static void write_back(const uint8_t *body, size_t len, size_t n, size_t room, u
 
 static void check(const uint8_t *body, size_t len, uint32_t rule, uint64_t place, unsigned long line)
 {
-    uint64_t at = 77;
+    uint64_t at = 77, plain_at = 77;
     uint32_t got = sc_layout_check(body, len, &at);
     expect(got == rule && at == place, line, "another answer");
+    expect(plain_layout_check(body, len, &plain_at) == rule && plain_at == place, line, "another answer of plain C");
     checked++;
     if (rule == 0) {
         accepted++;

@@ -3,5 +3,6 @@
 set -e
 cd "$(dirname "$0")/../.."
 mkdir -p target/tests
-gcc -std=c11 -O2 -Wall -Wextra -Wpedantic -Werror -Iinclude -o target/tests/layout tests/layout/layout.c target/staticlib/libwire.a
+tests/plain/build.sh gcc plain
+gcc -std=c11 -O2 -Wall -Wextra -Wpedantic -Werror -Iinclude -Itests/plain -o target/tests/layout tests/layout/layout.c target/plain/plain.a target/staticlib/libwire.a
 target/tests/layout tests/captures/layout-bodies.txt

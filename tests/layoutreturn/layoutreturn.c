@@ -2,12 +2,13 @@
  * LAYOUTRETURN through the library's C functions: captured requests, damaged ones, and made-up ones beside plain C.
  * layoutreturn DAMAGED LINUX: the two capture files. Prints one line with counts; exits 1 on any difference, and where a file has no cases.
  */
+#include "bytes.h"
+#include "plain.h"
+#include "stellcircle.h"
 #include <stdio.h>
 #include <stdlib.h>
 
-#include "plain.h"
-
-#include "stellcircle.h"
+PLAIN(plain_)
 
 enum { MOST_BYTES = 16384, MOST_ERRORS = 1024, MOST_STATISTICS = 64 };
 
@@ -34,48 +35,63 @@ static size_t bytes_of(const char *hex, uint8_t *out)
     return n;
 }
 
-/* The device errors of a body as the library walks them. Answers their count, and the answer at which the walk ends through `end`. */
-static size_t walk(const uint8_t *body, size_t len, struct plain_error *e, uint32_t *end)
+/* A device error: the place of its record, where its device begins, its status. */
+struct error {
+    uint32_t place;
+    size_t device;
+    uint32_t status;
+};
+
+/* A statistics record: where its device begins, and its counts of bytes. */
+struct statistic {
+    size_t device;
+    uint64_t read, written;
+};
+
+typedef uint32_t next(const uint8_t *, size_t, uint64_t *, uint32_t *, uint32_t *, uint32_t *, uint64_t *, uint32_t *);
+typedef uint32_t statistics_next(const uint8_t *, size_t, uint64_t *, uint32_t *, uint64_t *, uint64_t *, uint64_t *);
+
+/* The device errors of a body as the library or plain C walks them. Answers their count, and the answer at which the walk ends through `end`. */
+static size_t walk(next *f, const uint8_t *body, size_t len, struct error *e, uint32_t *end)
 {
     uint64_t at = 0, device;
     uint32_t records = 0, devices = 0, place, status;
     size_t n = 0;
-    while ((*end = sc_report_next(body, len, &at, &records, &devices, &place, &device, &status)) == 1) {
+    while ((*end = f(body, len, &at, &records, &devices, &place, &device, &status)) == 1) {
         if (n < MOST_ERRORS)
-            e[n] = (struct plain_error){place, device, status};
+            e[n] = (struct error){place, device, status};
         n++;
     }
     uint64_t at2 = at;
     uint32_t records2 = records, devices2 = devices;
-    if (sc_report_next(body, len, &at2, &records2, &devices2, &place, &device, &status) != *end || at2 != at || records2 != records ||
-        devices2 != devices || place != 0 || device != 0 || status != 0)
+    if (f(body, len, &at2, &records2, &devices2, &place, &device, &status) != *end || at2 != at || records2 != records || devices2 != devices ||
+        place != 0 || device != 0 || status != 0)
         differs("walk", n, "the end of a walk does not stay");
     return n;
 }
 
-/* The statistics records of a body as the library walks them, in the same way. */
-static size_t walk_statistics(const uint8_t *body, size_t len, struct plain_statistic *y, uint32_t *end)
+/* The statistics records of a body, in the same way. */
+static size_t walk_statistics(statistics_next *f, const uint8_t *body, size_t len, struct statistic *y, uint32_t *end)
 {
     uint64_t at = 0, device, read, written, before = 0;
     uint32_t left = 0, left_before = 0;
     size_t n = 0;
-    while ((*end = sc_statistics_next(body, len, &at, &left, &device, &read, &written)) == 1) {
+    while ((*end = f(body, len, &at, &left, &device, &read, &written)) == 1) {
         if (n < MOST_STATISTICS)
-            y[n] = (struct plain_statistic){device, read, written};
+            y[n] = (struct statistic){device, read, written};
         n++;
         before = at;
         left_before = left;
     }
     if (at != before || left != left_before || device != 0 || read != 0 || written != 0)
         differs("walk of statistics", n, "the end changes the cursor, or gives a record");
-    if (sc_statistics_next(body, len, &at, &left, &device, &read, &written) != *end || at != before || left != left_before || device != 0 ||
-        read != 0 || written != 0)
+    if (f(body, len, &at, &left, &device, &read, &written) != *end || at != before || left != left_before || device != 0 || read != 0 || written != 0)
         differs("walk of statistics", n, "the end of a walk does not stay");
     return n;
 }
 
 /* Whether the device errors are those of a list `device:status[:operation],..` or "-". */
-static int same_errors(const uint8_t *body, const struct plain_error *e, size_t n, const char *list)
+static int same_errors(const uint8_t *body, const struct error *e, size_t n, const char *list)
 {
     size_t i = 0;
     uint8_t id[MOST_BYTES];
@@ -87,7 +103,7 @@ static int same_errors(const uint8_t *body, const struct plain_error *e, size_t 
             return 0;
         if (strtoul(list + 33, &rest, 10) != e[i].status)
             return 0;
-        if (*rest == ':' && strtoul(rest + 1, &rest, 10) != plain_be32(body + e[i].device + 20))
+        if (*rest == ':' && strtoul(rest + 1, &rest, 10) != be32(body + e[i].device + 20))
             return 0;
         errors_compared++;
         list = rest;
@@ -97,7 +113,7 @@ static int same_errors(const uint8_t *body, const struct plain_error *e, size_t 
 }
 
 /* Whether the statistics records are those of a list `device:read:written,..` or "-". */
-static int same_statistics(const uint8_t *body, const struct plain_statistic *y, size_t n, const char *list)
+static int same_statistics(const uint8_t *body, const struct statistic *y, size_t n, const char *list)
 {
     size_t i = 0;
     uint8_t id[MOST_BYTES];
@@ -119,13 +135,13 @@ static int same_statistics(const uint8_t *body, const struct plain_statistic *y,
 /* A well-formed body of a captured request: its device errors and its statistics records are those of the file. */
 static void captured(const char *path, unsigned long line, const uint8_t *body, size_t len, const char *errors, const char *statistics)
 {
-    static struct plain_error e[MOST_ERRORS];
-    static struct plain_statistic y[MOST_STATISTICS];
+    static struct error e[MOST_ERRORS];
+    static struct statistic y[MOST_STATISTICS];
     uint32_t end;
-    size_t count = walk(body, len, e, &end);
+    size_t count = walk(sc_report_next, body, len, e, &end);
     if (end != 0 || !same_errors(body, e, count, errors))
         differs(path, line, "other device errors");
-    count = walk_statistics(body, len, y, &end);
+    count = walk_statistics(sc_statistics_next, body, len, y, &end);
     if (end != 0 || !same_statistics(body, y, count, statistics))
         differs(path, line, "other statistics");
 }
@@ -149,10 +165,10 @@ static void answer_of(const uint8_t *request, size_t n, int grace, char *out, si
 /* The statistics records of a body beside plain C. */
 static void statistics_beside_plain(const char *where, unsigned long line, const uint8_t *body, size_t len, uint32_t check)
 {
-    static struct plain_statistic y[MOST_STATISTICS], z[MOST_STATISTICS];
-    uint32_t end;
-    size_t count = walk_statistics(body, len, y, &end), count2 = plain_statistics_walk(body, len, z, MOST_STATISTICS);
-    if (end != check)
+    static struct statistic y[MOST_STATISTICS], z[MOST_STATISTICS];
+    uint32_t end, end2;
+    size_t count = walk_statistics(sc_statistics_next, body, len, y, &end), count2 = walk_statistics(plain_statistics_next, body, len, z, &end2);
+    if (end != check || end2 != check)
         differs(where, line, "the walk of statistics ends otherwise than the check");
     if (count != count2)
         differs(where, line, "the walk of statistics has another count than plain C");
@@ -164,10 +180,10 @@ static void statistics_beside_plain(const char *where, unsigned long line, const
 /* A request beside plain C: steps 1 to 3, step 5 on its body, every device error and every statistics record. */
 static void beside_plain(const char *where, unsigned long line, const uint8_t *request, size_t n)
 {
-    static struct plain_error e[MOST_ERRORS], f[MOST_ERRORS];
-    uint32_t kind = 9, kind2, end;
+    static struct error e[MOST_ERRORS], f[MOST_ERRORS];
+    uint32_t kind = 9, kind2, end, end2;
     uint64_t at = 9, len = 9, at2, len2;
-    if (sc_layoutreturn_check(request, n, &kind, &at, &len) != plain_request_check(request, n, &kind2, &at2, &len2) || kind != kind2 ||
+    if (sc_layoutreturn_check(request, n, &kind, &at, &len) != plain_layoutreturn_check(request, n, &kind2, &at2, &len2) || kind != kind2 ||
         at != at2 || len != len2) {
         differs(where, line, "steps 1 to 3 differ from plain C");
         return;
@@ -178,8 +194,8 @@ static void beside_plain(const char *where, unsigned long line, const uint8_t *r
     uint32_t check = sc_report_check(body, len);
     if (check != plain_report_check(body, len))
         differs(where, line, "step 5 differs from plain C");
-    size_t count = walk(body, len, e, &end), count2 = plain_report_walk(body, len, f, MOST_ERRORS);
-    if (end != check)
+    size_t count = walk(sc_report_next, body, len, e, &end), count2 = walk(plain_report_next, body, len, f, &end2);
+    if (end != check || end2 != check)
         differs(where, line, "the walk ends otherwise than the check");
     if (count != count2)
         differs(where, line, "the walk has another count than plain C");
@@ -259,8 +275,8 @@ static unsigned long linux_client(const char *path)
         snprintf(told, sizeof told, "%s%s", seqid, other);
         if (bytes_of(told, stateid) != 16 || memcmp(stateid, request + 32, 16) != 0)
             differs(path, at_line, "another stateid");
-        if (plain_be32(request) != reclaim || plain_be32(request + 4) != type || plain_be32(request + 8) != iomode ||
-            plain_be32(request + 12) != ways)
+        if (be32(request) != reclaim || be32(request + 4) != type || be32(request + 8) != iomode ||
+            be32(request + 12) != ways)
             differs(path, at_line, "another reclaim flag, layout type, iomode or return type");
         uint32_t kind, number;
         uint64_t at, len;
@@ -295,16 +311,16 @@ static uint32_t chance(uint32_t n)
     return (uint32_t)((seed >> 33) % n);
 }
 
-static size_t put32(uint8_t *d, size_t at, uint32_t x)
+static size_t append32(uint8_t *d, size_t at, uint32_t x)
 {
     x = __builtin_bswap32(x);
     memcpy(d + at, &x, 4);
     return at + 4;
 }
 
-static size_t put64(uint8_t *d, size_t at, uint64_t x)
+static size_t append64(uint8_t *d, size_t at, uint64_t x)
 {
-    return put32(d, put32(d, at, (uint32_t)(x >> 32)), (uint32_t)x);
+    return append32(d, append32(d, at, (uint32_t)(x >> 32)), (uint32_t)x);
 }
 
 static uint64_t some_bytes(void)
@@ -316,15 +332,15 @@ static uint64_t some_bytes(void)
 /* What a request was made of, and where in it a fault can be put: its count of statistics, their strings and handles, and their booleans. */
 struct made {
     size_t len, errors, statistics, count, opaques, opaque[15], boolean[5];
-    struct plain_error e[MOST_ERRORS];
-    struct plain_statistic y[5];
+    struct error e[MOST_ERRORS];
+    struct statistic y[5];
 };
 
 enum { BODY = 52, NONE_TOO_LONG = 15 };
 
 static size_t put_opaque(uint8_t *d, size_t at, uint32_t len)
 {
-    at = put32(d, at, len);
+    at = append32(d, at, len);
     memset(d + at, 1 + (int)chance(255), len);
     memset(d + at + len, 0, 3);
     return at + (len + 3) / 4 * 4;
@@ -334,20 +350,20 @@ static size_t put_opaque(uint8_t *d, size_t at, uint32_t len)
 static size_t put_errors(uint8_t *d, size_t at, struct made *m)
 {
     uint32_t records = chance(8);
-    at = put32(d, at, records);
+    at = append32(d, at, records);
     m->errors = 0;
     for (uint32_t r = 0; r < records; r++) {
         for (int i = 0; i < 8; i++)
-            at = put32(d, at, chance(1000));
+            at = append32(d, at, chance(1000));
         uint32_t devices = chance(5);
-        at = put32(d, at, devices);
+        at = append32(d, at, devices);
         for (uint32_t j = 0; j < devices; j++) {
             uint32_t status = chance(3) == 0 ? 0 : chance(20000);
-            m->e[m->errors++] = (struct plain_error){r, at - BODY, status};
+            m->e[m->errors++] = (struct error){r, at - BODY, status};
             for (int i = 0; i < 4; i++)
-                at = put32(d, at, chance(3));
-            at = put32(d, at, status);
-            at = put32(d, at, 38);
+                at = append32(d, at, chance(3));
+            at = append32(d, at, status);
+            at = append32(d, at, 38);
         }
     }
     return at;
@@ -357,17 +373,17 @@ static size_t put_errors(uint8_t *d, size_t at, struct made *m)
 static size_t put_statistic(uint8_t *d, size_t at, struct made *m, size_t too_long)
 {
     uint64_t read = some_bytes(), written = some_bytes();
-    at = put64(d, at, some_bytes());
-    at = put64(d, at, some_bytes());
+    at = append64(d, at, some_bytes());
+    at = append64(d, at, some_bytes());
     for (int i = 0; i < 4; i++)
-        at = put32(d, at, chance(1000));
-    at = put64(d, at, some_bytes());
-    at = put64(d, at, read);
-    at = put64(d, at, some_bytes());
-    at = put64(d, at, written);
-    m->y[m->statistics] = (struct plain_statistic){at - BODY, read, written};
+        at = append32(d, at, chance(1000));
+    at = append64(d, at, some_bytes());
+    at = append64(d, at, read);
+    at = append64(d, at, some_bytes());
+    at = append64(d, at, written);
+    m->y[m->statistics] = (struct statistic){at - BODY, read, written};
     for (int i = 0; i < 4; i++)
-        at = put32(d, at, chance(3));
+        at = append32(d, at, chance(3));
     for (int i = 0; i < 3; i++) {
         uint32_t len = m->opaques == too_long ? 129 + chance(4) : chance(3) == 0 ? 127 + chance(2) : chance(129);
         m->opaque[m->opaques++] = at;
@@ -375,36 +391,36 @@ static size_t put_statistic(uint8_t *d, size_t at, struct made *m, size_t too_lo
     }
     for (int i = 0; i < 2; i++) {
         for (int j = 0; j < 5; j++)
-            at = put64(d, at, some_bytes());
+            at = append64(d, at, some_bytes());
         for (int j = 0; j < 2; j++)
-            at = put32(d, put64(d, at, some_bytes()), chance(1000000000));
+            at = append32(d, append64(d, at, some_bytes()), chance(1000000000));
     }
-    at = put32(d, put64(d, at, some_bytes()), chance(1000000000));
+    at = append32(d, append64(d, at, some_bytes()), chance(1000000000));
     m->boolean[m->statistics++] = at;
-    return put32(d, at, chance(2));
+    return append32(d, at, chance(2));
 }
 
 /* A well-formed request, but for the one string or handle that is too long. */
 static void made_up(uint8_t *d, struct made *m, size_t too_long)
 {
     size_t at = 0;
-    at = put32(d, at, chance(2));
-    at = put32(d, at, 4);
-    at = put32(d, at, 1 + chance(3));
-    at = put32(d, at, 1);
+    at = append32(d, at, chance(2));
+    at = append32(d, at, 4);
+    at = append32(d, at, 1 + chance(3));
+    at = append32(d, at, 1);
     for (int i = 0; i < 4; i++)
-        at = put32(d, at, chance(7));
+        at = append32(d, at, chance(7));
     uint32_t anonymous = chance(2);
     for (int i = 0; i < 4; i++)
-        at = put32(d, at, anonymous ? 0 : 1 + chance(3));
+        at = append32(d, at, anonymous ? 0 : 1 + chance(3));
     at = put_errors(d, BODY, m);
     uint32_t records = too_long < NONE_TOO_LONG ? 1 + (uint32_t)too_long / 3 + chance(5 - (uint32_t)too_long / 3) : chance(6);
     m->count = at;
     m->statistics = m->opaques = 0;
-    at = put32(d, at, records);
+    at = append32(d, at, records);
     for (uint32_t i = 0; i < records; i++)
         at = put_statistic(d, at, m, too_long);
-    put32(d, BODY - 4, (uint32_t)(at - BODY));
+    append32(d, BODY - 4, (uint32_t)(at - BODY));
     m->len = at;
 }
 
@@ -415,7 +431,7 @@ static void resize(uint8_t *d, struct made *m, size_t body)
     memset(d + BODY + body, 0, len - BODY - body);
     if (len > m->len)
         memset(d + m->len, 0, len - m->len);
-    put32(d, BODY - 4, (uint32_t)body);
+    append32(d, BODY - 4, (uint32_t)body);
     m->len = len;
 }
 
@@ -425,7 +441,7 @@ static int bad_padding(uint8_t *d, const struct made *m)
     size_t first = m->opaques == 0 ? 0 : chance((uint32_t)m->opaques);
     for (size_t i = 0; i < m->opaques; i++) {
         size_t at = m->opaque[(first + i) % m->opaques];
-        uint32_t len = plain_be32(d + at), padding = (4 - len % 4) % 4;
+        uint32_t len = be32(d + at), padding = (4 - len % 4) % 4;
         if (padding != 0) {
             d[at + 4 + len + chance(padding)] = (uint8_t)(1 + chance(255));
             return 1;
@@ -439,7 +455,7 @@ enum { TOO_LONG, PADDING, BOOLEAN, COUNT_HIGH, COUNT_LOW, CUT, SPARE, FAULTS };
 
 static int fault(uint8_t *d, struct made *m, int kind)
 {
-    size_t body = plain_be32(d + BODY - 4);
+    size_t body = be32(d + BODY - 4);
     uint32_t records = (uint32_t)m->statistics;
     switch (kind) {
     case TOO_LONG:
@@ -449,14 +465,14 @@ static int fault(uint8_t *d, struct made *m, int kind)
         return bad_padding(d, m);
     case BOOLEAN:
         if (records != 0)
-            put32(d, m->boolean[chance(records)], chance(2) ? 2 + chance(4) : 1u << (1 + chance(31)));
+            append32(d, m->boolean[chance(records)], chance(2) ? 2 + chance(4) : 1u << (1 + chance(31)));
         return records != 0;
     case COUNT_HIGH:
-        put32(d, m->count, chance(2) ? records + 1 : 0xffffffff - chance(3));
+        append32(d, m->count, chance(2) ? records + 1 : 0xffffffff - chance(3));
         return 1;
     case COUNT_LOW:
         if (records != 0)
-            put32(d, m->count, chance(records));
+            append32(d, m->count, chance(records));
         return records != 0;
     case CUT:
         resize(d, m, chance(2) ? body - 1 - chance(8) : chance((uint32_t)body));
@@ -470,17 +486,17 @@ static int fault(uint8_t *d, struct made *m, int kind)
 /* A well-formed request is accepted, and its walks give what it was made of. */
 static void whole(unsigned long line, const uint8_t *d, const struct made *m)
 {
-    static struct plain_error e[MOST_ERRORS];
-    static struct plain_statistic y[MOST_STATISTICS];
+    static struct error e[MOST_ERRORS];
+    static struct statistic y[MOST_STATISTICS];
     uint32_t kind, end;
     uint64_t at, len;
     if (sc_layoutreturn_check(d, m->len, &kind, &at, &len) != 0 || kind < 2 || at != BODY || len != m->len - BODY || sc_report_check(d + at, len) != 0) {
         differs("made up", line, "a well-formed request is refused");
         return;
     }
-    if (walk(d + at, len, e, &end) != m->errors || end != 0 || memcmp(e, m->e, m->errors * sizeof *e) != 0)
+    if (walk(sc_report_next, d + at, len, e, &end) != m->errors || end != 0 || memcmp(e, m->e, m->errors * sizeof *e) != 0)
         differs("made up", line, "the walk gives other device errors than the request was made of");
-    if (walk_statistics(d + at, len, y, &end) != m->statistics || end != 0 || memcmp(y, m->y, m->statistics * sizeof *y) != 0)
+    if (walk_statistics(sc_statistics_next, d + at, len, y, &end) != m->statistics || end != 0 || memcmp(y, m->y, m->statistics * sizeof *y) != 0)
         differs("made up", line, "the walk gives other statistics than the request was made of");
     errors_compared += m->errors;
     statistics_compared += m->statistics;
@@ -494,10 +510,10 @@ static size_t damage(uint8_t *d, const struct made *m)
     for (uint32_t k = 1 + chance(2); k > 0 && n >= BODY + 4; k--)
         switch (chance(8)) {
         case 0:
-            put32(d, 4 * chance((uint32_t)(n / 4)), odd[chance(sizeof odd / sizeof *odd)]);
+            append32(d, 4 * chance((uint32_t)(n / 4)), odd[chance(sizeof odd / sizeof *odd)]);
             break;
         case 1:
-            put32(d, BODY - 4, plain_be32(d + BODY - 4) + chance(9) - 4);
+            append32(d, BODY - 4, be32(d + BODY - 4) + chance(9) - 4);
             break;
         case 2:
             n = chance((uint32_t)n + 1);
@@ -506,15 +522,15 @@ static size_t damage(uint8_t *d, const struct made *m)
             n += 1 + chance(8);
             break;
         case 4:
-            put32(d, BODY, plain_be32(d + BODY) + chance(3) - 1);
+            append32(d, BODY, be32(d + BODY) + chance(3) - 1);
             break;
         case 5:
-            put32(d, m->count, plain_be32(d + m->count) + chance(3) - 1);
+            append32(d, m->count, be32(d + m->count) + chance(3) - 1);
             break;
         case 6:
             if (m->opaques != 0) {
                 size_t at = m->opaque[chance((uint32_t)m->opaques)];
-                put32(d, at, plain_be32(d + at) + chance(9) - 4);
+                append32(d, at, be32(d + at) + chance(9) - 4);
             }
             break;
         default:
@@ -555,10 +571,10 @@ static unsigned long by_size(void)
     unsigned long cases = 0;
     for (uint32_t size = 0; size <= 4104; size++) {
         memset(d, 0, sizeof d);
-        put32(d, 4, 4);
-        put32(d, 8, 3);
-        put32(d, 12, 1);
-        put32(d, 48, size);
+        append32(d, 4, 4);
+        append32(d, 8, 3);
+        append32(d, 12, 1);
+        append32(d, 48, size);
         memset(d + 52, 0xff, size);
         size_t n = 52 + (size + 3) / 4 * 4;
         for (size_t spare = 0; spare < 3; spare++, cases++)
@@ -572,7 +588,7 @@ static unsigned long by_size(void)
     return cases;
 }
 
-/* The reply of any status in a buffer of any size. */
+/* The reply of any status in a buffer of any size, beside plain C. */
 static unsigned long replies(void)
 {
     static const uint32_t statuses[] = {0, 1, 22, 70, 10013, 10025, 10033, 10034, 10036, 0x01020304, 0xffffffff};
@@ -582,16 +598,7 @@ static unsigned long replies(void)
             uint8_t d[72], want[72];
             memset(d, 0xa5, sizeof d);
             memset(want, 0xa5, sizeof want);
-            uint32_t told = statuses[i];
-            if (size < 24) {
-                told = 28;
-            } else {
-                put32(want, 0, statuses[i]);
-                if (statuses[i] == 0) {
-                    put32(want, 4, 1);
-                    memset(want + 8, 0, 16);
-                }
-            }
+            uint32_t told = plain_layoutreturn_reply(want, size, statuses[i]);
             if (sc_layoutreturn_reply(d, size, statuses[i]) != told || memcmp(d, want, sizeof d) != 0)
                 differs("reply", size, "another reply");
         }

@@ -3,5 +3,6 @@
 set -eu
 cd "$(dirname "$0")/../.."
 mkdir -p target/tests
-gcc -O2 -Wall -Wextra -Werror -Iinclude -Itests/layoutreturn tests/layoutreturn/layoutreturn.c target/staticlib/libwire.a -o target/tests/layoutreturn
+tests/plain/build.sh gcc plain
+gcc -std=c11 -O2 -Wall -Wextra -Werror -Iinclude -Itests/plain -o target/tests/layoutreturn tests/layoutreturn/layoutreturn.c target/plain/plain.a target/staticlib/libwire.a
 target/tests/layoutreturn tests/captures/layoutreturn-damaged.txt tests/captures/linux-layoutreturn.txt

@@ -1,15 +1,6 @@
-/* The recovery record in plain C, working in place: written from the papers alone. NAME is put before each function's name. First what the calls
- * share, then the calls in the paper's order, LAYOUTRETURN and the two lists. */
-#include "record_plain.h"
-#include <string.h>
-
-#define JOIN(P, N) P##N
-#define PASTE(P, N) JOIN(P, N)
-#define CALL(N) PASTE(NAME, N)
-#define PROTOTYPES(P) RECORD_PLAIN(P)
-PROTOTYPES(NAME)
-
-enum { HANDED_ON = -1 };
+/* The recovery record in plain C, working in place. First what the calls share, then the calls, LAYOUTRETURN and the two lists. */
+#include "layoutreturn.h"
+#include "plain.h"
 
 static struct plain_file *find(struct plain_record *r, uint64_t number)
 {
@@ -35,37 +26,23 @@ static int place(const struct plain_file *f, const uint8_t *device)
     return -1;
 }
 
-static uint32_t be32(const uint8_t *p)
-{
-    uint32_t x;
-    memcpy(&x, p, 4);
-    return __builtin_bswap32(x);
-}
-
-static uint64_t be64(const uint8_t *p)
-{
-    uint64_t x;
-    memcpy(&x, p, 8);
-    return __builtin_bswap64(x);
-}
-
 /* ---- the calls */
-void CALL(record_fresh)(struct plain_record *r)
+void FN(record_fresh)(struct plain_record *r)
 {
     memset(r, 0, sizeof *r);
 }
 
-void CALL(record_fresh_old)(struct plain_record *r)
+void FN(record_fresh_old)(struct plain_record *r)
 {
-    CALL(record_fresh)(r);
+    FN(record_fresh)(r);
     r->old = true;
 }
 
-uint32_t CALL(record_register)(struct plain_record *r, uint64_t file, const uint8_t *mirrors, size_t len)
+uint32_t FN(record_register)(struct plain_record *r, uint64_t file, const uint8_t *mirrors, size_t len)
 {
     if (r->grace)
         return 10013;
-    if (len == 0 || len > 64 || len % 16 != 0)
+    if (len == 0 || len > 16 * PLAIN_MIRRORS || len % 16 != 0)
         return 22;
     struct plain_file f = {.number = file};
     for (size_t i = 0; i < len; i += 16) {
@@ -75,7 +52,7 @@ uint32_t CALL(record_register)(struct plain_record *r, uint64_t file, const uint
     }
     if (find(r, file) != NULL)
         return 17;
-    if (r->count == 64)
+    if (r->count == PLAIN_FILES)
         return 28;
     size_t at = r->count;
     while (at > 0 && r->files[at - 1].number > file)
@@ -86,7 +63,7 @@ uint32_t CALL(record_register)(struct plain_record *r, uint64_t file, const uint
     return 0;
 }
 
-uint32_t CALL(record_open)(struct plain_record *r, uint64_t file, uint64_t client)
+uint32_t FN(record_open)(struct plain_record *r, uint64_t file, uint64_t client)
 {
     if (r->grace)
         return 10013;
@@ -95,13 +72,13 @@ uint32_t CALL(record_open)(struct plain_record *r, uint64_t file, uint64_t clien
         return 70;
     if (intent(f, client) != NULL)
         return 0;
-    if (f->intent_count == 8)
+    if (f->intent_count == PLAIN_INTENTS)
         return 28;
     f->intents[f->intent_count++] = (struct plain_intent){client, false};
     return 0;
 }
 
-uint32_t CALL(record_reclaim)(struct plain_record *r, uint64_t file, uint64_t client)
+uint32_t FN(record_reclaim)(struct plain_record *r, uint64_t file, uint64_t client)
 {
     if (!r->grace)
         return 10033;
@@ -115,7 +92,7 @@ uint32_t CALL(record_reclaim)(struct plain_record *r, uint64_t file, uint64_t cl
     return 0;
 }
 
-uint32_t CALL(record_close)(struct plain_record *r, uint64_t file, uint64_t client)
+uint32_t FN(record_close)(struct plain_record *r, uint64_t file, uint64_t client)
 {
     struct plain_file *f = find(r, file);
     if (f == NULL)
@@ -128,7 +105,7 @@ uint32_t CALL(record_close)(struct plain_record *r, uint64_t file, uint64_t clie
     return 0;
 }
 
-uint32_t CALL(record_repaired)(struct plain_record *r, uint64_t file)
+uint32_t FN(record_repaired)(struct plain_record *r, uint64_t file)
 {
     struct plain_file *f = find(r, file);
     if (f == NULL)
@@ -142,7 +119,7 @@ uint32_t CALL(record_repaired)(struct plain_record *r, uint64_t file)
     return 0;
 }
 
-uint32_t CALL(record_forget)(struct plain_record *r, uint64_t file)
+uint32_t FN(record_forget)(struct plain_record *r, uint64_t file)
 {
     if (r->grace)
         return 10013;
@@ -156,7 +133,7 @@ uint32_t CALL(record_forget)(struct plain_record *r, uint64_t file)
     return 0;
 }
 
-uint32_t CALL(record_end_grace)(struct plain_record *r)
+uint32_t FN(record_end_grace)(struct plain_record *r)
 {
     if (!r->grace)
         return 10033;
@@ -173,7 +150,7 @@ uint32_t CALL(record_end_grace)(struct plain_record *r)
     return 0;
 }
 
-uint32_t CALL(record_restart)(struct plain_record *r)
+uint32_t FN(record_restart)(struct plain_record *r)
 {
     for (struct plain_file *f = r->files; f < r->files + r->count; f++) {
         for (size_t i = 0; i < f->intent_count; i++)
@@ -186,7 +163,7 @@ uint32_t CALL(record_restart)(struct plain_record *r)
 /* ---- LAYOUTRETURN */
 /* Bytes by mirror place, and a bit for each place that had more than 2^64 - 1. */
 struct sums {
-    uint64_t bytes[4];
+    uint64_t bytes[PLAIN_MIRRORS];
     uint32_t over;
 };
 
@@ -212,13 +189,13 @@ static size_t errors(const uint8_t *s, size_t n, const struct plain_file *f, str
         return 0;
     size_t at = 4;
     for (uint32_t records = be32(s); records != 0; records--) {
-        if (n - at < 36)
+        if (n - at < ERROR_RECORD)
             return 0;
         uint32_t devices = be32(s + at + 32);
-        at += 36;
-        if ((n - at) / 24 < devices)
+        at += ERROR_RECORD;
+        if ((n - at) / DEVICE_ERROR < devices)
             return 0;
-        for (; devices != 0; devices--, at += 24) {
+        for (; devices != 0; devices--, at += DEVICE_ERROR) {
             int i = f == NULL ? -1 : place(f, s + at);
             if (i < 0)
                 h->unknown = true;
@@ -229,83 +206,43 @@ static size_t errors(const uint8_t *s, size_t n, const struct plain_file *f, str
     return at;
 }
 
-/* The place past a string or handle of at most 128 bytes and its padding; 0 where it is malformed. */
-static size_t past_opaque(const uint8_t *s, size_t n, size_t at)
-{
-    if (n - at < 4)
-        return 0;
-    size_t len = be32(s + at), padded = (len + 3) / 4 * 4;
-    if (len > 128 || n - at - 4 < padded)
-        return 0;
-    for (size_t i = len; i < padded; i++)
-        if (s[at + 4 + i] != 0)
-            return 0;
-    return at + 4 + padded;
-}
-
-/* The place past a statistics record; 0 where it is malformed. Three opaque fields follow its first 80 bytes, and 140 bytes before its boolean. */
-static size_t past_statistic(const uint8_t *s, size_t n, size_t at)
-{
-    if (n - at < 80)
-        return 0;
-    at += 80;
-    for (int i = 0; i < 3; i++)
-        if ((at = past_opaque(s, n, at)) == 0)
-            return 0;
-    return n - at < 144 || be32(s + at + 140) > 1 ? 0 : at + 144;
-}
-
-/* Step 5, and what step 7 needs of it: 10036, or 0. Nothing is counted where a stranger is named. */
+/* Step 5, and what step 7 needs of it: BADXDR, or 0. Nothing is counted where a stranger is named. */
 static uint32_t report(const uint8_t *s, size_t n, const struct plain_file *f, struct heard *h)
 {
     size_t at = errors(s, n, f, h), end;
     if (at == 0 || n - at < 4)
-        return 10036;
+        return BADXDR;
     uint32_t records = be32(s + at);
     for (at += 4; records != 0; records--, at = end) {
         if ((end = past_statistic(s, n, at)) == 0)
-            return 10036;
-        int i = f == NULL || h->unknown ? -1 : place(f, s + at + 64);
+            return BADXDR;
+        int i = f == NULL || h->unknown ? -1 : place(f, s + at + STATISTIC_DEVICE);
         if (i >= 0) {
-            add(&h->read, i, be64(s + at + 40));
-            add(&h->written, i, be64(s + at + 56));
+            add(&h->read, i, be64(s + at + STATISTIC_READ));
+            add(&h->written, i, be64(s + at + STATISTIC_WRITTEN));
         }
     }
-    return at == n ? 0 : 10036;
+    return at == n ? 0 : BADXDR;
 }
 
-/* Steps 1 to 7: the status, or HANDED_ON. What is heard counts where the status is 0. */
+/* Steps 1 to 7: the status, or PLAIN_HANDED_ON. What is heard counts where the status is 0. */
 static uint32_t returned(struct plain_record *r, uint64_t file, uint64_t client, const uint8_t *s, size_t n, struct heard *h)
 {
-    static const uint8_t zeros[16];
-    uint32_t body = 0;
-    if (n < 16 || be32(s) > 1)
-        return 10036;
-    uint32_t type = be32(s + 12);
-    if (type == 1) {
-        if (n < 52 || (body = be32(s + 48)) > 4096)
-            return 10036;
-        size_t padded = (body + 3) / 4 * 4;
-        if (n != 52 + padded || memcmp(s + 52 + body, zeros, padded - body) != 0)
-            return 10036;
-    } else if (type < 1 || type > 3 || n != 16) {
-        return 10036;
-    }
-    if (be32(s + 4) != 4)
-        return 10062;
-    if (be32(s + 8) < 1 || be32(s + 8) > 3)
-        return 10049;
-    if (type != 1)
-        return (uint32_t)HANDED_ON;
-    bool anonymous = memcmp(s + 32, zeros, 16) == 0;
-    if (anonymous && r->old)
+    uint32_t kind;
+    uint64_t at, len;
+    uint32_t status = request_check(s, n, &kind, &at, &len);
+    if (status != 0)
+        return status;
+    if (kind == REQUEST_HANDED_ON)
+        return PLAIN_HANDED_ON;
+    if (kind == REQUEST_ANONYMOUS && r->old)
         return 10025;
     if (!r->grace)
-        return anonymous ? 10033 : (uint32_t)HANDED_ON;
-    if (!anonymous)
+        return kind == REQUEST_ANONYMOUS ? 10033 : PLAIN_HANDED_ON;
+    if (kind != REQUEST_ANONYMOUS)
         return 10013;
     struct plain_file *f = find(r, file);
-    uint32_t status = report(s + 52, body, f, h);
+    status = report(s + at, len, f, h);
     if (status != 0)
         return status;
     if (f == NULL)
@@ -327,14 +264,8 @@ static uint32_t replied(struct plain_record *r, uint64_t file, uint64_t client, 
     if (reply_len < 24)
         return 28;
     uint32_t status = returned(r, file, client, request, request_len, h);
-    if (status == (uint32_t)HANDED_ON)
-        return status;
-    uint32_t word = __builtin_bswap32(status);
-    memcpy(reply, &word, 4);
-    if (status == 0) {
-        memset(reply + 4, 0, 20);
-        reply[7] = 1;
-    }
+    if (status != PLAIN_HANDED_ON)
+        reply_write(reply, status);
     return status;
 }
 
@@ -342,12 +273,12 @@ static uint32_t replied(struct plain_record *r, uint64_t file, uint64_t client, 
 static void hand_out(const struct sums *s, bool counts, uint64_t *lent, size_t len, uint32_t *over)
 {
     for (size_t i = 0; i < len; i++)
-        lent[i] = counts && i < 4 ? s->bytes[i] : 0;
+        lent[i] = counts && i < PLAIN_MIRRORS ? s->bytes[i] : 0;
     *over = counts ? s->over : 0;
 }
 
-uint32_t CALL(record_layoutreturn)(struct plain_record *r, uint64_t file, uint64_t client, const uint8_t *request, size_t request_len, uint8_t *reply, size_t reply_len,
-                                   uint64_t *read, size_t read_len, uint64_t *written, size_t written_len, uint32_t *read_over, uint32_t *written_over)
+uint32_t FN(record_layoutreturn)(struct plain_record *r, uint64_t file, uint64_t client, const uint8_t *request, size_t request_len, uint8_t *reply, size_t reply_len,
+                                 uint64_t *read, size_t read_len, uint64_t *written, size_t written_len, uint32_t *read_over, uint32_t *written_over)
 {
     struct heard h = {0};
     uint32_t status = replied(r, file, client, request, request_len, reply, reply_len, &h);
@@ -381,12 +312,12 @@ static uint32_t list(const struct plain_record *r, bool idle, uint64_t *files, s
     return 0;
 }
 
-uint32_t CALL(record_resilver)(const struct plain_record *r, uint64_t *files, size_t files_len, uint8_t *sources, size_t sources_len, uint64_t *count)
+uint32_t FN(record_resilver)(const struct plain_record *r, uint64_t *files, size_t files_len, uint8_t *sources, size_t sources_len, uint64_t *count)
 {
     return list(r, false, files, files_len, sources, sources_len, count);
 }
 
-uint32_t CALL(record_offered)(const struct plain_record *r, uint64_t *files, size_t files_len, uint8_t *sources, size_t sources_len, uint64_t *count)
+uint32_t FN(record_offered)(const struct plain_record *r, uint64_t *files, size_t files_len, uint8_t *sources, size_t sources_len, uint64_t *count)
 {
     return list(r, true, files, files_len, sources, sources_len, count);
 }

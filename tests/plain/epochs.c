@@ -1,14 +1,19 @@
-#include <stdint.h>
-#include "stellcircle.h"
-#include "epochs_plain.h"
+/* The epochs of a cluster in plain C, on masks of nodes. */
+#include "plain.h"
 
-static uint32_t bit(uint32_t node) { return (uint32_t)1 << node; }
-
-void plain_fresh(struct sc_epochs *e) { *e = (struct sc_epochs){1, 0, 0, 0, 0}; }
-
-uint32_t plain_join(struct sc_epochs *e, uint32_t node)
+static uint32_t bit(uint32_t node)
 {
-    if (node > 31)
+    return (uint32_t)1 << node;
+}
+
+void FN(epochs_fresh)(struct plain_epochs *e)
+{
+    *e = (struct plain_epochs){1, 0, 0, 0, 0};
+}
+
+uint32_t FN(epochs_join)(struct plain_epochs *e, uint32_t node)
+{
+    if (node >= PLAIN_NODES)
         return 22;
     if (e->members & bit(node))
         return 17;
@@ -18,9 +23,9 @@ uint32_t plain_join(struct sc_epochs *e, uint32_t node)
     return 0;
 }
 
-uint32_t plain_leave(struct sc_epochs *e, uint32_t node)
+uint32_t FN(epochs_leave)(struct plain_epochs *e, uint32_t node)
 {
-    if (node > 31)
+    if (node >= PLAIN_NODES)
         return 22;
     if (!(e->members & bit(node)))
         return 2;
@@ -31,9 +36,9 @@ uint32_t plain_leave(struct sc_epochs *e, uint32_t node)
     return 0;
 }
 
-uint32_t plain_start(struct sc_epochs *e, uint32_t node)
+uint32_t FN(epochs_start)(struct plain_epochs *e, uint32_t node)
 {
-    if (node > 31)
+    if (node >= PLAIN_NODES)
         return 22;
     if (!(e->members & bit(node)))
         return 2;
@@ -47,9 +52,9 @@ uint32_t plain_start(struct sc_epochs *e, uint32_t node)
     return 0;
 }
 
-uint32_t plain_enforce(struct sc_epochs *e, uint32_t node)
+uint32_t FN(epochs_enforce)(struct plain_epochs *e, uint32_t node)
 {
-    if (node > 31)
+    if (node >= PLAIN_NODES)
         return 22;
     if (!(e->members & bit(node)))
         return 2;
@@ -59,9 +64,9 @@ uint32_t plain_enforce(struct sc_epochs *e, uint32_t node)
     return 0;
 }
 
-uint32_t plain_finish(struct sc_epochs *e, uint32_t node)
+uint32_t FN(epochs_finish)(struct plain_epochs *e, uint32_t node)
 {
-    if (node > 31)
+    if (node >= PLAIN_NODES)
         return 22;
     if (!(e->members & bit(node)))
         return 2;
@@ -73,9 +78,9 @@ uint32_t plain_finish(struct sc_epochs *e, uint32_t node)
     return 0;
 }
 
-uint32_t plain_stop_enforcing(struct sc_epochs *e, uint32_t node)
+uint32_t FN(epochs_stop_enforcing)(struct plain_epochs *e, uint32_t node)
 {
-    if (node > 31)
+    if (node >= PLAIN_NODES)
         return 22;
     if (!(e->members & bit(node)))
         return 2;
@@ -85,9 +90,9 @@ uint32_t plain_stop_enforcing(struct sc_epochs *e, uint32_t node)
     return 0;
 }
 
-uint32_t plain_may_reclaim(const struct sc_epochs *e, uint32_t node)
+uint32_t FN(epochs_may_reclaim)(const struct plain_epochs *e, uint32_t node)
 {
-    if (node > 31)
+    if (node >= PLAIN_NODES)
         return 22;
     return e->recovery != 0 && (e->members & bit(node)) && (e->need & bit(node)) && (e->members & ~e->enforcing) == 0;
 }

@@ -1,38 +1,8 @@
-/* The same jobs in plain C, for the benchmark: the layout check in one pass, and the writer. NAME is put before each function's name. */
-#include <stddef.h>
-#include <stdint.h>
-#include <string.h>
+/* Layout bodies in plain C: the check, in one pass, and the writer. */
+#include "bytes.h"
+#include "plain.h"
 
-#define JOIN2(a, b) a##b
-#define JOIN(a, b) JOIN2(a, b)
-#define FN(f) JOIN(NAME, f)
-
-static uint64_t be64(const uint8_t *p)
-{
-    uint64_t x;
-    memcpy(&x, p, 8);
-    return __builtin_bswap64(x);
-}
-
-static uint32_t be32(const uint8_t *p)
-{
-    uint32_t x;
-    memcpy(&x, p, 4);
-    return __builtin_bswap32(x);
-}
-
-static void put64(uint8_t *p, uint64_t x)
-{
-    x = __builtin_bswap64(x);
-    memcpy(p, &x, 8);
-}
-
-static void put32(uint8_t *p, uint32_t x)
-{
-    x = __builtin_bswap32(x);
-    memcpy(p, &x, 4);
-}
-
+/* The offset and state of the extent before, and where the ends of all earlier extents lie: read-write ones and holes, read ones, invalid ones. */
 struct scan {
     uint64_t last, busy, read, invalid;
     uint32_t was;
@@ -43,6 +13,7 @@ static uint64_t larger(uint64_t a, uint64_t b)
     return a < b ? b : a;
 }
 
+/* Rules 3 to 7 for the next extent. */
 static uint32_t next(struct scan *s, uint64_t off, uint64_t len, uint64_t sto, uint32_t st)
 {
     if (st > 3)
