@@ -1,57 +1,63 @@
-# make run     lists a sample layout body and replays the incident
-# make test    every test, and last the gate: rt ci
-# make bench   the benchmarks, beside plain C in the same process; no part of the gate
-# make bench-counts  the same jobs counted in instructions, by valgrind
-# make fuzz    a long coverage-guided run of the wire checks (SECONDS=3600)
-# make install the header, the archives, list_layout, replay, the man pages and a pkg-config file below PREFIX
-# make fmt     formats the Rattle files
+# `make help` lists the targets. build/ has what is built, target/ what the prover makes; both can be removed.
 CC = gcc
 PREFIX = /usr/local
 DESTDIR =
 SECONDS = 3600
-LIBRARIES = wire epochs capi
 
-.DEFAULT_GOAL := test
-.PHONY: setup libraries run test bench bench-counts fuzz install install-only fmt clean
+SOURCES := crates.txt $(shell find crates -name must-fail -prune -o -type f -print)
+VERSION := $(shell sed -n 's/^\#define SC_VERSION_[A-Z]* //p' include/stellcircle.h | paste -sd.)
+WARNINGS = -Wall -Wextra -Wpedantic -Werror
 
-setup:
-	@tests/setup.sh
+.DEFAULT_GOAL := build
+.PHONY: build run test bench bench-counts fuzz install fmt clean help
 
-# the proved libraries as archives, the program, and the C host over them
-libraries: setup
-	@tests/build.sh $(LIBRARIES)
-	@tests/desk/replay.sh
+build: build/libstellcircle.a build/list_layout build/stellcircle-replay ## proves the libraries and the program, and builds them and the C host (the default)
 
-run: libraries
+# the archive; the program is made beside it
+build/libstellcircle.a: $(SOURCES) tests/build.sh
+	@tests/setup.sh build
+	@tests/build.sh
+
+build/list_layout: build/libstellcircle.a
+	@test -x $@ || tests/build.sh
+	@touch $@
+
+build/stellcircle-replay: host/replay.c include/stellcircle.h build/libstellcircle.a
+	@$(CC) -std=c11 -O2 $(WARNINGS) -Iinclude -o $@ host/replay.c build/libstellcircle.a
+
+run: build ## lists a sample layout body and replays an incident, each call beside its answer
 	@tests/show.sh
 
-test: libraries
+test: setup-test build ## every test, and last the gate: rt ci
 	@tests/all.sh
 	@rt ci
 
-bench: libraries
+bench: setup-bench build ## times the libraries beside plain C, in one process
 	@bench/run.sh
 
-bench-counts: libraries
+bench-counts: setup-counts build ## counts the instructions of the same jobs, by valgrind
 	@bench/build.sh
 	@bench/counts.py
 
-fuzz: libraries
+fuzz: setup-test build ## a long coverage-guided run of the wire checks: SECONDS=3600
 	@tests/fuzz/run.sh $(SECONDS)
 
-install: libraries install-only
+setup-%:
+	@tests/setup.sh $*
 
-# what libraries made, below PREFIX
-install-only:
+install: build ## header, archive, programs, man pages and pkg-config file below PREFIX=/usr/local
 	@install -d $(DESTDIR)$(PREFIX)/include $(DESTDIR)$(PREFIX)/lib/pkgconfig $(DESTDIR)$(PREFIX)/bin $(DESTDIR)$(PREFIX)/share/man/man1
 	@install -m 644 include/stellcircle.h $(DESTDIR)$(PREFIX)/include/
-	@for l in $(LIBRARIES); do install -m 644 target/staticlib/lib$$l.a $(DESTDIR)$(PREFIX)/lib/libstellcircle_$$l.a; done
-	@sed 's|@PREFIX@|$(PREFIX)|' stellcircle.pc.in > $(DESTDIR)$(PREFIX)/lib/pkgconfig/stellcircle.pc
-	@install -m 755 target/bin/list_layout target/tests/replay $(DESTDIR)$(PREFIX)/bin/
-	@install -m 644 man/list_layout.1 man/replay.1 $(DESTDIR)$(PREFIX)/share/man/man1/
+	@install -m 644 build/libstellcircle.a $(DESTDIR)$(PREFIX)/lib/
+	@sed 's|@PREFIX@|$(PREFIX)|; s|@VERSION@|$(VERSION)|' stellcircle.pc.in > $(DESTDIR)$(PREFIX)/lib/pkgconfig/stellcircle.pc
+	@install -m 755 build/list_layout build/stellcircle-replay $(DESTDIR)$(PREFIX)/bin/
+	@install -m 644 man/list_layout.1 man/stellcircle-replay.1 $(DESTDIR)$(PREFIX)/share/man/man1/
 
-clean:
-	rm -rf target
-
-fmt:
+fmt: ## formats the Rattle files
 	rt fmt
+
+clean: ## removes build/ and target/
+	rm -rf build target
+
+help: ## lists the targets
+	@sed -n 's/^\([a-z-]*\):.*## \(.*\)/\1|\2/p' Makefile | awk -F'|' '{ printf "  make %-13s %s\n", $$1, $$2 }'

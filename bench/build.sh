@@ -1,5 +1,5 @@
 #!/bin/sh
-# build.sh: builds the benchmarks, target/bench/{layout,report,record,epochs}, from the proved archives and the plain versions by gcc and by clang.
+# build.sh: builds the benchmarks, target/bench/{layout,report,record,epochs}, from the proved archive and the plain versions by gcc and by clang.
 set -e
 cd "$(dirname "$0")/.."
 mkdir -p target/bench
@@ -7,5 +7,5 @@ tests/plain/build.sh gcc gcc
 tests/plain/build.sh clang clang
 for program in layout report record epochs; do
     gcc -std=c11 -O2 -Wall -Wextra -Werror -DLINUX='"tests/captures/linux-layoutreturn.txt"' -Iinclude -Itests/plain -o target/bench/$program bench/$program.c \
-        target/plain/gcc.a target/plain/clang.a target/staticlib/libcapi.a target/staticlib/libwire.a target/staticlib/libepochs.a
+        target/plain/gcc.a target/plain/clang.a build/libstellcircle.a
 done

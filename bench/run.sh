@@ -9,6 +9,6 @@ printf '| %-58s | %8s | %8s | %5s | %8s | %5s |\n|---|---|---|---|---|---|\n' 'J
 for program in layout report record epochs; do
     target/bench/$program || failed=1
 done
-bench/copies.sh target/staticlib/libcapi.a
+bench/copies.sh build/libstellcircle.a
 [ $failed = 0 ] || echo "bench: an answer differs, or a limit is passed"
 exit $failed

@@ -1,7 +1,7 @@
-/* replay: runs calls, read as lines of text, on one recovery record, one epoch record and the wire checks, and prints one line for each.
+/* stellcircle-replay: runs calls, read as lines of text, on one recovery record, one epoch record and the wire checks, and prints one line for each.
    In this order: limits; lent buffers; words; the record and the epochs; printing; the commands; the table of commands; lines; main.
 
-   The form of a line (man/replay.1 says the same):
+   The form of a line (man/stellcircle-replay.1 says the same):
    - A line ends with a newline; the last one may lack it. Lines are numbered from 1, skipped ones included.
    - Words stand apart by any number of spaces, tabs and carriage returns, which may also begin and end a line. Any other byte is part of a word.
    - A line without words, or whose first word begins with '#', is skipped and prints nothing.
@@ -33,7 +33,7 @@ enum { EXIT_TROUBLE = 1, EXIT_USAGE = 2, EXIT_BROKEN = 3 };
 /* Ends the run over trouble with input, output or memory. */
 static _Noreturn void trouble(const char *what)
 {
-    fprintf(stderr, "replay: %s\n", what);
+    fprintf(stderr, "stellcircle-replay: %s\n", what);
     exit(EXIT_TROUBLE);
 }
 
@@ -44,7 +44,7 @@ static uint64_t line_number;
 static _Noreturn void broken(const char *what)
 {
     fflush(stdout);
-    fprintf(stderr, "replay: line %" PRIu64 ": %s\n", line_number, what);
+    fprintf(stderr, "stellcircle-replay: line %" PRIu64 ": %s\n", line_number, what);
     exit(EXIT_BROKEN);
 }
 
@@ -638,7 +638,7 @@ int main(int argc, char **argv)
     static struct line line;
     (void)argv;
     if (argc > 1) {
-        fputs("usage: replay < SCRIPT\n", stderr);
+        fputs("usage: stellcircle-replay < SCRIPT\n", stderr);
         return EXIT_USAGE;
     }
     set_up();

@@ -1,10 +1,15 @@
-/* stellcircle.h: the checked recovery core of a pNFS metadata server, for C and C++.
+/* stellcircle.h: the checked recovery core of a pNFS metadata server, for C and C++. Link with -lstellcircle.
+ * In this order: the version; statuses; layout bodies; LAYOUTRETURN requests; the recovery record; the epochs of a cluster.
  *
  * Every function here is compiled from Rattle code that is proved to meet its contract. What a host has to keep to, since C checks none of it:
  *   - a pointer is good for its count of elements and is not NULL, also where the count is 0;
  *   - memory behind a pointer that is not const overlaps no other argument of the same call;
- *   - no other thread reads or writes that memory during the call.
+ *   - no other thread reads or writes that memory during the call;
+ *   - buffers of bytes are good at any alignment, numbers and structs at that of their type.
  * No function keeps a pointer after it returns, allocates, locks or fails in any way but by its answer.
+ * Stack: no call needs more than 65,536 bytes.
+ *
+ * Calls answer 0, or a refusal: the first that applies in the order given beside the call. A refused call changes nothing, unless it says so.
  */
 #ifndef STELLCIRCLE_H
 #define STELLCIRCLE_H
@@ -15,6 +20,20 @@
 #ifdef __cplusplus
 extern "C" {
 #endif
+
+#if defined(__cplusplus) || (defined(__STDC_VERSION__) && __STDC_VERSION__ >= 202311L)
+#define SC_ASSERT static_assert
+#else
+#define SC_ASSERT _Static_assert
+#endif
+
+/* ---- the version ----
+ *
+ * The first number rises where a server has to be changed, the second where calls are added, the third where neither is.
+ */
+#define SC_VERSION_MAJOR 1
+#define SC_VERSION_MINOR 0
+#define SC_VERSION_PATCH 0
 
 /* ---- statuses, by NFS's own names (RFC 8881, 15.1) ----
  *
@@ -34,7 +53,7 @@ extern "C" {
 #define SC_BADIOMODE UINT32_C(10049)          /* an iomode outside 1 to 3 */
 #define SC_UNKNOWN_LAYOUTTYPE UINT32_C(10062) /* a layout type that is not 4 */
 
-/* ---- layout bodies (RFC 8154), from libwire.a ----
+/* ---- layout bodies (RFC 8154) ----
  *
  * A body is a 4-byte count n and n extents of 44 bytes: device id (16), file offset (8), length (8), storage offset (8), state (4), big-endian.
  * States: 0 read-write, 1 read, 2 invalid, 3 none. A refusal is the number of the first rule that a body breaks:
@@ -61,7 +80,7 @@ uint32_t sc_layout_write(const uint8_t *devices, size_t devices_len, const uint6
                          const uint64_t *lengths, size_t lengths_len, const uint64_t *storages, size_t storages_len,
                          const uint32_t *states, size_t states_len, uint8_t *out, size_t out_len, uint64_t *place);
 
-/* ---- LAYOUTRETURN requests (RFC 8881) and their bodies, error and statistics records (RFC 8435), from libwire.a ----
+/* ---- LAYOUTRETURN requests (RFC 8881) and their bodies, error and statistics records (RFC 8435) ----
  *
  * Pure checks: any bytes are good input. Every number that is lent is written on every call, unless said otherwise.
  */
@@ -72,22 +91,19 @@ uint32_t sc_layout_write(const uint8_t *devices, size_t devices_len, const uint6
 #define SC_REQUEST_ORDINARY 2  /* return type 1 with a stateid that is not all zeros */
 #define SC_REQUEST_ANONYMOUS 3 /* return type 1 with the all-zero stateid */
 
-/*
- * Checks the arguments of a LAYOUTRETURN, from the reclaim flag to the end of the padded body (steps 1 to 3).
+/* Checks the arguments of a LAYOUTRETURN, from the reclaim flag to the end of the padded body (steps 1 to 3).
  * Answers 0, or why it is refused: 10036 (BADXDR), 10062 (UNKNOWN_LAYOUTTYPE), 10049 (BADIOMODE), the first that applies.
  * `kind` says what the request is. For kinds 2 and 3 the body is the `*len` bytes at request + *at; otherwise both are 0.
  */
 uint32_t sc_layoutreturn_check(const uint8_t *request, size_t request_len, uint32_t *kind, uint64_t *at, uint64_t *len);
 
-/*
- * Checks a body (step 5): 0 if it is well formed, error records and statistics records alike, or 10036 (BADXDR). An address part or a file
+/* Checks a body (step 5): 0 if it is well formed, error records and statistics records alike, or 10036 (BADXDR). An address part or a file
  * handle of more than 128 bytes is malformed, and so are padding that is not zero, a boolean above 1 and spare bytes; nothing else in a record
  * is judged. Takes time by the body's length, whatever its counts say.
  */
 uint32_t sc_report_check(const uint8_t *body, size_t body_len);
 
-/*
- * Walks the device errors of a body in their order. `at`, `records` and `devices` are the cursor: set all three to 0 before the first call
+/* Walks the device errors of a body in their order. `at`, `records` and `devices` are the cursor: set all three to 0 before the first call
  * and hand them back unchanged. Answers 1 with a device error: `place` is the place of its error record (0, 1, ..), `device` is where in the
  * body the device's 16 bytes begin, `status` is its status. After the last one it answers what sc_report_check answers (0 or 10036): the
  * cursor then stays as it is, and the other three are 0.
@@ -101,8 +117,7 @@ uint32_t sc_report_check(const uint8_t *body, size_t body_len);
 uint32_t sc_report_next(const uint8_t *body, size_t body_len, uint64_t *at, uint32_t *records, uint32_t *devices, uint32_t *place,
                         uint64_t *device, uint32_t *status);
 
-/*
- * Walks the statistics records of a body in their order. `at` and `left` are the cursor: set both to 0 before the first call and hand them back
+/* Walks the statistics records of a body in their order. `at` and `left` are the cursor: set both to 0 before the first call and hand them back
  * unchanged. Answers 1 with a record: `device` is where in the body the device's 16 bytes begin, `read` and `written` are the record's own
  * counts of bytes. After the last one it answers what sc_report_check answers (0 or 10036): the cursor then stays as it is, and the other three
  * are 0. A body whose error records are malformed gets 10036 at once; records come before the fault of one whose statistics are.
@@ -115,35 +130,25 @@ uint32_t sc_report_next(const uint8_t *body, size_t body_len, uint64_t *at, uint
 uint32_t sc_statistics_next(const uint8_t *body, size_t body_len, uint64_t *at, uint32_t *left, uint64_t *device, uint64_t *read,
                             uint64_t *written);
 
-/*
- * Writes the reply of `status` at the start of the buffer, and answers `status`: 4 bytes, or for status 0 24 (the status, boolean 1, and a
+/* Writes the reply of `status` at the start of the buffer, and answers `status`: 4 bytes, or for status 0 24 (the status, boolean 1, and a
  * stateid of sixteen zero bytes). Later bytes stay. A buffer under 24 bytes is left as it is, whatever the status, and 28 is answered.
  */
 uint32_t sc_layoutreturn_reply(uint8_t *reply, size_t reply_len, uint32_t status);
 
-/* ---- the recovery record, from libcapi.a ----
+/* ---- the recovery record ----
  *
  * At most 64 files, each with 1 to 4 mirror devices and at most 8 write intents, one a client; and whether the server is in grace.
  *
  * A record is plain memory that the server owns, sizeof(struct sc_record) bytes aligned as a uint64_t. Its words are for these calls alone: a
  * server copies or stores it as a whole, and reads nothing out of it. sc_record_fresh or sc_record_fresh_old sets it up; no other call may come
  * first. An image of a record that another version of this library wrote is not read.
- * A call changes the record where it lies, and leaves it as it was where it answers a refusal. During a call nobody else reads or writes
- * the record or a buffer that is lent, and no buffer that is written overlaps the record or another buffer; calls on two records may run at
- * once. Buffers of bytes are good at any alignment, numbers at that of their type.
- *
- * Answers are 0, or the first refusal that applies in the order given:
- *   17 (EXIST)  22 (INVAL)  28 (NOSPC)  70 (STALE)  10008 (DELAY)  10013 (GRACE)  10025 (BAD_STATEID)  10033 (NO_GRACE)  10034 (RECLAIM_BAD)
+ * A call changes the record where it lies, and leaves it as it was where it answers a refusal. Calls on two records may run at once.
  */
 struct sc_record {
     uint64_t opaque[1921];
 };
 
-#if defined(__cplusplus) || (defined(__STDC_VERSION__) && __STDC_VERSION__ >= 202311L)
-static_assert(sizeof(struct sc_record) == 15368, "struct sc_record is as the library has it");
-#else
-_Static_assert(sizeof(struct sc_record) == 15368, "struct sc_record is as the library has it");
-#endif
+SC_ASSERT(sizeof(struct sc_record) == 15368, "struct sc_record is as the library has it");
 
 /* What sc_record_layoutreturn answers where a request is handed on: no status of NFS. */
 #define SC_HANDED_ON UINT32_C(0xffffffff)
@@ -208,17 +213,13 @@ uint32_t sc_record_resilver(const struct sc_record *r, uint64_t *files, size_t f
 /* The same of those files that have no intent: they are offered for copying. */
 uint32_t sc_record_offered(const struct sc_record *r, uint64_t *files, size_t files_len, uint8_t *sources, size_t sources_len, uint64_t *count);
 
-/* ---- cluster grace epochs, from libepochs.a: the epoch record of a node, and the calls on it ----
+/* ---- the grace epochs of a cluster: the epoch record of a node, and the calls on it ----
  *
- * A record is plain memory that the server owns. Each call changes it in place,
- * or leaves it as it was where the answer is a refusal. No call keeps a pointer
- * to it, allocates or blocks. A pointer must not be NULL, and must point at a
- * record that nobody else reads or writes during the call. Any values in the
- * record are taken; those that sc_epochs_fresh and these calls leave are sound:
- * recovery is 0 or current - 1, recovery isn't 0 exactly when some member has
- * NEED, and flags are members' flags.
+ * A record is plain memory that the server owns; each call changes it in place, or leaves it as it was where the answer is a refusal. Any values in
+ * the record are taken; those that sc_epochs_fresh and these calls leave are sound: recovery is 0 or current - 1, recovery isn't 0 exactly when some
+ * member has NEED, and flags are members' flags.
  *
- * Nodes are 0 to 31. A set of nodes is a mask: node n is in it where bit n is 1.
+ * Nodes are 0 to 31; every call answers 22 for a node above 31, before all else. A set of nodes is a mask: node n is in it where bit n is 1.
  */
 struct sc_epochs {
     uint64_t current;   /* C, the current epoch */
@@ -228,13 +229,10 @@ struct sc_epochs {
     uint32_t enforcing; /* ENFORCING: members that refuse ordinary requests */
 };
 
+SC_ASSERT(sizeof(struct sc_epochs) == 32, "struct sc_epochs is as the library has it");
+
 /* The record becomes fresh: C = 1, R = 0, no members. What it held is not read. */
 void sc_epochs_fresh(struct sc_epochs *e);
-
-/*
- * The calls answer 0, or a refusal: the first that applies, in the order given.
- * Every call answers 22 for a node above 31.
- */
 
 /* The node joins, with no flags. 17: it is a member. */
 uint32_t sc_epochs_join(struct sc_epochs *e, uint32_t node);
@@ -242,31 +240,24 @@ uint32_t sc_epochs_join(struct sc_epochs *e, uint32_t node);
 /* The node leaves. 2: it is no member; 10013: it has NEED. */
 uint32_t sc_epochs_leave(struct sc_epochs *e, uint32_t node);
 
-/*
- * The node restarted: it has NEED and ENFORCING. Where R is 0 this begins a
- * grace period, R = C, and C rises by 1.
- * 2: it is no member; 28: R is 0 and C is 2^64 - 1.
- */
+/* The node restarted: it has NEED and ENFORCING. Where R is 0 this begins a grace period, R = C, and C rises by 1.
+ * 2: it is no member; 28: R is 0 and C is 2^64 - 1. */
 uint32_t sc_epochs_start(struct sc_epochs *e, uint32_t node);
 
 /* The node enforces the grace period. 2: it is no member; 10033: R is 0. */
 uint32_t sc_epochs_enforce(struct sc_epochs *e, uint32_t node);
 
-/*
- * The node has recovered: its NEED goes, and the last one ends the grace
- * period, R = 0. 2: it is no member; 22: it has no NEED.
- */
+/* The node has recovered: its NEED goes, and the last one ends the grace period, R = 0. 2: it is no member; 22: it has no NEED. */
 uint32_t sc_epochs_finish(struct sc_epochs *e, uint32_t node);
 
 /* The node enforces no more. 2: it is no member; 10013: R isn't 0. */
 uint32_t sc_epochs_stop_enforcing(struct sc_epochs *e, uint32_t node);
 
-/*
- * Whether the node's clients may reclaim: 1 (yes) exactly when R isn't 0, the
- * node has NEED, and every member enforces; otherwise 0 (no), also for a node
- * that is no member; 22 for a node above 31. The record is only read.
- */
+/* Whether the node's clients may reclaim: 1 (yes) exactly when R isn't 0, the node has NEED, and every member enforces; otherwise 0 (no), also for a
+ * node that is no member; 22 for a node above 31. The record is only read. */
 uint32_t sc_epochs_may_reclaim(const struct sc_epochs *e, uint32_t node);
+
+#undef SC_ASSERT
 
 #ifdef __cplusplus
 }

@@ -1,10 +1,10 @@
 #!/bin/sh
-# all.sh: every test outside the prover, on the archives and the program that tests/build.sh made. Stops at the first that fails.
+# all.sh: every test outside the prover, on the archive and the programs that `make` built. Stops at the first that fails.
 set -e
 cd "$(dirname "$0")/.."
 mkdir -p target/tests
 tests/layout/run.sh
-python3 tests/list_layout/run.py target/bin/list_layout tests/list_layout/cases.txt
+python3 tests/list_layout/run.py build/list_layout tests/list_layout/cases.txt
 tests/layoutreturn/run.sh
 tests/epochs/run.sh
 tests/capi/run.sh
@@ -13,7 +13,7 @@ rustc -O --edition 2021 -o target/tests/second tests/second/main.rs
 rustc -O --edition 2021 --test -o target/tests/examples tests/second/main.rs
 target/tests/examples -q > target/tests/examples.log || { cat target/tests/examples.log; exit 1; }
 echo "second program: its own tests, K1 to K15 among them, pass"
-tests/desk/run.sh target/tests/replay target/tests/second
+tests/desk/run.sh build/stellcircle-replay target/tests/second
 tests/desk/sanitize.sh target/tests/second
 tests/desk/guards.sh
 tests/fuzz/run.sh 20

@@ -4,7 +4,7 @@ set -e
 cd "$(dirname "$0")/.."
 room=$(mktemp -d)
 trap 'rm -rf "$room"' EXIT
-make --no-print-directory -s install-only PREFIX="$room/usr"
+make --no-print-directory -s install PREFIX="$room/usr"
 cat > "$room/server.c" << 'C'
 #include <stellcircle.h>
 #include <stdio.h>
@@ -24,9 +24,14 @@ int main(void)
 }
 C
 export PKG_CONFIG_PATH="$room/usr/lib/pkgconfig"
+version=$(printf '#include <stellcircle.h>\nSC_VERSION_MAJOR.SC_VERSION_MINOR.SC_VERSION_PATCH\n' | gcc -E -P -I"$room/usr/include" - | tail -1 | tr -d ' ')
+[ "$(pkg-config --modversion stellcircle)" = "$version" ] || { echo "install: pkg-config has another version than the header, $version"; exit 1; }
 for compile in "gcc -std=c11" "g++ -x c++ -std=c++11" "clang -std=c11"; do
     # shellcheck disable=SC2046,SC2086
     $compile -Wall -Wextra -Wpedantic -Werror -o "$room/server" "$room/server.c" -x none $(pkg-config --cflags --libs stellcircle)
     [ "$("$room/server")" = "0 0 0 0" ] || { echo "install: the server of $compile answers otherwise"; exit 1; }
 done
-echo "install: a server links by pkg-config, with gcc, g++ and clang"
+for program in list_layout stellcircle-replay; do
+    [ -x "$room/usr/bin/$program" ] && [ -f "$room/usr/share/man/man1/$program.1" ] || { echo "install: $program or its man page is missing"; exit 1; }
+done
+echo "install: version $version; a server links by pkg-config, with gcc, g++ and clang"

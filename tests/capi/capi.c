@@ -1,5 +1,5 @@
 /*
- * The calls on a record through target/staticlib/libcapi.a: where a record lies and how big it is, marked examples K10 to K13, and random calls
+ * The calls on a record through the archive: where a record lies and how big it is, marked examples K10 to K13, and random calls
  * (seed: the argument, or 1) beside tests/plain/record.c: each answer, each reply, all totals and both lists.
  * Prints one line, and ends with 1 where anything differs.
  */

@@ -22,7 +22,7 @@ number=0
 for promise in $(grep -o '\(scribble\|breaks\)("[a-z0-9-]*"' "$desk/scribble.c" | cut -d'"' -f2 | sort -u); do
     SCRIBBLE=$promise "$work/replay" < "$work/script" > "$work/output" 2> "$work/message"
     status=$?
-    if [ $status -ne 3 ] || ! grep -q '^replay: line [0-9]*: ' "$work/message"; then
+    if [ $status -ne 3 ] || ! grep -q '^stellcircle-replay: line [0-9]*: ' "$work/message"; then
         echo "guards: FAILED: $promise: exit status $status: $(cat "$work/message")"
         exit 1
     fi

@@ -1,4 +1,4 @@
-//! The second program: speaks the lines of replay (man/replay.1) and prints the same, but is written from the paper alone, over maps and sets.
+//! The second program: speaks the lines of replay (man/stellcircle-replay.1) and prints the same, but is written from the paper alone, over maps and sets.
 //! In this order: refusals; the commands; what they print; one line; main. `words` reads words, `layout`, `layoutreturn`, `ledger` and `epochs` hold the rules, `examples` the marked ones.
 
 mod epochs;

@@ -1,4 +1,4 @@
-//! The words of a line: how a line is split, and how numbers and bytes are read from words. The rules are those of man/replay.1.
+//! The words of a line: how a line is split, and how numbers and bytes are read from words. The rules are those of man/stellcircle-replay.1.
 
 /// Bytes of a LAYOUTRETURN request or a mirror list.
 pub const MAX_REQUEST: usize = 16_384;
