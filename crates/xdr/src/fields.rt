@@ -20,14 +20,14 @@ pub fn left(s: &[u8], at: usize) -> usize
     if at < s.len() { s.len() - at } else { 0 }
 }
 
-// Whether both hold.
+// Whether both hold: a function of its own, so that the loop of `same` has no branch and the compiler can take several bytes at a time.
 fn both(a: bool, b: bool) -> bool
     ensures { λ r. ⌜ r ≡ cond a b false ⌝ }
 {
     a && b
 }
 
-// Whether two parts hold the same bytes. It looks at all of them, which the compiler can do several at a time.
+// Whether two parts hold the same bytes. It looks at all of them.
 pub fn same(a: &[u8], b: &[u8]) -> bool
     ensures { λ r. ⌜ r ≡ sameBytes (now (a .entry)) (now (b .entry)) ⌝ }
 {
