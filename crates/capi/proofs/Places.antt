@@ -6,23 +6,22 @@ use mathlib.Core.Bool.{Bool, true, false}
 use Prim.Native.Nat.{ℕ, zero, suc, _+_, _<_}
 use native.Mathlib.Omega.{arith}
 use lib.ListN.{getD, length}
-use lib.Seq.{set-getD}
-use lib.Dec.{ltb}
 use Rattle.walks.specs.Seek.{which, seek}
 use Rattle.places.specs.Places.{first, placeOr}
-use Rattle.files.specs.File.{noFile, isFile, fileAnswered, heeds, returnedFile}
+use Rattle.files.specs.File.{noFile, isFile}
 use Rattle.files.specs.declared.file.File.{File}
 use Rattle.files.specs.declared.file.FileAnswered.{FileAnswered}
-use Rattle.files.specs.declared.head.Head.{Head}
+use Rattle.layoutreturn.specs.LayoutReturn.{decisionOf, outcomeBy}
+use Rattle.layoutreturn.specs.declared.Decision.{Decision}
+use Rattle.layoutreturn.specs.declared.Decision.the-variants as decision
 use Rattle.places.specs.declared.Found.{Found}
 use Rattle.places.proofs.Loops.{Searching, searching, hit, miss, over}
-use Rattle.files.proofs.Heeding.{nothing-heeded}
-use Rattle.recovery.specs.Record.{placeIn, fileAt, putFile, onPlace, answered, returnedOf, returnedTotals, layoutreturnOf, replyAfter}
+use Rattle.recovery.specs.Record.{placeIn, putFile, onPlace}
+use Rattle.recovery.specs.LayoutReturn.{layoutreturnOf}
+use Rattle.recovery.proofs.Returning.{Placed, returnedAt, returned-at}
 use Rattle.recovery.specs.declared.record.Record.{Record}
 use Rattle.recovery.specs.declared.record.Answered.{Answered}
-use Rattle.recovery.specs.declared.layoutreturn.Returned.{Returned}
 use Rattle.capi.specs.Place.{soughtIn}
-use Rattle.capi.specs.Returned.{answeredHeard, fileReply}
 
 -- ---- the place: a search that has come to i answers o, and n is what the places after i give
 module _ {A : Type 0} (p : A → Bool) (d : A) (l : List A) (e : ℕ) (o : Found) where
@@ -49,33 +48,12 @@ at-sought n q r = putFile r (soughtIn n r) (q (getD (r .files) (soughtIn n r) no
 pub on-sought : (n : ℕ) (q : File → FileAnswered) (r : Record) → length (r .files) ≡ 64 → at-sought n q r ≡ onPlace n q r
 on-sought n q r h = ap (λ i. putFile r i (q (getD (r .files) i noFile))) (sought-place n r h)
 
--- ---- LAYOUTRETURN with its totals and its reply
--- a file that is put back as it was changes nothing
-stays : (r : Record) (i s : ℕ) → putFile r i (fileAnswered s (r .head) (getD (r .files) i noFile)) ≡ answered s r
-stays r i s = ap (λ fs. answered s (record { files = fs; head = r .head })) (set-getD (r .files) i noFile)
+-- ---- LAYOUTRETURN
+placed-anyway : (n : ℕ) (r : Record) (i : ℕ) (x : Decision) → i ≡ placeIn n r → Placed n r i x
+placed-anyway n r i (decision.Answered k) e = tt
+placed-anyway n r i decision.HandedOn e = tt
+placed-anyway n r i (decision.ReadBody len) e = e
 
-abbrev numbered : Returned → Answered
-numbered a = answered (a .status) (a .after)
-
-abbrev heedsAnswer : ℕ → Head → ℕ → List ℕ → List ℕ → File → FileAnswered
-heedsAnswer n h c s d f = heeds h f (answeredHeard n h c s d f)
-
-pub returned-so : (n c : ℕ) (s d : List ℕ) (r : Record) → length (r .files) ≡ 64 → at-sought n (heedsAnswer n (r .head) c s d) r ≡ numbered (layoutreturnOf n c s d r)
-unfolding answeredHeard layoutreturnOf returnedOf returnedFile
-returned-so n c s d r h = on-sought n (heedsAnswer n (r .head) c s d) r h ∙ by-room (ltb (length d) 24) refl
-  where
-    by-room : (b : Bool) → b ≡ ltb (length d) 24 → onPlace n (heedsAnswer n (r .head) c s d) r ≡ numbered (layoutreturnOf n c s d r)
-    by-room true e = rw (← e) (ap (putFile r (placeIn n r)) (nothing-heeded (r .head) 28 (fileAt n r)) ∙ stays r (placeIn n r) 28)
-    by-room false e = rw (← e)
-
-pub totals-so : (n c : ℕ) (s d : List ℕ) (r : Record) → length (r .files) ≡ 64 → answeredHeard n (r .head) c s d (getD (r .files) (soughtIn n r) noFile) .totals ≡ layoutreturnOf n c s d r .totals
-unfolding answeredHeard layoutreturnOf returnedTotals
-totals-so n c s d r h = ap (λ i. answeredHeard n (r .head) c s d (getD (r .files) i noFile) .totals) (sought-place n r h) ∙ by-room (ltb (length d) 24) refl
-  where
-    by-room : (b : Bool) → b ≡ ltb (length d) 24 → answeredHeard n (r .head) c s d (fileAt n r) .totals ≡ layoutreturnOf n c s d r .totals
-    by-room true e = rw (← e)
-    by-room false e = rw (← e)
-
-pub reply-so : (n c : ℕ) (s d : List ℕ) (r : Record) → length (r .files) ≡ 64 → fileReply n (r .head) c s d (getD (r .files) (soughtIn n r) noFile) ≡ replyAfter n c s d r
-unfolding fileReply replyAfter returnedOf returnedFile
-reply-so n c s d r h = ap (λ i. fileReply n (r .head) c s d (getD (r .files) i noFile)) (sought-place n r h)
+pub returned-so : (n c : ℕ) (s d : List ℕ) (r : Record) → length (r .files) ≡ 64
+    → returnedAt r (soughtIn n r) (outcomeBy n (r .head) c s (getD (r .files) (soughtIn n r) noFile) (decisionOf (r .head) s (length d))) ≡ layoutreturnOf n c s d r
+returned-so n c s d r h = returned-at n c s d r (soughtIn n r) (decisionOf (r .head) s (length d)) refl (placed-anyway n r (soughtIn n r) (decisionOf (r .head) s (length d)) (sought-place n r h))

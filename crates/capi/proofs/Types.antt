@@ -1,7 +1,14 @@
--- The record, its head, a file, what is heard of a report, and what a call on a record or a file answers, as the laws of `walks` take them.
-use Rattle.walks.proofs.Types.{Rec, Stepped, Stored}
-use Rattle.mirroring.proofs.blame.Heard as H
-use Rattle.mirroring.proofs.blame.Heard.Laws as H′
+-- The record, its head, a file, and what a call on a record or a file answers, as the laws of `walks` take them.
+use denote.Struct.Declared.{field}
+use denote.Struct.Laws as LL
+use mathlib.Core.List.{[], _∷_}
+use Rattle.walks.proofs.Types.{Rec, Stepped, Headed, Stored}
+use Rattle.mirroring.proofs.blame.Change as C
+use Rattle.mirroring.proofs.blame.Change.Laws as C′
+use Rattle.mirroring.proofs.totals.Totals as U
+use Rattle.mirroring.proofs.totals.Totals.Laws as U′
+use Rattle.layoutreturn.specs.declared.Outcome.{Outcome}
+use Rattle.layoutreturn.proofs.Outcome as O
 use Rattle.files.specs.declared.file.FileAnswered.{FileAnswered}
 use Rattle.files.proofs.file.File as F
 use Rattle.files.proofs.file.File.Laws as F′
@@ -12,8 +19,6 @@ use Rattle.recovery.specs.declared.record.Answered.{Answered}
 use Rattle.recovery.proofs.record.Record as T
 use Rattle.recovery.proofs.record.Record.Laws as T′
 use Rattle.recovery.proofs.record.Answered as S
-use Rattle.capi.specs.declared.Outcome.{Outcome}
-use Rattle.capi.proofs.Outcome as O
 
 abbrev pub whole : Rec
 whole = record { T = T.the-type; laws = T′.the-laws; plain = T′.the-plain; lowers = T′.lowers }
@@ -24,14 +29,21 @@ heading = record { T = B.the-type; laws = B′.the-laws; plain = B′.the-plain;
 abbrev pub file : Rec
 file = record { T = F.the-type; laws = F′.the-laws; plain = F′.the-plain; lowers = F′.lowers }
 
-abbrev pub hearing : Rec
-hearing = record { T = H.the-type; laws = H′.the-laws; plain = H′.the-plain; lowers = H′.lowers }
-
 abbrev pub answered : Stepped whole
 answered = record { name = S.the-type .name; D = Answered; status = λ s. s .status; rec = λ s. s .after; one = S.the-type .to-one }
 
 abbrev pub file-answered : Stored heading file
 file-answered = record { name = A.the-type .name; D = FileAnswered; status = λ s. s .status; head = λ s. s .head; rec = λ s. s .file; one = A.the-type .to-one }
 
-abbrev pub outcome : Stored heading hearing
-outcome = record { name = O.the-type .name; D = Outcome; status = λ o. o .status; head = λ o. o .head; rec = λ o. o .heard; one = O.the-type .to-one }
+abbrev pub outcome : Headed heading
+outcome = record {
+  name = O.the-type .name;
+  D = Outcome;
+  others = field C.the-type ∷ field U.the-type ∷ [];
+  status = λ o. o .status;
+  head = λ o. o .head;
+  rest = λ o. (C.the-type .to (o .change), (U.the-type .to (o .totals), tt));
+  one = O.the-type .to-one;
+  laws = (LL.field-laws C.the-type C′.the-laws C′.lowers, (LL.field-laws U.the-type U′.the-laws U′.lowers, tt));
+  plain = (LL.field-plain C.the-type C′.the-plain, (LL.field-plain U.the-type U′.the-plain, tt));
+}

@@ -6,17 +6,18 @@ mod totals;
 
 use files::file::File;
 use files::head::Head;
-use mirroring::blame::Heard;
+use layoutreturn::Outcome;
 use recovery::record::Record;
 ghost use mathlib.Core.Path.{_≡_};
 ghost use mathlib.Core.Bool.{true, false};
 ghost use Rattle.recovery.specs.Calls.{listed};
-ghost use Rattle.recovery.specs.Record.{freshAs, fresh, registerOf, openOf, reclaimOf, closeOf, repairedOf, forgetOf, endOf, restartOf, listingOf, layoutreturnOf, replyAfter};
+ghost use Rattle.recovery.specs.Record.{freshAs, fresh, registerOf, openOf, reclaimOf, closeOf, repairedOf, forgetOf, endOf, restartOf, listingOf};
+ghost use Rattle.recovery.specs.LayoutReturn.{layoutreturnOf, replyAfter};
+ghost use Rattle.layoutreturn.specs.LayoutReturn.{decisionOf, outcomeBy, replyBy};
 ghost use Prim.Native.Nat.{_<_};
+ghost use lib.ListN.{length};
 ghost use Rattle.files.specs.declared.head.Edition.the-variants.{Old};
-ghost use Rattle.files.specs.File.{heededFile};
 ghost use Rattle.capi.specs.Place.{isNumbered, soughtIn};
-ghost use Rattle.capi.specs.Returned.{outcomeOf, answeredHeard, fileReply};
 ghost use Rattle.capi.specs.Lent.{columnOf, maskOf};
 
 // ---- The place of a file.
@@ -42,60 +43,8 @@ fn position(r: &Record, file: u64) -> usize
 }
 
 // ---- By value.
-// What a LAYOUTRETURN on one file answers, but for the change of the file.
-struct Outcome {
-    status: u32,
-    head: Head,
-    heard: Heard,
-}
-
-impl Outcome {
-    // What is heard, with its status.
-    fn of(head: Head, heard: Heard) -> Outcome
-        ensures { λ o. ⌜ o ≡ outcomeOf head heard ⌝ }
-    {
-        Outcome {
-            status: heard.status,
-            head: head,
-            heard: heard,
-        }
-    }
-}
-
-// LAYOUTRETURN on one file, but for the change, with its reply: a reply buffer under 24 bytes gets 28 before all else, and where it is handed on
-// none is written.
-fn replied(
-    f: File,
-    number: u64,
-    head: Head,
-    client: u64,
-    request: &[u8],
-    reply: &mut [u8],
-) -> Outcome
-    ensures { λ o. ⌜ (o ≡ outcomeOf head (answeredHeard number head client (now (request .entry)) (now (reply .entry)) f)) × (now (reply .exit) ≡ fileReply number head client (now (request .entry)) (now (reply .entry)) f) ⌝ }
-{
-    if reply.len() < 24 {
-        let h = Heard::nothing(statuses::NOSPC);
-        return Outcome::of(head, h);
-    }
-    let h = f.heard(number, head, client, request);
-    if h.status == statuses::HANDED_ON {
-        return Outcome::of(head, h);
-    }
-    wire::reply::write(reply, h.status);
-    Outcome::of(head, h)
-}
-
-// The file once it has been heard.
-fn heeded(f: File, o: Outcome) -> File
-    ensures { λ r. ⌜ r ≡ heededFile (o .heard) f ⌝ }
-{
-    let h = o.heard;
-    f.heed(h)
-}
-
 // LAYOUTRETURN on one file, but for the change, with its reply and its totals handed out.
-fn heard(
+fn answered(
     f: File,
     number: u64,
     head: Head,
@@ -107,16 +56,16 @@ fn heard(
     read_over: &mut u32,
     written_over: &mut u32,
 ) -> Outcome
-    ensures { λ o. ⌜ (o ≡ outcomeOf head (answeredHeard number head client (now (request .entry)) (now (reply .entry)) f))
-        × (now (reply .exit) ≡ fileReply number head client (now (request .entry)) (now (reply .entry)) f)
-        × (now (read .exit) ≡ columnOf (o .heard .totals .read .bytes) (now (read .entry)))
-        × (now (written .exit) ≡ columnOf (o .heard .totals .written .bytes) (now (written .entry)))
-        × (now («read_over» .exit) ≡ maskOf (o .heard .totals .read .over))
-        × (now («written_over» .exit) ≡ maskOf (o .heard .totals .written .over)) ⌝ }
+    ensures { λ o. ⌜ (o ≡ outcomeBy number head client (now (request .entry)) f (decisionOf head (now (request .entry)) (length (now (reply .entry)))))
+        × (now (reply .exit) ≡ replyBy (o .status) (now (reply .entry)))
+        × (now (read .exit) ≡ columnOf (o .totals .read .bytes) (now (read .entry)))
+        × (now (written .exit) ≡ columnOf (o .totals .written .bytes) (now (written .entry)))
+        × (now («read_over» .exit) ≡ maskOf (o .totals .read .over))
+        × (now («written_over» .exit) ≡ maskOf (o .totals .written .over)) ⌝ }
 {
-    let o = replied(f, number, head, client, request, reply);
-    let h = o.heard;
-    let t = h.totals;
+    let d = layoutreturn::decide(head, request, reply.len());
+    let o = layoutreturn::answer(d, f, number, head, client, request, reply);
+    let t = o.totals;
     let r = t.read;
     let w = t.written;
     *read_over = totals::hand_out(r, read);
@@ -269,7 +218,7 @@ pub extern "C" fn sc_record_layoutreturn(
         × (now («written_over» .exit) ≡ maskOf (layoutreturnOf file client (now (request .entry)) (now (reply .entry)) (now (r .entry)) .totals .written .over)) ⌝ }
 {
     let i = position(r, file);
-    let s = heard(
+    let s = answered(
         r.files[i],
         file,
         r.head,
@@ -281,7 +230,7 @@ pub extern "C" fn sc_record_layoutreturn(
         read_over,
         written_over,
     );
-    r.files[i] = heeded(r.files[i], s);
+    r.files[i] = layoutreturn::apply(r.files[i], s);
     r.head = s.head;
     s.status
 }

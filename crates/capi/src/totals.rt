@@ -1,5 +1,5 @@
 // What C is handed of totals (Ticket 3): one column of them in a slice that it lends, and their flags in a mask.
-use mirroring::totals::PLACES;
+use mirroring::mirrors::PLACES;
 use mirroring::totals::Sums;
 ghost use mathlib.Core.Path.{_≡_};
 ghost use mathlib.Core.Bool.{cond};
@@ -23,7 +23,7 @@ fn column(sums: [u64; PLACES], lent: &mut [u64])
     while i < lent.len() {
         let s = sum(sums, i);
         lent[i] = s;
-        i = i + 1;
+        i += 1;
     }
 }
 
@@ -44,7 +44,7 @@ fn mask(flags: [u64; PLACES]) -> u32
     while i < PLACES {
         let up = flags[i] == 1;
         m = raised(m, i as u32, up);
-        i = i + 1;
+        i += 1;
     }
     m
 }

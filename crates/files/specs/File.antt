@@ -1,22 +1,17 @@
 -- MODEL. One file of the record, in this order: a file's fields, each changed by one function; tests; the calls on one file, with what each
--- answers and the file afterwards; LAYOUTRETURN; restart and the end of grace; the lists.
+-- answers and the file afterwards; a report; restart and the end of grace; the lists.
 use mathlib.Core.List.{List, [], _∷_, map}
 use mathlib.Core.Bool.{Bool, true, false, not, cond}
 use Prim.Native.Nat.{ℕ}
 use lib.ListN.{getD, set, replicate}
 use lib.Dec.{eqb}
-use Rattle.reports.specs.Report.{Report, reportOf}
-use Rattle.wire.specs.Request.{requestOf, bodyOf}
-use Rattle.wire.specs.declared.request.Request.{Request}
-use Rattle.wire.specs.declared.request.Request.the-variants as request
 use Rattle.places.specs.Lists.{any, chosen, fill}
-use Rattle.places.specs.Places.{first, isFound, leftOut}
-use Rattle.mirroring.specs.Mirrors.{noMirrors, unblamed, accused, sourceIn}
-use Rattle.mirroring.specs.Blame.{heardNothing, heardOf}
+use Rattle.places.specs.Places.{first, leftOut}
+use Rattle.mirroring.specs.Mirrors.{noMirrors, unblamed, blamedAt, sourceIn}
 use Rattle.intents.specs.Intents.{noIntent, noIntents, intentOf, isIntent, isFree, isKept, isLost, firstTaken, reclaimedIf, unreclaimedIntent}
 use Rattle.mirroring.specs.declared.mirrors.Mirror.{Mirror}
 use Rattle.intents.specs.declared.Intent.{Intent}
-use Rattle.mirroring.specs.declared.blame.Heard.{Heard}
+use Rattle.mirroring.specs.declared.blame.Change.{Change}
 use Rattle.files.specs.declared.file.File.{File}
 use Rattle.files.specs.declared.file.FileAnswered.{FileAnswered}
 use Rattle.files.specs.declared.head.Head.{Head}
@@ -101,49 +96,9 @@ repairedFile n h f =
 unfoldable pub forgettable : ℕ → Head → File → ℕ
 forgettable n h f = cond (h .grace) 10013 (cond (isFile n f) (cond (f .marked) 10008 (cond (firstTaken (f .intents)) 10008 0)) 70)
 
--- ---- LAYOUTRETURN
--- step 7: a report that names an unknown device only marks
-unfoldable pub heededFile : Heard → File → File
-heededFile h f = cond (h .unknown) (withMark true f) (cond (h .failed) (withMark true (withMirrors (accused (h .blamed) (f .mirrors)) f)) f)
-
--- the status of what was heard, and the file that heeds it; a refusal was heard as nothing, and changes nothing
-abbrev pub heeds : Head → File → Heard → FileAnswered
-heeds d f h = fileAnswered (h .status) d (heededFile h f)
-
--- step 6
-abbrev pub ofClient : Heard → Found → Heard
-ofClient h o = cond (isFound o) h (heardNothing 10034)
-
-abbrev pub ofIntent : ℕ → ℕ → File → Heard → Heard
-ofIntent n c f h = cond (isFile n f) (ofClient h (first (isIntent c) (f .intents))) (heardNothing 70)
-
-abbrev pub ifWhole : Heard → Heard → Heard
-ifWhole h k = cond (eqb (h .status) 0) k h
-
--- steps 5 to 7
-unfoldable pub reportHeard : ℕ → ℕ → Report → File → Heard
-reportHeard n c p f = ifWhole (heardOf (f .mirrors) p) (ofIntent n c f (heardOf (f .mirrors) p))
-
--- stands for "handed on" where a status is answered
-abbrev pub handedOnCode : ℕ
-handedOnCode = 4294967295
-
--- step 4: 0 if the body is to be read
-abbrev pub phaseOf : Head → Bool → ℕ
-phaseOf h true = cond (h .old) 10025 (cond (h .grace) 0 10033)
-phaseOf h false = cond (h .grace) 10013 handedOnCode
-
-abbrev pub asksHeard : ℕ → Head → ℕ → List ℕ → File → Request → Heard
-asksHeard n h c s f (request.Refused k) = heardNothing k
-asksHeard n h c s f request.Bulk = heardNothing handedOnCode
-asksHeard n h c s f (request.File a k) = cond (eqb (phaseOf h a) 0) (reportHeard n c (reportOf (bodyOf s)) f) (heardNothing (phaseOf h a))
-
--- steps 1 to 7
-unfoldable pub returnedHeard : ℕ → Head → ℕ → List ℕ → File → Heard
-returnedHeard n h c s f = asksHeard n h c s f (requestOf s)
-
-unfoldable pub returnedFile : ℕ → Head → ℕ → List ℕ → File → FileAnswered
-returnedFile n h c s f = heeds h f (returnedHeard n h c s f)
+-- ---- a report (LAYOUTRETURN, step 7): one that names an unknown device only marks
+unfoldable pub changedFile : Change → File → File
+changedFile x f = cond (x .unknown) (withMark true f) (cond (x .failed) (withMark true (withMirrors (blamedAt (x .blamed) (f .mirrors)) f)) f)
 
 -- ---- restart and the end of grace
 unfoldable pub restartedFile : File → File

@@ -1,23 +1,20 @@
 // One file of the record (paper 01, "The recovery record"): what it holds, and the calls on one file. A call tests for itself whether this is
-// the file of the number that it is given, is told what stands beside the files, and answers the status and both afterwards. Then what a restart
-// and the end of grace do to each file, and what the lists ask of one.
+// the file of the number that it is given, gets what stands beside the files, and answers the status and both afterwards. Then what a report, a
+// restart and the end of grace do to a file, and what the lists ask of one.
 use crate::head::Head;
 use intents::Intent;
-use mirroring::blame::Heard;
-use mirroring::blame::listen;
+use mirroring::blame::Change;
 use mirroring::mirrors::Mirror;
+use mirroring::mirrors::PLACES;
 use places::Found;
-use wire::request::Request;
 ghost use mathlib.Core.Path.{_≡_};
-ghost use Prim.Native.Nat.{_<_};
-ghost use Rattle.reports.specs.Report.{reportOf};
-ghost use Rattle.files.specs.File.{noFile, blankFile, fileOf, isFile, isVacant, openedFile, reclaimedFile, closedFile, repairedFile, forgettable, restartedFile, endedFile, isListed, isReady, sourceOf, unreclaimedBar, heededFile, reportHeard, phaseOf, returnedHeard};
+ghost use Rattle.files.specs.File.{noFile, blankFile, fileOf, isFile, isVacant, openedFile, reclaimedFile, closedFile, repairedFile, forgettable, restartedFile, endedFile, isListed, isReady, sourceOf, unreclaimedBar, changedFile};
 
 // The wide fields stand first. A place of the record is a file's if `used`.
 #[repr(C)]
 pub struct File {
     pub number: u64,
-    pub mirrors: [Mirror; 4],
+    pub mirrors: [Mirror; PLACES],
     pub intents: [Intent; 8],
     pub used: bool,
     pub marked: bool,
@@ -38,7 +35,7 @@ impl File {
     {
         let m = Mirror::none();
         let x = Intent::none();
-        let ms = [m; 4];
+        let ms = [m; PLACES];
         let xs = [x; 8];
         File {
             number: 0,
@@ -50,7 +47,7 @@ impl File {
     }
 
     // A file as it is registered.
-    pub fn new(number: u64, mirrors: [Mirror; 4]) -> File
+    pub fn new(number: u64, mirrors: [Mirror; PLACES]) -> File
         ensures { λ r. ⌜ r ≡ fileOf number mirrors ⌝ }
     {
         let x = Intent::none();
@@ -182,8 +179,8 @@ impl File {
                 file: self,
             };
         };
-        let came = intents::came(old, i);
-        let barred = unreclaimed(head.grace, came);
+        let reclaimed = intents::is_reclaimed(old, i);
+        let barred = unreclaimed(head.grace, reclaimed);
         if barred {
             return FileAnswered {
                 status: statuses::BAD_STATEID,
@@ -261,57 +258,18 @@ impl File {
         0
     }
 
-    // Steps 5 to 7 of a LAYOUTRETURN: what its report says of the file, with its totals, or 10036; 70; 10034.
-    fn report(self, number: u64, client: u64, body: &[u8]) -> Heard
-        ensures { λ r. ⌜ r ≡ reportHeard number client (reportOf (now (body .entry))) self ⌝ }
+    // The file once a report has changed it: step 7 of a LAYOUTRETURN.
+    pub fn apply(mut self, change: Change) -> File
+        ensures { λ r. ⌜ r ≡ changedFile change self ⌝ }
     {
-        let hit = self.is(number);
-        let xs = self.intents;
-        let held = intents::held(xs, client);
-        let ms = self.mirrors;
-        let h = listen(ms, body);
-        if h.status != 0 {
-            return h;
-        }
-        if !hit {
-            return Heard::nothing(statuses::STALE);
-        }
-        if !held {
-            return Heard::nothing(statuses::RECLAIM_BAD);
-        }
-        h
-    }
-
-    // Steps 1 to 7 of a LAYOUTRETURN, but for the change: what is heard; HANDED_ON where it is handed on.
-    pub fn heard(self, number: u64, head: Head, client: u64, request: &[u8]) -> Heard
-        ensures { λ r. ⌜ r ≡ returnedHeard number head client (now (request .entry)) self ⌝ }
-    {
-        match wire::request::read(request) {
-            Request::Refused(k) => Heard::nothing(k),
-            Request::Bulk => Heard::nothing(statuses::HANDED_ON),
-            Request::File { anonymous, len } => {
-                let status = phase(head, anonymous);
-                if status != 0 {
-                    return Heard::nothing(status);
-                }
-                let end = 52 + len;
-                self.report(number, client, &request[52..end])
-            }
-        }
-    }
-
-    // The file once it has been heard: step 7 of a LAYOUTRETURN.
-    pub fn heed(mut self, h: Heard) -> File
-        ensures { λ r. ⌜ r ≡ heededFile h self ⌝ }
-    {
-        if h.unknown {
+        if change.unknown {
             self.marked = true;
             return self;
         }
-        if h.failed {
+        if change.failed {
             let old = self.mirrors;
-            let flags = h.blamed;
-            let ms = mirroring::mirrors::accused(old, flags);
+            let flags = change.blamed;
+            let ms = mirroring::mirrors::with_blame(old, flags);
             self.mirrors = ms;
             self.marked = true;
             return self;
@@ -378,22 +336,4 @@ fn unreclaimed(holds: bool, reclaimed: bool) -> bool
     ensures { λ r. ⌜ r ≡ unreclaimedBar holds reclaimed ⌝ }
 {
     if holds { !reclaimed } else { false }
-}
-
-// Step 4 of a LAYOUTRETURN: 0 if its body is to be read.
-fn phase(head: Head, anonymous: bool) -> u32
-    ensures { λ r. ⌜ r ≡ phaseOf head anonymous ⌝ }
-{
-    if anonymous {
-        if head.old {
-            return statuses::BAD_STATEID;
-        }
-        if head.grace { 0 } else { statuses::NO_GRACE }
-    } else {
-        if head.grace {
-            statuses::GRACE
-        } else {
-            statuses::HANDED_ON
-        }
-    }
 }

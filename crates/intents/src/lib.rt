@@ -34,17 +34,17 @@ impl Intent {
         ensures { λ r. ⌜ r ≡ intentOf client ⌝ }
     {
         Intent {
-            client: client,
+            client,
             taken: true,
             reclaimed: false,
         }
     }
 
     // The first of two places, or the second; by its fields, so that the compiler copies no padding.
-    fn chosen(first: bool, x: Intent, y: Intent) -> Intent
-        ensures { λ r. ⌜ r ≡ cond first x y ⌝ }
+    fn chosen(test: bool, x: Intent, y: Intent) -> Intent
+        ensures { λ r. ⌜ r ≡ cond test x y ⌝ }
     {
-        if first {
+        if test {
             Intent {
                 client: x.client,
                 taken: x.taken,
@@ -95,8 +95,7 @@ impl Intent {
     pub(crate) fn reclaim(mut self, client: u64) -> Intent
         ensures { λ r. ⌜ r ≡ reclaimedIf client self ⌝ }
     {
-        let hit = self.is(client);
-        if hit {
+        if self.is(client) {
             self.reclaimed = true;
             return self;
         }
@@ -119,11 +118,10 @@ pub fn holding(intents: [Intent; 8], client: u64) -> Found
     let mut i: usize = 0;
     while i < 8 {
         let x = intents[i];
-        let hit = x.is(client);
-        if hit {
+        if x.is(client) {
             return Found::At(i);
         }
-        i = i + 1;
+        i += 1;
     }
     Found::Nothing
 }
@@ -145,11 +143,10 @@ pub fn room(intents: [Intent; 8]) -> Found
     let mut i: usize = 0;
     while i < 8 {
         let x = intents[i];
-        let hit = x.free();
-        if hit {
+        if x.free() {
             return Found::At(i);
         }
-        i = i + 1;
+        i += 1;
     }
     Found::Nothing
 }
@@ -173,7 +170,7 @@ pub fn without(intents: [Intent; 8], at: usize) -> [Intent; 8]
         let y = xs[i + 1];
         let z = Intent::chosen(at <= i, y, x);
         xs[i] = z;
-        i = i + 1;
+        i += 1;
     }
     let x = xs[7];
     let none = Intent::none();
@@ -192,13 +189,13 @@ pub fn placed(intents: [Intent; 8], at: usize, x: Intent) -> [Intent; 8]
         let y = xs[i];
         let z = Intent::chosen(i == at, x, y);
         xs[i] = z;
-        i = i + 1;
+        i += 1;
     }
     xs
 }
 
 // Whether the client of the intent at `at` has reclaimed.
-pub fn came(intents: [Intent; 8], at: usize) -> bool
+pub fn is_reclaimed(intents: [Intent; 8], at: usize) -> bool
     ensures { λ r. ⌜ r ≡ getD intents at noIntent .reclaimed ⌝ }
 {
     let mut b = false;
@@ -206,16 +203,16 @@ pub fn came(intents: [Intent; 8], at: usize) -> bool
     while i < 8 {
         let x = intents[i];
         b = either(i == at, x.reclaimed, b);
-        i = i + 1;
+        i += 1;
     }
     b
 }
 
 // The first of two answers, or the second.
-fn either(first: bool, x: bool, y: bool) -> bool
-    ensures { λ r. ⌜ r ≡ cond first x y ⌝ }
+fn either(test: bool, x: bool, y: bool) -> bool
+    ensures { λ r. ⌜ r ≡ cond test x y ⌝ }
 {
-    if first { x } else { y }
+    if test { x } else { y }
 }
 
 // Whether there is an intent that was not reclaimed since the latest restart.
@@ -225,11 +222,10 @@ pub fn lost(intents: [Intent; 8]) -> bool
     let mut i: usize = 0;
     while i < 8 {
         let x = intents[i];
-        let hit = x.is_lost();
-        if hit {
+        if x.is_lost() {
             return true;
         }
-        i = i + 1;
+        i += 1;
     }
     false
 }
@@ -245,12 +241,12 @@ pub fn staying(intents: [Intent; 8]) -> [Intent; 8]
     while i < 8 {
         let y = intents[i];
         let hit = y.stays();
-        i = i + 1;
+        i += 1;
         if !hit {
             continue;
         }
         xs[k] = y;
-        k = k + 1;
+        k += 1;
     }
     xs
 }
@@ -265,7 +261,7 @@ pub fn reclaimed(intents: [Intent; 8], client: u64) -> [Intent; 8]
         let x = xs[i];
         let y = x.reclaim(client);
         xs[i] = y;
-        i = i + 1;
+        i += 1;
     }
     xs
 }
@@ -280,7 +276,7 @@ pub fn unreclaimed(intents: [Intent; 8]) -> [Intent; 8]
         let x = xs[i];
         let y = x.forget_reclaim();
         xs[i] = y;
-        i = i + 1;
+        i += 1;
     }
     xs
 }

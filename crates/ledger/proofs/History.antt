@@ -1,36 +1,27 @@
--- DEMAND 3 is proved here: `history : Demand3`. In this order: what it is for a step to agree; each call; any list of calls.
+-- DEMAND 3 is proved here: `history : Demand3`. In this order: a step by its status, and one that changes nothing; each call; any list of calls.
 use mathlib.Core.Path.{_≡_, refl, ap, ap₂, sym, _∙_}
 use mathlib.Core.List.{List, [], _∷_}
 use mathlib.Core.Bool.{Bool, true, false, not, cond}
 use Prim.Native.Nat.{ℕ}
-use lib.Dec.{eqb, leb, ltb}
+use lib.Dec.{leb}
 use lib.ListN.{length}
-use borrow.Author.Tests.{eqb-true}
-use Rattle.wire.specs.Reply.{replyIn}
 use Rattle.places.specs.Lists.{fill}
-use Rattle.files.specs.File.{blankFile, handedOnCode, returnedHeard, returnedFile}
+use Rattle.files.specs.File.{blankFile}
 use Rattle.places.proofs.Slots.{Slots, all-replicate}
 use Rattle.files.specs.declared.head.Edition.{Edition}
 use Rattle.files.specs.declared.head.Edition.the-variants.{Current, Old}
 use Rattle.files.specs.Head.{isOld}
-use Rattle.recovery.specs.Calls.{Call, register, opening, reclaim, close, repaired, forget, endGrace, restart, layoutReturn, resilver, offered, Answer, said, replied, handedOn, listed, lend}
+use Rattle.recovery.specs.Calls.{Call, register, opening, reclaim, close, repaired, forget, endGrace, restart, layoutReturn, resilver, offered, Answer, said, listed, lend}
 use Rattle.ledger.specs.Ledger.{Ledger, noRows, judge, apply, accepted, feed, isMarked, isOffered}
-use Rattle.recovery.specs.Record.{freshAs, returning, writing, returnedOf, returnedTotals, layoutreturnOf, replyAfter}
-use Rattle.mirroring.specs.Totals.{noTotals}
-use Rattle.mirroring.specs.declared.totals.Totals.{Totals}
-use Rattle.ledger.specs.History.{Step, stepOf, returnStep, step, answers, verdicts, recordAfter, ledgerAfter}
+use Rattle.recovery.specs.Record.{freshAs}
+use Rattle.ledger.specs.History.{Step, stepOf, step, answers, verdicts, recordAfter, ledgerAfter}
 use Rattle.ledger.specs.Demand3.{ledgerOf, Holds, Demand3}
 use Rattle.recovery.specs.declared.record.Record.{Record}
 use Rattle.recovery.specs.declared.record.Answered.{Answered}
 use Rattle.ledger.proofs.Relation.{Matches, RecordAgrees}
 use Rattle.ledger.proofs.Calls.{open-agrees, reclaim-agrees, close-agrees, repaired-agrees, forget-agrees, register-agrees, end-agrees, restart-agrees, resilver-agrees, offered-agrees}
-use Rattle.ledger.proofs.Returns.{handing, ReturnAgrees, return-agrees}
+use Rattle.ledger.proofs.Returns.{StepIs, return-agrees}
 use Rattle.ledger.proofs.Sentences.{one-list}
-
--- ---- a step agrees: its answer is t, and the record that it leaves goes with the ledger that is fed the call and t
-pub record StepIs (s : Step) (l : Ledger) (x : Call) (t : Answer) : Type 0 where
-  pub answer : s .answer ≡ t
-  pub after : Matches (s .after) (feed l x t)
 
 by-status : (a : Answered) (l : Ledger) (x : Call) (t : ℕ) → RecordAgrees a l (apply l x) t → StepIs (stepOf a) l x (said t)
 unfolding feed
@@ -54,30 +45,6 @@ lend-changes-nothing ns ss a b = by (leb (length ns) (length a)) (leb (length ns
 by-list : (t : Answer) (r : Record) (l : Ledger) (x : Call) (ns ss a b : List ℕ) → t ≡ lend ns ss a b → Matches r l → StepIs (record { answer = t; after = r }) l x (lend ns ss a b)
 by-list t r l x ns ss a b e m = rw e (by-nothing (lend ns ss a b) r l x (lend-changes-nothing ns ss a b) m)
 
--- ---- LAYOUTRETURN
-handing-accepts : (t : ℕ) (ts : Totals) (d : List ℕ) (b : Bool) → eqb t handedOnCode ≡ b → accepted (cond b (handedOn ts d) (replied t ts (replyIn t d))) ≡ eqb t 0
-handing-accepts t ts d true e = rw (eqb-true t handedOnCode e)
-handing-accepts t ts d false e = refl
-
-by-return : (a : Answered) (us : Totals) (l : Ledger) (x : Call) (t : ℕ) (ts : Totals) (d : List ℕ) → RecordAgrees a l (apply l x) t → us ≡ ts
-    → StepIs (returnStep (returning a us) (writing a d)) l x (handing t ts d)
-unfolding feed
-by-return a us l x t ts d h e = record { answer = ap₂ written (h .same) e ∙ same-buffer (eqb t handedOnCode); after = rw (handing-accepts t ts d (eqb t handedOnCode) refl) (h .kept) }
-  where
-    written : ℕ → Totals → Answer
-    written s u = cond (eqb s handedOnCode) (handedOn u (cond (eqb s handedOnCode) d (replyIn s d))) (replied s u (cond (eqb s handedOnCode) d (replyIn s d)))
-
-    same-buffer : (b : Bool) → cond b (handedOn ts (cond b d (replyIn t d))) (replied t ts (cond b d (replyIn t d))) ≡ cond b (handedOn ts d) (replied t ts (replyIn t d))
-    same-buffer true = refl
-    same-buffer false = refl
-
-return-by : (r : Record) (l : Ledger) (n c : ℕ) (s d : List ℕ) (b : Bool) → ltb (length d) 24 ≡ b → Matches r l → StepIs (step r (layoutReturn n c s d)) l (layoutReturn n c s d) (judge l (layoutReturn n c s d))
-unfolding step judge apply layoutreturnOf replyAfter returnedOf returnedTotals returnedHeard returnedFile
-return-by r l n c s d true e m = rw e (by-nothing (replied 28 noTotals d) r l (layoutReturn n c s d) refl m)
-return-by r l n c s d false e m =
-    let z = return-agrees m n c s d in
-    rw (e, ← z .answer) (by-return _ _ l (layoutReturn n c s d) (z .code) (z .totals) d (z .agrees) (z .same))
-
 -- ---- each call
 pub step-agrees : (r : Record) (l : Ledger) (x : Call) → Matches r l → StepIs (step r x) l x (judge l x)
 unfolding step judge apply
@@ -89,7 +56,7 @@ step-agrees r l (repaired n) m = by-status _ l (repaired n) _ (repaired-agrees m
 step-agrees r l (forget n) m = by-status _ l (forget n) _ (forget-agrees m n)
 step-agrees r l endGrace m = by-status _ l endGrace _ (end-agrees m)
 step-agrees r l restart m = by-status _ l restart _ (restart-agrees m)
-step-agrees r l (layoutReturn n c s d) m = return-by r l n c s d (ltb (length d) 24) refl m
+step-agrees r l (layoutReturn n c s d) m = return-agrees m n c s d
 step-agrees r l (resilver a b) m = by-list _ r l (resilver a b) _ _ a b (resilver-agrees m a b) m
 step-agrees r l (offered a b) m = by-list _ r l (offered a b) _ _ a b (offered-agrees m a b) m
 

@@ -15,11 +15,12 @@ use Rattle.reports.specs.Report.{DeviceError, Whole}
 use Rattle.places.specs.Lists.{any, chosen, has, with, none}
 use Rattle.places.specs.Places.{bump, first, placeOr}
 use Rattle.mirroring.specs.Mirrors.{noMirror, isGood, placedMirrors, sourceIn}
-use Rattle.mirroring.specs.Blame.{heardOf}
+use Rattle.mirroring.specs.Blame.{assessmentOf}
 use Rattle.intents.specs.Intents.{noIntent, noIntents, intentOf, isIntent, isFree, isKept, isLost, firstTaken, reclaimedIf, unreclaimedIntent}
 use Rattle.files.specs.declared.head.Edition.the-variants.{Current}
 use Rattle.files.specs.File as file
-use Rattle.files.specs.File.{fileOf, fileAnswered, takes, opens, reclaims, leaves, mendedFile, heeds, ofClient, restartedFile, endedFile, sourceOf}
+use Rattle.files.specs.File.{fileOf, fileAnswered, takes, opens, reclaims, leaves, mendedFile, restartedFile, endedFile, sourceOf}
+use Rattle.layoutreturn.specs.LayoutReturn.{ofClient}
 use Rattle.intents.specs.declared.Intent.{Intent}
 use Rattle.mirroring.specs.declared.mirrors.Mirror.{Mirror}
 use Rattle.files.specs.declared.file.File.{File}
@@ -29,10 +30,9 @@ use Rattle.places.specs.declared.Found.the-variants.{At, Nothing}
 use Rattle.places.proofs.Slots.{All, Pairs, Slots, Focus, Room, slots-left, slots-fill, slots-any, slots-chosen, focus, roomFor, pairs-as, all-replicate, fill-length, chosen-length, leftOut-length, missing, found, full, room}
 use Rattle.places.proofs.Sets.{true-false, has-with, with-old, with-new}
 use Rattle.mirroring.proofs.Copies.{MirrorIs, NoMirror, Copies, copies-unblamed, copies-new}
-use Rattle.files.proofs.Heeding.{nothing-heeded}
 use Rattle.ledger.specs.Ledger.{Row, newRow, source, sourceFrom, openRules, intentRules, closeRules, repairedRules, opened, hasReclaimed, closed, mended, restarted, ended, reported, lost}
 use Rattle.ledger.proofs.Relation.{IntentIs, NoIntent, Intents, FileIs, with-intents, with-mark, with-copies, FileAgrees, branch}
-use Rattle.ledger.proofs.Reported.{file-after-report, heard-status}
+use Rattle.ledger.proofs.Reported.{assessedFile, nothing-changed, file-after-report, whole-status}
 
 -- ---- tests of intents
 module _ (g : Bool) (rs : List ℕ) (c : ℕ) where
@@ -173,13 +173,13 @@ file-ended f w h = record {
 
 -- ---- a report
 reports-at : {g : Bool} {f : File} {w : Row} (d : Head) (c : ℕ) (xs : List DeviceError) (ys : List Statistic) → FileIs g f w → AtIntent c g f w
-    → FileAgrees d g (heeds d f (ofClient (heardOf (f .mirrors) (Whole xs ys)) (first (isIntent c) (f .intents)))) w (reported Current xs w) (refused (intentRules c w))
+    → FileAgrees d g (assessedFile d f (ofClient (assessmentOf (f .mirrors) (Whole xs ys)) (first (isIntent c) (f .intents)))) w (reported Current xs w) (refused (intentRules c w))
 unfolding has
-reports-at {f} d c xs ys h (missing a b) = rw (a, b, nothing-heeded d 10034 f) (record { same = refl; kept = record { head = refl; file = h } })
-reports-at {f} d c xs ys h (found i y t) = rw (t .at, t .there) (record { same = heard-status (f .mirrors) xs ys; kept = record { head = refl; file = file-after-report xs ys h } })
+reports-at {f} d c xs ys h (missing a b) = rw (a, b, nothing-changed d 10034 f) (record { same = refl; kept = record { head = refl; file = h } })
+reports-at {f} d c xs ys h (found i y t) = rw (t .at, t .there) (record { same = whole-status (f .mirrors) xs ys; kept = record { head = refl; file = file-after-report xs ys h } })
 
 pub file-reported : {g : Bool} {f : File} {w : Row} (d : Head) (c : ℕ) (xs : List DeviceError) (ys : List Statistic) → FileIs g f w
-    → FileAgrees d g (heeds d f (ofClient (heardOf (f .mirrors) (Whole xs ys)) (first (isIntent c) (f .intents)))) w (reported Current xs w) (refused (intentRules c w))
+    → FileAgrees d g (assessedFile d f (ofClient (assessmentOf (f .mirrors) (Whole xs ys)) (first (isIntent c) (f .intents)))) w (reported Current xs w) (refused (intentRules c w))
 file-reported d c xs ys h = reports-at d c xs ys h (at-intent c h)
 
 -- ---- the source

@@ -1,74 +1,57 @@
--- Statistics change nothing but the totals: `only-totals`. In this order: what is heard, but for the totals; two requests; a report without device errors.
+-- Statistics change nothing but the totals: `only-totals`. In this order: an assessment, but for the totals; two requests; a report without device errors.
 use mathlib.Core.Path.{_≡_, refl, ap, sym, _∙_}
 use mathlib.Core.List.{List, []}
 use mathlib.Core.Bool.{Bool, true, false, cond}
 use Prim.Native.Nat.{ℕ}
+use native.Mathlib.Omega.{arith}
 use lib.ListN.{length}
 use lib.Seq.{set-getD}
 use lib.Dec.{eqb, ltb}
 use Rattle.reports.specs.Statistics.{Statistic}
 use Rattle.reports.specs.Report.{Report, Whole, Malformed, reportOf, withoutStatistics, over}
-use Rattle.wire.specs.Reply.{replyIn}
 use Rattle.wire.specs.Request.{requestOf, bodyOf}
 use Rattle.wire.specs.declared.request.Request.{Request}
 use Rattle.wire.specs.declared.request.Request.the-variants as request
 use Rattle.places.specs.Places.{first, isFound}
 use Rattle.intents.specs.Intents.{isIntent}
 use Rattle.mirroring.specs.Totals.{noTotals}
-use Rattle.mirroring.specs.Blame.{heardNothing, withTotals, errorsHeard, heardOf}
-use Rattle.mirroring.specs.declared.blame.Heard.{Heard}
+use Rattle.mirroring.specs.Blame.{statusOnly, withTotals, errorsAssessed, assessmentOf}
+use Rattle.mirroring.specs.declared.blame.Assessment.{Assessment}
 use Rattle.mirroring.specs.declared.totals.Totals.{Totals}
-use Rattle.files.specs.File.{noFile, isFile, heededFile, heeds, reportHeard, phaseOf, handedOnCode, asksHeard, returnedHeard, returnedFile}
+use Rattle.files.specs.File.{noFile, isFile, fileAnswered}
+use Rattle.files.proofs.Changing.{unchanged}
+use Rattle.layoutreturn.specs.LayoutReturn.{handedOnCode, phaseOf, decided, decisionOf, reportOn, outcomeOf, replyBy}
+use Rattle.layoutreturn.specs.declared.Decision.{Decision}
+use Rattle.layoutreturn.specs.declared.Decision.the-variants.{Answered, HandedOn, ReadBody}
 use Rattle.files.specs.declared.file.File.{File}
-use Rattle.files.specs.declared.head.Head.{Head}
 use Rattle.recovery.specs.Calls.{layoutReturn, Answer, replied, handedOn}
-use Rattle.recovery.specs.Record.{withFiles, placeIn, fileAt, putFile, returnedOf, layoutreturnOf, replyAfter}
+use Rattle.recovery.specs.Record.{withFiles, placeIn, fileAt, putFile}
+use Rattle.recovery.specs.LayoutReturn.{answeredBy, reportedOf, returnedBy, layoutreturnOf, replyAfter}
+use Rattle.recovery.specs.declared.returns.Returned.{Returned}
 use Rattle.recovery.specs.declared.record.Record.{Record}
-use Rattle.ledger.specs.History.{step}
+use Rattle.ledger.specs.History.{returnStep, step}
 use Rattle.ledger.specs.OnlyTotals.{kindOf, SameButStatistics, withoutTotals, Alike, OnlyTotals}
 
--- ---- what is heard, but for the totals
-abbrev quiet : Heard → Heard
+-- ---- an assessment, but for the totals
+abbrev quiet : Assessment → Assessment
 quiet h = withTotals noTotals h
 
 module _ (n c : ℕ) (f : File) where
-  quiet-report : (p : Report) → quiet (reportHeard n c p f) ≡ quiet (reportHeard n c (withoutStatistics p) f)
-  unfolding reportHeard heardOf errorsHeard
+  quiet-report : (p : Report) → quiet (reportOn n c p f) ≡ quiet (reportOn n c (withoutStatistics p) f)
+  unfolding reportOn assessmentOf errorsAssessed
   quiet-report Malformed = refl
-  quiet-report (Whole xs ys) = by _ _ (errorsHeard (f .mirrors) (Whole xs ys)) (eqb (errorsHeard (f .mirrors) (Whole xs ys) .status) 0) (isFile n f) (isFound (first (isIntent c) (f .intents)))
+  quiet-report (Whole xs ys) = by _ _ (errorsAssessed (f .mirrors) (Whole xs ys)) (eqb (errorsAssessed (f .mirrors) (Whole xs ys) .status) 0) (isFile n f) (isFound (first (isIntent c) (f .intents)))
     where
-      by : (t u : Totals) (h : Heard) (a b d : Bool)
-          → quiet (cond a (cond b (cond d (withTotals t h) (heardNothing 10034)) (heardNothing 70)) (withTotals t h))
-          ≡ quiet (cond a (cond b (cond d (withTotals u h) (heardNothing 10034)) (heardNothing 70)) (withTotals u h))
+      by : (t u : Totals) (h : Assessment) (a b d : Bool)
+          → quiet (cond a (cond b (cond d (withTotals t h) (statusOnly 10034)) (statusOnly 70)) (withTotals t h))
+          ≡ quiet (cond a (cond b (cond d (withTotals u h) (statusOnly 10034)) (statusOnly 70)) (withTotals u h))
       by t u h false b d = refl
       by t u h true false d = refl
       by t u h true true false = refl
       by t u h true true true = refl
 
-  same-report : (p q : Report) → withoutStatistics p ≡ withoutStatistics q → quiet (reportHeard n c p f) ≡ quiet (reportHeard n c q f)
-  same-report p q e = quiet-report p ∙ ap (λ (x : Report). quiet (reportHeard n c x f)) e ∙ sym (quiet-report q)
-
-  module _ (h : Head) where
-    asked-kind : (s : List ℕ) (q : Request) → asksHeard n h c s f q ≡ asksHeard n h c s f (kindOf q)
-    asked-kind s (request.Refused k) = refl
-    asked-kind s request.Bulk = refl
-    asked-kind s (request.File a k) = refl
-
-    module _ (s t : List ℕ) (e : withoutStatistics (reportOf (bodyOf s)) ≡ withoutStatistics (reportOf (bodyOf t))) where
-      asked-alike : (q : Request) → quiet (asksHeard n h c s f q) ≡ quiet (asksHeard n h c t f q)
-      asked-alike (request.Refused k) = refl
-      asked-alike request.Bulk = refl
-      asked-alike (request.File a k) = by (eqb (phaseOf h a) 0)
-        where
-          by : (b : Bool) → quiet (cond b (reportHeard n c (reportOf (bodyOf s)) f) (heardNothing (phaseOf h a))) ≡ quiet (cond b (reportHeard n c (reportOf (bodyOf t)) f) (heardNothing (phaseOf h a)))
-          by true = same-report (reportOf (bodyOf s)) (reportOf (bodyOf t)) e
-          by false = refl
-
-    heard-alike : (s t : List ℕ) → SameButStatistics s t → quiet (returnedHeard n h c s f) ≡ quiet (returnedHeard n h c t f)
-    unfolding returnedHeard
-    heard-alike s t e =
-        ap quiet (asked-kind s (requestOf s) ∙ ap (asksHeard n h c s f) (e .kind) ∙ sym (asked-kind s (requestOf t)))
-        ∙ asked-alike s t (e .errors) (requestOf t)
+  same-report : (p q : Report) → withoutStatistics p ≡ withoutStatistics q → quiet (reportOn n c p f) ≡ quiet (reportOn n c q f)
+  same-report p q e = quiet-report p ∙ ap (λ (x : Report). quiet (reportOn n c x f)) e ∙ sym (quiet-report q)
 
 -- ---- two requests
 stripped : (b : Bool) (k : ℕ) (ts : Totals) (d : List ℕ) → withoutTotals (cond b (handedOn ts d) (replied k ts d)) ≡ cond b (handedOn noTotals d) (replied k noTotals d)
@@ -76,73 +59,92 @@ stripped true k ts d = refl
 stripped false k ts d = refl
 
 module _ (r : Record) (n c : ℕ) (d : List ℕ) where
-  -- the answer without totals and the record afterwards, where the reply buffer is long enough
-  abbrev left : Heard → Record
-  left h = putFile r (placeIn n r) (heeds (r .head) (fileAt n r) h) .after
+  -- what a call leaves and is answered, but for the totals
+  abbrev left : Returned → Record
+  left a = a .after
 
-  abbrev buffer : Heard → List ℕ
-  buffer h = cond (eqb (h .status) handedOnCode) d (replyIn (h .status) d)
+  abbrev bare : Returned → Answer
+  bare a = withoutTotals (returnStep a (replyBy (a .status) d) .answer)
 
-  abbrev bare : Heard → Answer
-  bare h = cond (eqb (h .status) handedOnCode) (handedOn noTotals (buffer h)) (replied (h .status) noTotals (buffer h))
+  -- the same of an assessment of the file
+  abbrev leaves : Assessment → Record
+  leaves h = putFile r (placeIn n r) (answeredBy (fileAt n r) (outcomeOf (r .head) h)) .after
 
-  abbrev heardBy : List ℕ → Heard
-  heardBy s = returnedHeard n (r .head) c s (fileAt n r)
+  abbrev says : Assessment → Answer
+  says h = cond (eqb (h .status) handedOnCode) (handedOn noTotals (replyBy (h .status) d)) (replied (h .status) noTotals (replyBy (h .status) d))
 
-  after-is : (s : List ℕ) → step r (layoutReturn n c s d) .after ≡ cond (ltb (length d) 24) r (left (quiet (heardBy s)))
-  unfolding step layoutreturnOf returnedOf returnedFile heededFile
-  after-is s = by (ltb (length d) 24) refl
-    where
-      by : (b : Bool) → ltb (length d) 24 ≡ b → step r (layoutReturn n c s d) .after ≡ cond b r (left (quiet (heardBy s)))
-      by true e = rw e
-      by false e = rw e
+  abbrev read : List ℕ → Assessment
+  read s = reportOn n c (reportOf (bodyOf s)) (fileAt n r)
 
-  answer-is : (s : List ℕ) → withoutTotals (step r (layoutReturn n c s d) .answer) ≡ cond (ltb (length d) 24) (replied 28 noTotals d) (bare (quiet (heardBy s)))
-  unfolding step layoutreturnOf replyAfter returnedOf returnedFile
-  answer-is s = by (ltb (length d) 24) refl
-    where
-      by : (b : Bool) → ltb (length d) 24 ≡ b → withoutTotals (step r (layoutReturn n c s d) .answer) ≡ cond b (replied 28 noTotals d) (bare (quiet (heardBy s)))
-      by true e = rw e
-      by false e = rw e (stripped (eqb (heardBy s .status) handedOnCode) (heardBy s .status) _ (buffer (heardBy s)))
+  leaves-read : (s : List ℕ) → left (reportedOf n c s r) ≡ leaves (quiet (read s))
+  unfolding reportedOf
+  leaves-read s = refl
 
-  both-alike : (s t : List ℕ) → SameButStatistics s t → Alike r (layoutReturn n c s d) (layoutReturn n c t d)
-  both-alike s t e =
-      let q = heard-alike n c (fileAt n r) (r .head) s t e in
-      record {
-        after = after-is s ∙ ap (λ (h : Heard). cond (ltb (length d) 24) r (left h)) q ∙ sym (after-is t);
-        answer = answer-is s ∙ ap (λ (h : Heard). cond (ltb (length d) 24) (replied 28 noTotals d) (bare h)) q ∙ sym (answer-is t);
-      }
+  says-read : (s : List ℕ) → bare (reportedOf n c s r) ≡ says (quiet (read s))
+  unfolding reportedOf
+  says-read s = stripped (eqb (read s .status) handedOnCode) (read s .status) _ (replyBy (read s .status) d)
+
+  -- what is decided is the same whatever the body's length
+  record Same (a b : Returned) : Type 0 where
+    after : left a ≡ left b
+    answer : bare a ≡ bare b
+
+  module _ (s t : List ℕ) (e : SameButStatistics s t) where
+    reads : Same (reportedOf n c s r) (reportedOf n c t r)
+    reads =
+        let q = same-report n c (fileAt n r) (reportOf (bodyOf s)) (reportOf (bodyOf t)) (e .errors) in
+        record {
+          after = leaves-read s ∙ ap leaves q ∙ sym (leaves-read t);
+          answer = says-read s ∙ ap says q ∙ sym (says-read t);
+        }
+
+    phase-same : (j k : ℕ) (a o g : Bool) → Same (returnedBy n c s r (phaseOf a (record { grace = g; old = o }) j)) (returnedBy n c t r (phaseOf a (record { grace = g; old = o }) k))
+    phase-same j k true true g = record { after = refl; answer = refl }
+    phase-same j k true false true = reads
+    phase-same j k true false false = record { after = refl; answer = refl }
+    phase-same j k false o true = record { after = refl; answer = refl }
+    phase-same j k false o false = record { after = refl; answer = refl }
+
+    decided-same : (p q : Request) → kindOf p ≡ kindOf q → Same (returnedBy n c s r (decided (r .head) p)) (returnedBy n c t r (decided (r .head) q))
+    decided-same (request.Refused j) (request.Refused k) x = let z : j ≡ k = cc in rw z (record { after = refl; answer = refl })
+    decided-same (request.Refused j) request.Bulk x = let z : _≡_ {A = ℕ} 0 1 = cc in absurd (omega arith)
+    decided-same (request.Refused j) (request.File b k) x = let z : _≡_ {A = ℕ} 0 1 = cc in absurd (omega arith)
+    decided-same request.Bulk (request.Refused k) x = let z : _≡_ {A = ℕ} 0 1 = cc in absurd (omega arith)
+    decided-same request.Bulk request.Bulk x = record { after = refl; answer = refl }
+    decided-same request.Bulk (request.File b k) x = let z : _≡_ {A = ℕ} 0 1 = cc in absurd (omega arith)
+    decided-same (request.File a j) (request.Refused k) x = let z : _≡_ {A = ℕ} 0 1 = cc in absurd (omega arith)
+    decided-same (request.File a j) request.Bulk x = let z : _≡_ {A = ℕ} 0 1 = cc in absurd (omega arith)
+    decided-same (request.File a j) (request.File b k) x = let z : a ≡ b = cc in rw z (phase-same j k b (r .head .old) (r .head .grace))
+
+    pub both-alike : Alike r (layoutReturn n c s d) (layoutReturn n c t d)
+    unfolding step layoutreturnOf replyAfter decisionOf
+    both-alike = let z = by (ltb (length d) 24) in record { after = z .after; answer = z .answer }
+      where
+        by : (b : Bool) → Same (returnedBy n c s r (cond b (Answered 28) (decided (r .head) (requestOf s)))) (returnedBy n c t r (cond b (Answered 28) (decided (r .head) (requestOf t))))
+        by true = record { after = refl; answer = refl }
+        by false = decided-same (requestOf s) (requestOf t) (e .kind)
 
   -- ---- a report without device errors
-  nothing-left : (k : ℕ) → left (heardNothing k) ≡ r
-  unfolding heededFile
-  nothing-left k = ap (λ fs. withFiles fs r) (set-getD (r .files) (placeIn n r) noFile)
+  nothing-left : (k : ℕ) → leaves (statusOnly k) ≡ r
+  nothing-left k = ap (λ f. putFile r (placeIn n r) (fileAnswered k (r .head) f) .after) (unchanged (fileAt n r)) ∙ ap (λ fs. withFiles fs r) (set-getD (r .files) (placeIn n r) noFile)
 
-  nothing-said : (ys : List Statistic) → left (quiet (reportHeard n c (Whole [] ys) (fileAt n r))) ≡ r
-  unfolding reportHeard heardOf errorsHeard over
+  nothing-said : (ys : List Statistic) → leaves (quiet (reportOn n c (Whole [] ys) (fileAt n r))) ≡ r
+  unfolding reportOn assessmentOf errorsAssessed over
   nothing-said ys = by (isFile n (fileAt n r)) (isFound (first (isIntent c) (fileAt n r .intents)))
     where
-      by : (b d : Bool) → left (quiet (cond b (cond d (heardOf (fileAt n r .mirrors) (Whole [] ys)) (heardNothing 10034)) (heardNothing 70))) ≡ r
+      by : (b d : Bool) → leaves (quiet (cond b (cond d (assessmentOf (fileAt n r .mirrors) (Whole [] ys)) (statusOnly 10034)) (statusOnly 70))) ≡ r
       by true true = nothing-left 0
       by true false = nothing-left 10034
       by false d = nothing-left 70
 
-  quiet-nothing : (s : List ℕ) (ys : List Statistic) → reportOf (bodyOf s) ≡ Whole [] ys → (q : Request) → left (quiet (asksHeard n (r .head) c s (fileAt n r) q)) ≡ r
-  quiet-nothing s ys e (request.Refused k) = nothing-left k
-  quiet-nothing s ys e request.Bulk = nothing-left handedOnCode
-  quiet-nothing s ys e (request.File a k) = by (eqb (phaseOf (r .head) a) 0)
-    where
-      by : (b : Bool) → left (quiet (cond b (reportHeard n c (reportOf (bodyOf s)) (fileAt n r)) (heardNothing (phaseOf (r .head) a)))) ≡ r
-      by true = rw e (nothing-said ys)
-      by false = nothing-left (phaseOf (r .head) a)
+  silent-by : (s : List ℕ) (ys : List Statistic) → reportOf (bodyOf s) ≡ Whole [] ys → (x : Decision) → left (returnedBy n c s r x) ≡ r
+  silent-by s ys e (Answered k) = refl
+  silent-by s ys e HandedOn = refl
+  silent-by s ys e (ReadBody len) = leaves-read s ∙ ap (λ p. leaves (quiet (reportOn n c p (fileAt n r)))) e ∙ nothing-said ys
 
-  silent-is : (s : List ℕ) (ys : List Statistic) → reportOf (bodyOf s) ≡ Whole [] ys → step r (layoutReturn n c s d) .after ≡ r
-  unfolding returnedHeard
-  silent-is s ys e = after-is s ∙ by (ltb (length d) 24)
-    where
-      by : (b : Bool) → cond b r (left (quiet (asksHeard n (r .head) c s (fileAt n r) (requestOf s)))) ≡ r
-      by true = refl
-      by false = quiet-nothing s ys e (requestOf s)
+  pub silent-is : (s : List ℕ) (ys : List Statistic) → reportOf (bodyOf s) ≡ Whole [] ys → step r (layoutReturn n c s d) .after ≡ r
+  unfolding step layoutreturnOf
+  silent-is s ys e = silent-by s ys e (decisionOf (r .head) s (length d))
 
 pub only-totals : (r : Record) (n c : ℕ) (s d : List ℕ) → OnlyTotals r n c s d
 only-totals r n c s d = record { alike = λ t e. both-alike r n c d s t e; silent = λ ys e. silent-is r n c d s ys e }

@@ -1,5 +1,5 @@
--- A file's report, beside the ledger's: what the walk of a report hears of a file's mirrors is what step 7 says of the row. In this order: device errors; a
--- whole report, heard and heeded; steps 5 and 6.
+-- A file's report, beside the ledger's: what a report says of a file's mirrors is what step 7 says of the row. In this order: device errors; a
+-- whole report, and the file that it changes; steps 5 and 6.
 use mathlib.Core.Path.{_≡_, refl, ap, sym, _∙_}
 use mathlib.Core.List.{List, [], _∷_}
 use mathlib.Core.Bool.{Bool, true, false, not, cond}
@@ -12,75 +12,80 @@ use Rattle.reports.specs.Report.{DeviceError, Whole, Malformed, over}
 use Rattle.places.specs.Lists.{any, with}
 use Rattle.places.specs.Places.{first}
 use Rattle.mirroring.specs.Devices.{deviceOf, placeOf}
-use Rattle.mirroring.specs.Mirrors.{isDevice, accused}
-use Rattle.mirroring.specs.Blame.{heardNothing, faultAt, toldAt, toldOf, told, errorsHeard, heardOf}
+use Rattle.mirroring.specs.Mirrors.{isDevice, blamedAt}
+use Rattle.mirroring.specs.Blame.{blaming, statusOnly, withChange, withErrorAt, withErrorOf, withError, errorsAssessed, assessmentOf}
 use Rattle.mirroring.specs.TotalsSteps.{mirrorTotals}
 use Rattle.files.specs.File as file
-use Rattle.files.specs.File.{heededFile, ofIntent, reportHeard}
+use Rattle.files.specs.File.{fileAnswered, changedFile}
+use Rattle.layoutreturn.specs.LayoutReturn.{ofIntent, reportOn, outcomeOf}
 use Rattle.mirroring.specs.declared.mirrors.Mirror.{Mirror}
-use Rattle.mirroring.specs.declared.blame.Heard.{Heard}
+use Rattle.mirroring.specs.declared.blame.Assessment.{Assessment}
 use Rattle.files.specs.declared.file.File.{File}
+use Rattle.files.specs.declared.file.FileAnswered.{FileAnswered}
+use Rattle.files.specs.declared.head.Head.{Head}
+use Rattle.files.proofs.Changing.{unchanged}
+use Rattle.recovery.specs.LayoutReturn.{answeredBy}
 use Rattle.places.specs.declared.Found.{Found}
 use Rattle.places.specs.declared.Found.the-variants.{At, Nothing}
 use Rattle.places.proofs.Sets.{none-first}
 use Rattle.places.proofs.Slots.{Slots}
-use Rattle.mirroring.proofs.Copies.{Copies, MirrorIs, NoMirror, known, placed, none-accused, flag-raised}
+use Rattle.mirroring.proofs.Copies.{Copies, MirrorIs, NoMirror, known, placed, none-blamed, flag-raised}
 use Rattle.files.specs.declared.head.Edition.the-variants.{Current}
-use Rattle.mirroring.proofs.Hearing.{status-kept}
+use Rattle.mirroring.proofs.Assessing.{status-kept}
 use Rattle.ledger.specs.Ledger.{Row, names, isFault, isStranger, blame, reported, withMark, withBlame}
 use Rattle.ledger.proofs.Relation.{FileIs, with-mark, with-copies}
 
 -- no stranger has been named yet; ms are the file's mirrors
-pub record Hears (ms : List Mirror) (h : Heard) (w : Row) (bs : List ℕ) (b : Bool) : Type 0 where
-  pub copies : Copies (accused (h .blamed) ms) (w .mirrors) bs
-  pub flags : length (h .blamed) ≡ length ms
-  pub unknown : h .unknown ≡ false
-  pub failed : h .failed ≡ b
+pub record Sees (ms : List Mirror) (h : Assessment) (w : Row) (bs : List ℕ) (b : Bool) : Type 0 where
+  pub copies : Copies (blamedAt (h .change .blamed) ms) (w .mirrors) bs
+  pub flags : length (h .change .blamed) ≡ length ms
+  pub unknown : h .change .unknown ≡ false
+  pub failed : h .change .failed ≡ b
 
--- what a walk of xs hears
-pub data Heeds (ms : List Mirror) (h : Heard) (w : Row) (xs : List DeviceError) (bs : List ℕ) (b : Bool) : Type 0 where
-  named : any (isStranger w) xs ≡ true → h .unknown ≡ true → Heeds ms h w xs bs b
-  mirrors-only : any (isStranger w) xs ≡ false → Hears ms h w (blame w xs bs) (cond b true (any isFault xs)) → Heeds ms h w xs bs b
+-- what a walk of xs makes of it
+pub data Assesses (ms : List Mirror) (h : Assessment) (w : Row) (xs : List DeviceError) (bs : List ℕ) (b : Bool) : Type 0 where
+  named : any (isStranger w) xs ≡ true → h .change .unknown ≡ true → Assesses ms h w xs bs b
+  mirrors-only : any (isStranger w) xs ≡ false → Sees ms h w (blame w xs bs) (cond b true (any isFault xs)) → Assesses ms h w xs bs b
 
 -- ---- a stranger stays named
-unknown-at : (h : Heard) (s : ℕ) (o : Found) → h .unknown ≡ true → toldAt h s o .unknown ≡ true
+unknown-at : (h : Assessment) (s : ℕ) (o : Found) → h .change .unknown ≡ true → withErrorAt h s o .change .unknown ≡ true
 unknown-at h s Nothing e = refl
 unknown-at h s (At i) e = by (eqb s 0)
   where
-    by : (b : Bool) → cond b h (faultAt h i) .unknown ≡ true
+    by : (b : Bool) → cond b h (withChange (blaming i (h .change)) h) .change .unknown ≡ true
     by true = e
     by false = e
 
-unknown-stays : (ms : List Mirror) (xs : List DeviceError) (h : Heard) → h .unknown ≡ true → over (told ms) h xs .unknown ≡ true
-unfolding over toldOf
+unknown-stays : (ms : List Mirror) (xs : List DeviceError) (h : Assessment) → h .change .unknown ≡ true → over (withError ms) h xs .change .unknown ≡ true
+unfolding over withErrorOf
 unknown-stays ms [] h e = e
-unknown-stays ms (x ∷ xs) h e = unknown-stays ms xs (told ms h x) (unknown-at h (x .status) (first (isDevice (deviceOf x)) ms) e)
+unknown-stays ms (x ∷ xs) h e = unknown-stays ms xs (withError ms h x) (unknown-at h (x .status) (first (isDevice (deviceOf x)) ms) e)
 
 -- ---- one device error
-module _ (ms : List Mirror) (w : Row) (s : Slots MirrorIs NoMirror ms (w .mirrors)) (h : Heard) where
-  told-stranger : (x : DeviceError) → names w (deviceOf x) ≡ false → told ms h x .unknown ≡ true
-  unfolding toldOf
-  told-stranger x e = rw (none-first (isDevice (deviceOf x)) ms (known (deviceOf x) s ∙ e))
+module _ (ms : List Mirror) (w : Row) (s : Slots MirrorIs NoMirror ms (w .mirrors)) (h : Assessment) where
+  error-stranger : (x : DeviceError) → names w (deviceOf x) ≡ false → withError ms h x .change .unknown ≡ true
+  unfolding withErrorOf
+  error-stranger x e = rw (none-first (isDevice (deviceOf x)) ms (known (deviceOf x) s ∙ e))
 
-  told-at : {bs : List ℕ} {b : Bool} (t i : ℕ) → i < length ms → Hears ms h w bs b → (z : Bool) → eqb t 0 ≡ z → Hears ms (toldAt h t (At i)) w (cond (not z) (with i bs) bs) (cond (not z) true b)
-  told-at t i p k true e = rw e k
-  told-at t i p k false e = rw e (record {
-    copies = flag-raised ms (h .blamed) i (omega (arith, p, k .flags)) p (k .copies);
-    flags = length-set (h .blamed) i true ∙ k .flags;
+  error-at : {bs : List ℕ} {b : Bool} (t i : ℕ) → i < length ms → Sees ms h w bs b → (z : Bool) → eqb t 0 ≡ z → Sees ms (withErrorAt h t (At i)) w (cond (not z) (with i bs) bs) (cond (not z) true b)
+  error-at t i p k true e = rw e k
+  error-at t i p k false e = rw e (record {
+    copies = flag-raised ms (h .change .blamed) i (omega (arith, p, k .flags)) p (k .copies);
+    flags = length-set (h .change .blamed) i true ∙ k .flags;
     unknown = k .unknown;
     failed = refl;
   })
 
-  told-known : {bs : List ℕ} {b : Bool} (x : DeviceError) → Hears ms h w bs b → names w (deviceOf x) ≡ true
-      → Hears ms (told ms h x) w (cond (isFault x) (with (placeOf (deviceOf x) (w .mirrors)) bs) bs) (cond (isFault x) true b)
-  unfolding toldOf
-  told-known x k e =
+  error-known : {bs : List ℕ} {b : Bool} (x : DeviceError) → Sees ms h w bs b → names w (deviceOf x) ≡ true
+      → Sees ms (withError ms h x) w (cond (isFault x) (with (placeOf (deviceOf x) (w .mirrors)) bs) bs) (cond (isFault x) true b)
+  unfolding withErrorOf
+  error-known x k e =
       let z = placed (deviceOf x) s e in
-      rw (z .at) (told-at (x .status) (placeOf (deviceOf x) (w .mirrors)) (z .inside) k (eqb (x .status) 0) refl)
+      rw (z .at) (error-at (x .status) (placeOf (deviceOf x) (w .mirrors)) (z .inside) k (eqb (x .status) 0) refl)
 
 -- ---- all of them
-more : (ms : List Mirror) (h : Heard) (w : Row) (x : DeviceError) (xs : List DeviceError) (bs : List ℕ) (b : Bool) → isStranger w x ≡ false
-    → Heeds ms h w xs (cond (isFault x) (with (placeOf (deviceOf x) (w .mirrors)) bs) bs) (cond (isFault x) true b) → Heeds ms h w (x ∷ xs) bs b
+more : (ms : List Mirror) (h : Assessment) (w : Row) (x : DeviceError) (xs : List DeviceError) (bs : List ℕ) (b : Bool) → isStranger w x ≡ false
+    → Assesses ms h w xs (cond (isFault x) (with (placeOf (deviceOf x) (w .mirrors)) bs) bs) (cond (isFault x) true b) → Assesses ms h w (x ∷ xs) bs b
 unfolding any blame
 more ms h w x xs bs b e (named p q) = named (rw (e, p)) q
 more ms h w x xs bs b e (mirrors-only p q) = mirrors-only (rw (e, p)) (record { copies = q .copies; flags = q .flags; unknown = q .unknown; failed = q .failed ∙ by (isFault x) b (any isFault xs) })
@@ -91,52 +96,59 @@ more ms h w x xs bs b e (mirrors-only p q) = mirrors-only (rw (e, p)) (record { 
     by false b c = refl
 
 module _ (ms : List Mirror) (w : Row) (s : Slots MirrorIs NoMirror ms (w .mirrors)) where
-  heard-item : (h : Heard) (x : DeviceError) (xs : List DeviceError) (bs : List ℕ) (b z : Bool) → names w (deviceOf x) ≡ z → Hears ms h w bs b
-      → ((cs : List ℕ) (c : Bool) → Hears ms (told ms h x) w cs c → Heeds ms (over (told ms) (told ms h x) xs) w xs cs c) → Heeds ms (over (told ms) (told ms h x) xs) w (x ∷ xs) bs b
+  assessed-item : (h : Assessment) (x : DeviceError) (xs : List DeviceError) (bs : List ℕ) (b z : Bool) → names w (deviceOf x) ≡ z → Sees ms h w bs b
+      → ((cs : List ℕ) (c : Bool) → Sees ms (withError ms h x) w cs c → Assesses ms (over (withError ms) (withError ms h x) xs) w xs cs c) → Assesses ms (over (withError ms) (withError ms h x) xs) w (x ∷ xs) bs b
   unfolding any
-  heard-item h x xs bs b true e k f = more ms _ w x xs bs b (ap not e) (f _ _ (told-known ms w s h x k e))
-  heard-item h x xs bs b false e k f = named (rw e) (unknown-stays ms xs (told ms h x) (told-stranger ms w s h x e))
+  assessed-item h x xs bs b true e k f = more ms _ w x xs bs b (ap not e) (f _ _ (error-known ms w s h x k e))
+  assessed-item h x xs bs b false e k f = named (rw e) (unknown-stays ms xs (withError ms h x) (error-stranger ms w s h x e))
 
-  pub heard-all : (xs : List DeviceError) (h : Heard) (bs : List ℕ) (b : Bool) → Hears ms h w bs b → Heeds ms (over (told ms) h xs) w xs bs b
+  pub assessed-all : (xs : List DeviceError) (h : Assessment) (bs : List ℕ) (b : Bool) → Sees ms h w bs b → Assesses ms (over (withError ms) h xs) w xs bs b
   unfolding over any blame
-  heard-all [] h bs b k = mirrors-only refl (record { copies = k .copies; flags = k .flags; unknown = k .unknown; failed = k .failed ∙ last b })
+  assessed-all [] h bs b k = mirrors-only refl (record { copies = k .copies; flags = k .flags; unknown = k .unknown; failed = k .failed ∙ last b })
     where
       last : (b : Bool) → b ≡ cond b true false
       last true = refl
       last false = refl
-  heard-all (x ∷ xs) h bs b k = heard-item h x xs bs b (names w (deviceOf x)) refl k (λ cs c j. heard-all xs (told ms h x) cs c j)
+  assessed-all (x ∷ xs) h bs b k = assessed-item h x xs bs b (names w (deviceOf x)) refl k (λ cs c j. assessed-all xs (withError ms h x) cs c j)
 
 -- ---- a whole report
-pub heeds-report : {g : Bool} {f : File} {w : Row} (xs : List DeviceError) → FileIs g f w → Heeds (f .mirrors) (over (told (f .mirrors)) (heardNothing 0) xs) w xs (w .blamed) false
-heeds-report {g} {f} {w} xs k = heard-all (f .mirrors) w (k .copies .mirrors) xs (heardNothing 0) (w .blamed) false (record { copies = rw (none-accused 4 (f .mirrors)) (k .copies); flags = sym (k .copies .four); unknown = refl; failed = refl })
+pub assesses-report : {g : Bool} {f : File} {w : Row} (xs : List DeviceError) → FileIs g f w → Assesses (f .mirrors) (over (withError (f .mirrors)) (statusOnly 0) xs) w xs (w .blamed) false
+assesses-report {g} {f} {w} xs k = assessed-all (f .mirrors) w (k .copies .mirrors) xs (statusOnly 0) (w .blamed) false (record { copies = rw (none-blamed 4 (f .mirrors)) (k .copies); flags = sym (k .copies .four); unknown = refl; failed = refl })
 
-after-report : {g : Bool} {f : File} {w : Row} (h : Heard) (xs : List DeviceError) → FileIs g f w → Heeds (f .mirrors) h w xs (w .blamed) false → FileIs g (heededFile h f) (reported Current xs w)
-unfolding heededFile
+after-report : {g : Bool} {f : File} {w : Row} (h : Assessment) (xs : List DeviceError) → FileIs g f w → Assesses (f .mirrors) h w xs (w .blamed) false → FileIs g (changedFile (h .change) f) (reported Current xs w)
+unfolding changedFile
 after-report h xs k (named p q) = rw (p, q) (with-mark k refl)
 after-report {g} {f} {w} h xs k (mirrors-only p q) = rw (p, q .unknown) (by (any isFault xs) (q .failed))
   where
-    by : (z : Bool) → h .failed ≡ z → FileIs g
-        (cond (h .failed) (file.withMark true (file.withMirrors (accused (h .blamed) (f .mirrors)) f)) f)
+    by : (z : Bool) → h .change .failed ≡ z → FileIs g
+        (cond (h .change .failed) (file.withMark true (file.withMirrors (blamedAt (h .change .blamed) (f .mirrors)) f)) f)
         (cond z (withMark true (withBlame (blame w xs (w .blamed)) w)) w)
     by true e = rw e (with-mark (with-copies k (q .copies)) refl)
     by false e = rw e k
 
 pub file-after-report : {g : Bool} {f : File} {w : Row} (xs : List DeviceError) (ys : List Statistic) → FileIs g f w
-    → FileIs g (heededFile (heardOf (f .mirrors) (Whole xs ys)) f) (reported Current xs w)
-unfolding heededFile heardOf errorsHeard
-file-after-report {g} {f} {w} xs ys k = after-report (over (told (f .mirrors)) (heardNothing 0) xs) xs k (heeds-report xs k)
+    → FileIs g (changedFile (assessmentOf (f .mirrors) (Whole xs ys) .change) f) (reported Current xs w)
+unfolding changedFile assessmentOf errorsAssessed
+file-after-report {g} {f} {w} xs ys k = after-report (over (withError (f .mirrors)) (statusOnly 0) xs) xs k (assesses-report xs k)
+
+-- ---- what is answered of an assessment, and the file afterwards; a refusal changes nothing
+abbrev pub assessedFile : Head → File → Assessment → FileAnswered
+assessedFile d f a = answeredBy f (outcomeOf d a)
+
+pub nothing-changed : (d : Head) (k : ℕ) (f : File) → assessedFile d f (statusOnly k) ≡ fileAnswered k d f
+nothing-changed d k f = ap (fileAnswered k d) (unchanged f)
 
 -- ---- steps 5 and 6
-pub heard-status : (ms : List Mirror) (xs : List DeviceError) (ys : List Statistic) → heardOf ms (Whole xs ys) .status ≡ 0
-unfolding heardOf errorsHeard
-heard-status ms xs ys = status-kept ms xs (heardNothing 0)
+pub whole-status : (ms : List Mirror) (xs : List DeviceError) (ys : List Statistic) → assessmentOf ms (Whole xs ys) .status ≡ 0
+unfolding assessmentOf errorsAssessed
+whole-status ms xs ys = status-kept ms xs (statusOnly 0)
 
-pub whole-heard : (n c : ℕ) (xs : List DeviceError) (ys : List Statistic) (f : File) → reportHeard n c (Whole xs ys) f ≡ ofIntent n c f (heardOf (f .mirrors) (Whole xs ys))
-unfolding reportHeard
-whole-heard n c xs ys f =
-    let h = heardOf (f .mirrors) (Whole xs ys) in
-    ap (λ (k : ℕ). cond (eqb k 0) (ofIntent n c f h) h) (heard-status (f .mirrors) xs ys)
+pub whole-report : (n c : ℕ) (xs : List DeviceError) (ys : List Statistic) (f : File) → reportOn n c (Whole xs ys) f ≡ ofIntent n c f (assessmentOf (f .mirrors) (Whole xs ys))
+unfolding reportOn
+whole-report n c xs ys f =
+    let h = assessmentOf (f .mirrors) (Whole xs ys) in
+    ap (λ (k : ℕ). cond (eqb k 0) (ofIntent n c f h) h) (whole-status (f .mirrors) xs ys)
 
-pub malformed-heard : (n c : ℕ) (f : File) → reportHeard n c Malformed f ≡ heardNothing 10036
-unfolding reportHeard heardOf errorsHeard mirrorTotals
-malformed-heard n c f = refl
+pub malformed-report : (n c : ℕ) (f : File) → reportOn n c Malformed f ≡ statusOnly 10036
+unfolding reportOn assessmentOf errorsAssessed mirrorTotals
+malformed-report n c f = refl

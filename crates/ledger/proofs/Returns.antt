@@ -1,13 +1,15 @@
 -- LAYOUTRETURN on the record: its answer, its reply and the record that it leaves are what the ledger says. In this order: refusals of steps 1 and 2; steps 5 to
--- 7; steps 1 to 7; the answer.
-use mathlib.Core.Path.{_≡_, refl, ap, _∙_}
-use mathlib.Core.List.{List}
+-- 7; a step of a history; step 4; 28 and steps 1 to 7.
+use mathlib.Core.Path.{_≡_, refl, sym, subst}
+use mathlib.Core.List.{List, [], _∷_}
 use mathlib.Core.Bool.{Bool, true, false, not, cond}
 use Prim.Native.Nat.{ℕ, _<_}
 use native.Mathlib.Omega.{arith}
-use lib.Dec.{eqb}
+use lib.ListN.{length}
+use lib.Dec.{eqb, ltb}
 use borrow.Author.Tests.{ne-eqb}
-use Rattle.statuses.specs.Rules.{refused}
+use Rattle.statuses.specs.Names.{Bytes, Client, FileNumber}
+use Rattle.statuses.specs.Rules.{_⇒_, firstOf, refused}
 use Rattle.reports.specs.Report.{DeviceError, Report, Whole, Malformed, reportOf}
 use Rattle.wire.specs.Request.{requestOf, bodyOf}
 use Rattle.wire.specs.Reply.{replyIn}
@@ -19,20 +21,22 @@ use Rattle.mirroring.specs.Totals.{noTotals}
 use Rattle.mirroring.specs.declared.totals.Totals.{Totals}
 use Rattle.files.specs.Head.{isOld}
 use Rattle.files.specs.declared.head.Edition.{Edition}
-use Rattle.files.specs.File.{heeds, reportHeard, asksHeard, handedOnCode}
 use Rattle.files.specs.declared.file.File.{File}
 use Rattle.files.specs.declared.file.FileAnswered.{FileAnswered}
-use Rattle.files.specs.declared.head.Head.{Head}
-use Rattle.files.proofs.Heeding.{nothing-heeded}
-use Rattle.recovery.specs.Calls.{Answer, replied, handedOn}
-use Rattle.ledger.specs.Ledger.{Row, Ledger, registered, rowOf, holds, intentRules, reportRules, judgeRequest, refusal, isFault, isStranger, blame, withMark, withBlame, reported, errorsOf, onRow}
-use Rattle.recovery.specs.Record.{fileAt, onPlace}
+use Rattle.layoutreturn.specs.LayoutReturn.{handedOnCode, phaseOf, decided, decisionOf, reportOn, replyBy}
+use Rattle.layoutreturn.specs.declared.Decision.the-variants.{Answered}
+use Rattle.recovery.specs.Calls.{Call, layoutReturn, Answer, replied, handedOn}
+use Rattle.recovery.specs.Record.{onPlace}
+use Rattle.recovery.specs.LayoutReturn.{returning, reportedOf, returnedBy, layoutreturnOf, replyAfter}
 use Rattle.recovery.specs.declared.record.Record.{Record}
+use Rattle.recovery.specs.declared.returns.Returned.{Returned}
+use Rattle.ledger.specs.Ledger.{Row, Ledger, registered, rowOf, holds, intentRules, reportRules, rowTotals, refusal, reply, judgeRequest, judge, isFault, isStranger, blame, withMark, withBlame, reported, errorsOf, onRow, apply, feed}
+use Rattle.ledger.specs.History.{Step, returnStep, step}
 use Rattle.ledger.proofs.Relation.{Matches, RecordAgrees}
-use Rattle.ledger.proofs.Reported.{whole-heard, malformed-heard}
+use Rattle.ledger.proofs.Reported.{assessedFile, nothing-changed, whole-report, malformed-report}
 use Rattle.ledger.proofs.OneFile.{file-reported}
 use Rattle.ledger.proofs.Calls.{refused-any, on-file}
-use Rattle.ledger.proofs.Totalled.{totalsIn, asked-totals}
+use Rattle.ledger.proofs.Totalled.{report-totals}
 
 -- ---- a request as steps 1 and 2 leave it
 pub record Refusal (k : ℕ) : Type 0 where
@@ -59,84 +63,91 @@ reported-number o xs w = by (isOld o) (any (isStranger w) xs) (any isFault xs)
     by false false true = refl
     by false false false = refl
 
-abbrev reportsFile : Head → ℕ → ℕ → Report → File → FileAnswered
-reportsFile d n c p f = heeds d f (reportHeard n c p f)
+abbrev reportsFile : Record → FileNumber → Client → Report → File → FileAnswered
+reportsFile r n c p f = assessedFile (r .head) f (reportOn n c p f)
 
-report-agrees : {r : Record} {l : Ledger} (n c : ℕ) (p : Report) → isOld (l .edition) ≡ false → Matches r l → RecordAgrees (onPlace n (reportsFile (r .head) n c p) r) l (onRow l n (reported (l .edition) (errorsOf p))) (refused (reportRules l n c p))
-report-agrees {r} n c Malformed q m = refused-any n (reportsFile (r .head) n c Malformed) 10036 refl (λ f. rw (malformed-heard n c f) (nothing-heeded (r .head) 10036 f)) m
-report-agrees {r} {l} n c (Whole xs ys) q m = on-file n (reportsFile (r .head) n c (Whole xs ys)) (reported (l .edition) xs) (λ w. refused (intentRules c w)) (reported-number (l .edition) xs)
-    (λ f w i k. rw (whole-heard n c xs ys f, i, q) (file-reported (r .head) c xs ys k))
-    (λ f i. rw (whole-heard n c xs ys f, i) (nothing-heeded (r .head) 70 f)) m
-
--- ---- steps 1 to 7: the status that the ledger says, or the number that stands for "handed on"
-abbrev codeOf : Ledger → ℕ → ℕ → List ℕ → Request → ℕ
-codeOf l n c s (request.Refused k) = k
-codeOf l n c s request.Bulk = handedOnCode
-codeOf l n c s (request.File true k) = cond (isOld (l .edition)) 10025 (cond (not (l .grace)) 10033 (refused (reportRules l n c (reportOf (bodyOf s)))))
-codeOf l n c s (request.File false k) = cond (l .grace) 10013 handedOnCode
-
-module _ {r : Record} {l : Ledger} (m : Matches r l) (n c : ℕ) (s : List ℕ) where
-  abbrev asks : Bool → Bool → Request → File → FileAnswered
-  asks o g q f = heeds (r .head) f (asksHeard n (record { grace = g; old = o }) c s f q)
-
-  abbrev Asked : Request → ℕ → Type 0
-  Asked q t = RecordAgrees (onPlace n (asks (r .head .old) (r .head .grace) q) r) l (onRow l n (reported (l .edition) (errorsOf (reportOf (bodyOf s))))) t
-
-  at-phase : (q : Request) {t : ℕ} (o b : Bool) → r .head .old ≡ o → l .grace ≡ b → RecordAgrees (onPlace n (asks o b q) r) l (onRow l n (reported (l .edition) (errorsOf (reportOf (bodyOf s))))) t → Asked q t
-  at-phase q o b u e h = rw (ap (λ z. onPlace n (asks z (r .head .grace) q) r) u ∙ ap (λ g. onPlace n (asks o g q) r) (m .grace ∙ e)) h
-
-  ordinary-by : (k : ℕ) (b : Bool) → l .grace ≡ b → Asked (request.File false k) (cond b 10013 handedOnCode)
-  ordinary-by k true e = at-phase (request.File false k) (r .head .old) true refl e (refused-any n (asks (r .head .old) true (request.File false k)) 10013 refl (nothing-heeded (r .head) 10013) m)
-  ordinary-by k false e = at-phase (request.File false k) (r .head .old) false refl e (refused-any n (asks (r .head .old) false (request.File false k)) handedOnCode refl (nothing-heeded (r .head) handedOnCode) m)
-
-  anonymous-by : (k : ℕ) (o b : Bool) → isOld (l .edition) ≡ o → l .grace ≡ b → Asked (request.File true k) (cond o 10025 (cond (not b) 10033 (refused (reportRules l n c (reportOf (bodyOf s))))))
-  anonymous-by k true b u e = at-phase (request.File true k) true (l .grace) (m .old ∙ u) refl (refused-any n (asks true (l .grace) (request.File true k)) 10025 refl (nothing-heeded (r .head) 10025) m)
-  anonymous-by k false false u e = at-phase (request.File true k) false false (m .old ∙ u) e (refused-any n (asks false false (request.File true k)) 10033 refl (nothing-heeded (r .head) 10033) m)
-  anonymous-by k false true u e = at-phase (request.File true k) false true (m .old ∙ u) e (report-agrees n c (reportOf (bodyOf s)) u m)
-
-  asks-agrees : (q : Request) → Read-as q → Asked q (codeOf l n c s q)
-  asks-agrees (request.Refused k) h = refused-any n (asks (r .head .old) (r .head .grace) (request.Refused k)) k (ne-eqb k 0 (h .nonzero)) (nothing-heeded (r .head) k) m
-  asks-agrees request.Bulk h = refused-any n (asks (r .head .old) (r .head .grace) request.Bulk) handedOnCode refl (nothing-heeded (r .head) handedOnCode) m
-  asks-agrees (request.File true k) h = anonymous-by k (isOld (l .edition)) (l .grace) refl refl
-  asks-agrees (request.File false k) h = ordinary-by k (l .grace) refl
-
--- ---- the answer
-abbrev pub handing : ℕ → Totals → List ℕ → Answer
-handing t ts d = cond (eqb t handedOnCode) (handedOn ts d) (replied t ts (replyIn t d))
-
-not-handed : (t : ℕ) → t < 20000 → eqb t handedOnCode ≡ false
-not-handed t h = ne-eqb t handedOnCode (λ e. omega arith)
+report-agrees : {r : Record} {l : Ledger} (n c : ℕ) (p : Report) → isOld (l .edition) ≡ false → Matches r l → RecordAgrees (onPlace n (reportsFile r n c p) r) l (onRow l n (reported (l .edition) (errorsOf p))) (refused (reportRules l n c p))
+report-agrees {r} n c Malformed q m = refused-any n (reportsFile r n c Malformed) 10036 refl (λ f. rw (malformed-report n c f) (nothing-changed (r .head) 10036 f)) m
+report-agrees {r} {l} n c (Whole xs ys) q m = on-file n (reportsFile r n c (Whole xs ys)) (reported (l .edition) xs) (λ w. refused (intentRules c w)) (reported-number (l .edition) xs)
+    (λ f w i k. rw (whole-report n c xs ys f, i, q) (file-reported (r .head) c xs ys k))
+    (λ f i. rw (whole-report n c xs ys f, i) (nothing-changed (r .head) 70 f)) m
 
 rules-low : (l : Ledger) (n c : ℕ) (p : Report) → refused (reportRules l n c p) < 20000
 rules-low l n c Malformed = omega arith
 rules-low l n c (Whole xs ys) = cond-below (not (registered n l)) 20000 70 (cond (not (holds c (rowOf n l))) 10034 0) (omega arith) (cond-below (not (holds c (rowOf n l))) 20000 10034 0 (omega arith) (omega arith))
 
-answer-is : (l : Ledger) (n c : ℕ) (s d : List ℕ) (q : Request) → Read-as q → handing (codeOf l n c s q) (totalsIn l n c s q) d ≡ judgeRequest l n c s d q
-answer-is l n c s d (request.Refused k) h = rw (not-handed k (h .small))
-answer-is l n c s d request.Bulk h = refl
-answer-is l n c s d (request.File true k) h =
-    rw (not-handed _ (cond-below (isOld (l .edition)) 20000 10025 (cond (not (l .grace)) 10033 (refused (reportRules l n c (reportOf (bodyOf s))))) (omega arith) (cond-below (not (l .grace)) 20000 10033 (refused (reportRules l n c (reportOf (bodyOf s)))) (omega arith) (rules-low l n c (reportOf (bodyOf s))))))
-answer-is l n c s d (request.File false k) h = by (l .grace)
-  where
-    by : (b : Bool) → handing (cond b 10013 handedOnCode) noTotals d ≡ cond b (refusal 10013 d) (handedOn noTotals d)
-    by true = refl
-    by false = refl
+-- ---- a step: what a LAYOUTRETURN of the history is answered, and the record that it leaves
+pub record StepIs (s : Step) (l : Ledger) (x : Call) (t : Answer) : Type 0 where
+  pub answer : s .answer ≡ t
+  pub after : Matches (s .after) (feed l x t)
 
--- a LAYOUTRETURN whose reply buffer is long enough: its status or that number, and its totals
-pub record ReturnAgrees (r : Record) (l : Ledger) (n c : ℕ) (s d : List ℕ) : Type 0 where
-  pub code : ℕ
-  pub totals : Totals
-  pub agrees : RecordAgrees (onPlace n (λ f. heeds (r .head) f (asksHeard n (r .head) c s f (requestOf s))) r) l (onRow l n (reported (l .edition) (errorsOf (reportOf (bodyOf s))))) code
-  pub same : asksHeard n (r .head) c s (fileAt n r) (requestOf s) .totals ≡ totals
-  pub answer : handing code totals d ≡ judgeRequest l n c s d (requestOf s)
+-- a status below 20000 is no "handed on"
+not-handed : (t : ℕ) → t < 20000 → eqb t handedOnCode ≡ false
+not-handed t h = ne-eqb t handedOnCode (λ e. omega arith)
 
-pub return-agrees : {r : Record} {l : Ledger} → Matches r l → (n c : ℕ) (s d : List ℕ) → ReturnAgrees r l n c s d
-return-agrees {r} {l} m n c s d =
-    let h = read-as s (requestOf s) refl in
-    record {
-      code = codeOf l n c s (requestOf s);
-      totals = totalsIn l n c s (requestOf s);
-      agrees = asks-agrees m n c s (requestOf s) h;
-      same = asked-totals m n c s (requestOf s);
-      answer = answer-is l n c s d (requestOf s) h;
-    }
+abbrev returns : Returned → Bytes → Step
+returns a d = returnStep a (replyBy (a .status) d)
+
+module _ {r : Record} {l : Ledger} (m : Matches r l) (n c : ℕ) (s d : List ℕ) where
+  abbrev this : Call
+  this = layoutReturn n c s d
+
+  -- a refusal leaves the record as it was
+  refuses : (k : ℕ) → k < 20000 → (k ≡ 0 → ⊥) → StepIs (returns (returning k noTotals r) d) l this (refusal k d)
+  unfolding feed
+  refuses k low z = record { answer = rw (not-handed k low); after = rw (ne-eqb k 0 z) m }
+
+  hands-on : StepIs (returns (returning handedOnCode noTotals r) d) l this (handedOn noTotals d)
+  unfolding feed
+  hands-on = record { answer = refl; after = m }
+
+  -- a body that is read, by the status of the report and its totals
+  reads-by : (k t : ℕ) (us ts : Totals) (r′ : Record) → k ≡ t → t < 20000 → us ≡ cond (eqb t 0) ts noTotals → Matches r′ (cond (eqb t 0) (apply l this) l) → StepIs (returns (returning k us r′) d) l this (reply t ts d)
+  unfolding feed
+  reads-by k t us ts r′ e low u h = record { answer = rw (e, u, not-handed t low); after = h }
+
+  reads : isOld (l .edition) ≡ false → StepIs (returns (reportedOf n c s r) d) l this (reply (refused (reportRules l n c (reportOf (bodyOf s)))) (rowTotals (reportOf (bodyOf s)) (rowOf n l)) d)
+  unfolding reportedOf apply
+  reads q =
+      let z = report-agrees n c (reportOf (bodyOf s)) q m in
+      reads-by _ (refused (reportRules l n c (reportOf (bodyOf s)))) _ _ _ (z .same) (rules-low l n c (reportOf (bodyOf s))) (report-totals m n c (reportOf (bodyOf s))) (z .kept)
+
+  -- ---- step 4
+  abbrev phase : Bool → ℕ → Bool → Bool → Returned
+  phase a k o g = returnedBy n c s r (phaseOf a (record { grace = g; old = o }) k)
+
+  ordinary : (k : ℕ) (o g : Bool) → StepIs (returns (phase false k o g) d) l this (firstOf (g ⇒ refusal 10013 d ∷ []) (handedOn noTotals d))
+  ordinary k o true = refuses 10013 (omega arith) (λ e. omega arith)
+  ordinary k o false = hands-on
+
+  anonymous : (k : ℕ) (o g : Bool) → isOld (l .edition) ≡ o
+      → StepIs (returns (phase true k o g) d) l this (reply (refused (o ⇒ 10025 ∷ not g ⇒ 10033 ∷ reportRules l n c (reportOf (bodyOf s)))) (rowTotals (reportOf (bodyOf s)) (rowOf n l)) d)
+  anonymous k true g e = refuses 10025 (omega arith) (λ z. omega arith)
+  anonymous k false false e = refuses 10033 (omega arith) (λ z. omega arith)
+  anonymous k false true e = reads e
+
+  in-phase : (a : Bool) (k : ℕ) {t : Answer} → StepIs (returns (phase a k (isOld (l .edition)) (l .grace)) d) l this t → StepIs (returns (phase a k (r .head .old) (r .head .grace)) d) l this t
+  in-phase a k {t} h =
+      subst (λ (o : Bool). StepIs (returns (phase a k o (r .head .grace)) d) l this t) (sym (m .old))
+      (subst (λ (g : Bool). StepIs (returns (phase a k (isOld (l .edition)) g) d) l this t) (sym (m .grace)) h)
+
+  -- ---- steps 1 to 7
+  asked : (q : Request) → Read-as q → StepIs (returns (returnedBy n c s r (decided (r .head) q)) d) l this (judgeRequest l n c s d q)
+  asked (request.Refused k) h = refuses k (h .small) (h .nonzero)
+  asked request.Bulk h = hands-on
+  asked (request.File true k) h = in-phase true k (anonymous k (isOld (l .edition)) (l .grace) refl)
+  asked (request.File false k) h = in-phase false k (ordinary k (isOld (l .edition)) (l .grace))
+
+  -- a short reply buffer stays as it is
+  short : ltb (length d) 24 ≡ true → StepIs (returns (returning 28 noTotals r) d) l this (replied 28 noTotals d)
+  unfolding feed replyIn
+  short e = record { answer = rw e; after = m }
+
+  pub return-agrees : StepIs (step r this) l this (judge l this)
+  unfolding step judge layoutreturnOf replyAfter decisionOf
+  return-agrees = by (ltb (length d) 24) refl
+    where
+      by : (b : Bool) → ltb (length d) 24 ≡ b
+          → StepIs (returns (returnedBy n c s r (cond b (Answered 28) (decided (r .head) (requestOf s)))) d) l this (cond b (replied 28 noTotals d) (judgeRequest l n c s d (requestOf s)))
+      by true e = short e
+      by false e = asked (requestOf s) (read-as s (requestOf s) refl)

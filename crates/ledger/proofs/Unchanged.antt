@@ -5,37 +5,38 @@ use mathlib.Core.List.{List, [], _∷_, map}
 use mathlib.Core.Bool.{Bool, true, false, not, cond}
 use Prim.Native.Nat.{ℕ}
 use lib.ListN.{getD, length}
-use lib.Dec.{eqb, ltb}
+use lib.Dec.{eqb}
 use borrow.Author.Tests.{eqb-true}
 use Rattle.reports.specs.Report.{Report, Whole, Malformed, reportOf}
-use Rattle.wire.specs.Request.{requestOf, bodyOf}
-use Rattle.wire.specs.declared.request.Request.{Request}
-use Rattle.wire.specs.declared.request.Request.the-variants as request
+use Rattle.wire.specs.Request.{bodyOf}
 use Rattle.places.specs.Lists.{any}
 use Rattle.places.specs.Places.{first, isFound}
 use Rattle.places.specs.declared.Found.{Found}
 use Rattle.places.specs.declared.Found.the-variants.{At, Nothing}
 use Rattle.places.proofs.Sets.{true-false, first-nothing, first-no, rest-no}
 use Rattle.mirroring.specs.Mirrors.{enrolledOf}
-use Rattle.mirroring.specs.Blame.{heardNothing, heardOf}
-use Rattle.mirroring.specs.declared.blame.Heard.{Heard}
+use Rattle.mirroring.specs.Blame.{statusOnly, assessmentOf}
+use Rattle.mirroring.specs.declared.blame.Assessment.{Assessment}
 use Rattle.mirroring.specs.declared.totals.Totals.{Totals}
 use Rattle.mirroring.specs.declared.enrol.Enrolled.{Enrolled}
 use Rattle.intents.specs.Intents.{noIntent, isIntent, isFree, firstTaken, reclaimedIf}
 use Rattle.intents.specs.declared.Intent.{Intent}
-use Rattle.files.specs.File.{isFile, unreclaimedBar, fileAnswered, ofFile, takes, opens, openedFile, reclaims, reclaimedFile, leaves, closedFile, repairedFile, mendedFile, forgettable, heeds, ofClient, reportHeard, phaseOf, handedOnCode, asksHeard, returnedHeard, returnedFile}
+use Rattle.files.specs.File.{isFile, unreclaimedBar, fileAnswered, ofFile, takes, opens, openedFile, reclaims, reclaimedFile, leaves, closedFile, repairedFile, mendedFile, forgettable}
+use Rattle.layoutreturn.specs.LayoutReturn.{handedOnCode, decisionOf, ofClient, reportOn}
+use Rattle.layoutreturn.specs.declared.Decision.{Decision}
+use Rattle.layoutreturn.specs.declared.Decision.the-variants as decision
 use Rattle.files.specs.declared.head.Head.{Head}
 use Rattle.files.specs.declared.file.File.{File}
 use Rattle.files.specs.declared.file.FileAnswered.{FileAnswered}
-use Rattle.files.proofs.Heeding.{nothing-heeded}
 use Rattle.recovery.specs.Calls.{register, opening, reclaim, close, repaired, forget, endGrace, restart, layoutReturn, resilver, offered, replied, handedOn}
-use Rattle.recovery.specs.Record.{answered, fileAt, onPlace, openOf, reclaimOf, closeOf, repairedOf, isFull, registerWith, registerOf, forgets, forgetOf, endOf, restartOf, returnedOf, isHanded, layoutreturnOf, replyAfter}
+use Rattle.recovery.specs.Record.{answered, fileAt, onPlace, openOf, reclaimOf, closeOf, repairedOf, isFull, registerWith, registerOf, forgets, forgetOf, endOf, restartOf}
+use Rattle.recovery.specs.LayoutReturn.{reportedOf, returnedBy, layoutreturnOf, replyAfter}
 use Rattle.recovery.specs.declared.record.Record.{Record}
 use Rattle.recovery.specs.declared.record.Answered.{Answered}
 use Rattle.ledger.specs.Ledger.{accepted}
-use Rattle.ledger.specs.History.{stepOf, step}
+use Rattle.ledger.specs.History.{stepOf, returnStep, step}
 use Rattle.ledger.specs.Unchanged.{RefusedUnchanged, HeldUnchanged, AgainUnchanged, Unchanged}
-use Rattle.ledger.proofs.Reported.{heard-status, whole-heard, malformed-heard}
+use Rattle.ledger.proofs.Reported.{assessedFile, nothing-changed, whole-status, whole-report, malformed-report}
 use Rattle.ledger.proofs.Calls.{still}
 
 -- ---- what is answered other than 0 leaves what was there: it is that number, given back with what was there
@@ -102,33 +103,23 @@ module _ (d : Head) (f : File) where
   repaired-kept n = of-file n (either (not (f .marked)) (refuses 22) (either (firstTaken (f .intents)) (refuses 10008) (accepts (mendedFile f))))
 
   -- ---- LAYOUTRETURN
-  -- a refusal was heard as nothing
-  deaf : (k : ℕ) → FileKept d f (heeds d f (heardNothing k))
-  deaf k = rw (nothing-heeded d k f) (refuses k)
+  -- a refusal changes nothing
+  refuses-report : (k : ℕ) → FileKept d f (assessedFile d f (statusOnly k))
+  refuses-report k = rw (nothing-changed d k f) (refuses k)
 
-  choosing : (b : Bool) (h k : Heard) → FileKept d f (heeds d f h) → FileKept d f (heeds d f k) → FileKept d f (heeds d f (cond b h k))
+  choosing : (b : Bool) (h k : Assessment) → FileKept d f (assessedFile d f h) → FileKept d f (assessedFile d f k) → FileKept d f (assessedFile d f (cond b h k))
   choosing true h k p q = p
   choosing false h k p q = q
 
-  -- a report that is heard has the status 0
-  report-kept : (n c : ℕ) (p : Report) → FileKept d f (heeds d f (reportHeard n c p f))
-  report-kept n c Malformed = rw (malformed-heard n c f) (deaf 10036)
+  -- a report that is whole has the status 0
+  report-kept : (n c : ℕ) (p : Report) → FileKept d f (assessedFile d f (reportOn n c p f))
+  report-kept n c Malformed = rw (malformed-report n c f) (refuses-report 10036)
   report-kept n c (Whole xs ys) =
-      let h = heardOf (f .mirrors) (Whole xs ys) in
+      let h = assessmentOf (f .mirrors) (Whole xs ys) in
       let o = first (isIntent c) (f .intents) in
-      rw (whole-heard n c xs ys f)
-      (choosing (isFile n f) (ofClient h o) (heardNothing 70)
-      (choosing (isFound o) h (heardNothing 10034) (record { kept = λ e. true-false (rw (heard-status (f .mirrors) xs ys) at e) }) (deaf 10034)) (deaf 70))
-
-  asks-kept : (n c : ℕ) (s : List ℕ) (q : Request) → FileKept d f (heeds d f (asksHeard n d c s f q))
-  asks-kept n c s (request.Refused k) = deaf k
-  asks-kept n c s request.Bulk = deaf handedOnCode
-  asks-kept n c s (request.File a k) =
-      choosing (eqb (phaseOf d a) 0) (reportHeard n c (reportOf (bodyOf s)) f) (heardNothing (phaseOf d a)) (report-kept n c (reportOf (bodyOf s))) (deaf (phaseOf d a))
-
-  return-kept : (n c : ℕ) (s : List ℕ) → FileKept d f (returnedFile n d c s f)
-  unfolding returnedFile returnedHeard
-  return-kept n c s = asks-kept n c s (requestOf s)
+      rw (whole-report n c xs ys f)
+      (choosing (isFile n f) (ofClient h o) (statusOnly 70)
+      (choosing (isFound o) h (statusOnly 10034) (record { kept = λ e. true-false (rw (whole-status (f .mirrors) xs ys) at e) }) (refuses-report 10034)) (refuses-report 70))
 
 -- ---- on the record: a file that is kept is put back where it was
 on-place : (n : ℕ) (h : File → FileAnswered) (r : Record) → FileKept (r .head) (fileAt n r) (h (fileAt n r)) → RecordKept r (onPlace n h r)
@@ -150,15 +141,18 @@ handed-on : (k : ℕ) (t : Totals) (d : List ℕ) (b : Bool) → eqb k handedOnC
 handed-on k t d true e h = rw (eqb-true k handedOnCode e)
 handed-on k t d false e h = h
 
-return-step : (n c : ℕ) (s d : List ℕ) (r : Record) (b : Bool) → ltb (length d) 24 ≡ b → accepted (step r (layoutReturn n c s d) .answer) ≡ false → step r (layoutReturn n c s d) .after ≡ r
-unfolding step layoutreturnOf returnedOf
-return-step n c s d r true e h = rw e
-return-step n c s d r false e h =
-    let a = onPlace n (returnedFile n (r .head) c s) r in
-    rw e (as-before r a (on-place n (returnedFile n (r .head) c s) r (return-kept (r .head) (fileAt n r) n c s)) (handed-on (a .status) _ (replyAfter n c s d r) (isHanded a) refl (rw e at h)))
+-- by what was decided before any file was looked at
+return-by : (n c : ℕ) (s d : List ℕ) (r : Record) (x : Decision) → accepted (returnStep (returnedBy n c s r x) d .answer) ≡ false → returnedBy n c s r x .after ≡ r
+unfolding reportedOf
+return-by n c s d r (decision.Answered k) h = refl
+return-by n c s d r decision.HandedOn h = refl
+return-by n c s d r (decision.ReadBody len) h =
+    let q : File → FileAnswered = λ f. assessedFile (r .head) f (reportOn n c (reportOf (bodyOf s)) f) in
+    as-before r (onPlace n q r) (on-place n q r (report-kept (r .head) (fileAt n r) n c (reportOf (bodyOf s))))
+    (handed-on (q (fileAt n r) .status) _ d (eqb (q (fileAt n r) .status) handedOnCode) refl h)
 
 refused-unchanged : RefusedUnchanged
-unfolding step registerOf openOf reclaimOf closeOf repairedOf forgetOf endOf restartOf
+unfolding step registerOf openOf reclaimOf closeOf repairedOf forgetOf endOf restartOf layoutreturnOf
 refused-unchanged r (register n s) h = as-before r _ (either (r .head .grace) (refuses-all r 10013) (registering n (enrolledOf s) r)) h
 refused-unchanged r (opening n c) h = as-before r _ (on-place n (openedFile n (r .head) c) r (open-kept (r .head) (fileAt n r) n c)) h
 refused-unchanged r (reclaim n c) h = as-before r _ (on-place n (reclaimedFile n (r .head) c) r (reclaim-kept (r .head) (fileAt n r) n c)) h
@@ -167,7 +161,7 @@ refused-unchanged r (repaired n) h = as-before r _ (on-place n (repairedFile n (
 refused-unchanged r (forget n) h = as-before r _ (forgetting (forgettable n (r .head) (fileAt n r)) n r) h
 refused-unchanged r endGrace h = as-before r _ (either (r .head .grace) (accepts-all r _) (refuses-all r 10033)) h
 refused-unchanged r restart h = true-false h
-refused-unchanged r (layoutReturn n c s d) h = return-step n c s d r (ltb (length d) 24) refl h
+refused-unchanged r (layoutReturn n c s d) h = return-by n c s (replyAfter n c s d r) r (decisionOf (r .head) s (length d)) h
 refused-unchanged r (resilver a b) h = refl
 refused-unchanged r (offered a b) h = refl
 

@@ -5,10 +5,11 @@ use mathlib.Core.Bool.{Bool, true, false, cond}
 use Prim.Native.Nat.{ℕ}
 use Rattle.recovery.specs.Calls.{Call, register, opening, reclaim, close, repaired, forget, endGrace, restart, layoutReturn, resilver, offered, Answer, said, replied, handedOn}
 use Rattle.ledger.specs.Ledger.{Ledger, judge, feed}
-use Rattle.recovery.specs.Record.{registerOf, openOf, reclaimOf, closeOf, repairedOf, forgetOf, endOf, restartOf, layoutreturnOf, replyAfter, listingOf}
+use Rattle.recovery.specs.Record.{registerOf, openOf, reclaimOf, closeOf, repairedOf, forgetOf, endOf, restartOf, listingOf}
+use Rattle.recovery.specs.LayoutReturn.{layoutreturnOf, replyAfter}
 use Rattle.recovery.specs.declared.record.Record.{Record}
 use Rattle.recovery.specs.declared.record.Answered.{Answered}
-use Rattle.recovery.specs.declared.layoutreturn.Returned.{Returned}
+use Rattle.recovery.specs.declared.returns.Returned.{Returned}
 
 -- ---- a step: a call is the method of that name, and each line cites the definition that the method's promise says its answer equals
 pub record Step : Type 0 where

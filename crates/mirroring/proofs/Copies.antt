@@ -13,7 +13,7 @@ use Rattle.places.specs.Lists.{any, has, with, fill}
 use Rattle.places.specs.Places.{bump, first, placeOr}
 use Rattle.reports.specs.Device.{Device}
 use Rattle.mirroring.specs.Devices.{sameDevice, isMirror, placeOf}
-use Rattle.mirroring.specs.Mirrors.{noMirror, noMirrors, isDevice, isGood, unblamed, blamedIf, accused, mirrorOf, placedMirrors, sourceIn}
+use Rattle.mirroring.specs.Mirrors.{noMirror, noMirrors, isDevice, isGood, unblamed, blamedIf, blamedAt, mirrorOf, placedMirrors, sourceIn}
 use Rattle.mirroring.specs.declared.mirrors.Mirror.{Mirror}
 use Rattle.places.specs.declared.Found.{Found}
 use Rattle.places.specs.declared.Found.the-variants.{At, Nothing}
@@ -66,26 +66,26 @@ abbrev blameAt : List Mirror → ℕ → List Mirror
 blameAt ms i = set ms i (blamedIf true (getD ms i noMirror))
 
 -- one flag more is one place more
-one-more : (fs : List Bool) (ms : List Mirror) (i : ℕ) → i < length fs → i < length ms → accused (set fs i true) ms ≡ blameAt (accused fs ms) i
-unfolding accused
+one-more : (fs : List Bool) (ms : List Mirror) (i : ℕ) → i < length fs → i < length ms → blamedAt (set fs i true) ms ≡ blameAt (blamedAt fs ms) i
+unfolding blamedAt
 one-more [] ms i h k = absurd (omega arith)
 one-more (b ∷ fs) [] i h k = absurd (omega arith)
 one-more (b ∷ fs) (m ∷ ms) zero h k = refl
 one-more (b ∷ fs) (m ∷ ms) (suc i) h k = ap {B = List Mirror} (λ t. blamedIf b m ∷ t) (one-more fs ms i (omega arith) (omega arith))
 
-pub accused-length : (fs : List Bool) (ms : List Mirror) → length (accused fs ms) ≡ length ms
-unfolding accused
-accused-length fs [] = refl
-accused-length [] (m ∷ ms) = refl
-accused-length (b ∷ fs) (m ∷ ms) = ap suc (accused-length fs ms)
+pub blamed-length : (fs : List Bool) (ms : List Mirror) → length (blamedAt fs ms) ≡ length ms
+unfolding blamedAt
+blamed-length fs [] = refl
+blamed-length [] (m ∷ ms) = refl
+blamed-length (b ∷ fs) (m ∷ ms) = ap suc (blamed-length fs ms)
 
 -- no flag is up
-pub none-accused : (k : ℕ) (ms : List Mirror) → accused (replicate k false) ms ≡ ms
-unfolding accused
-none-accused zero [] = refl
-none-accused zero (m ∷ ms) = refl
-none-accused (suc k) [] = refl
-none-accused (suc k) (m ∷ ms) = ap {B = List Mirror} (λ t. m ∷ t) (none-accused k ms)
+pub none-blamed : (k : ℕ) (ms : List Mirror) → blamedAt (replicate k false) ms ≡ ms
+unfolding blamedAt
+none-blamed zero [] = refl
+none-blamed zero (m ∷ ms) = refl
+none-blamed (suc k) [] = refl
+none-blamed (suc k) (m ∷ ms) = ap {B = List Mirror} (λ t. m ∷ t) (none-blamed k ms)
 
 flag-at : (ms : List Mirror) (bs : List ℕ) (i j : ℕ) → i < length ms → j < length ms → ((k : ℕ) → k < length ms → getD ms k noMirror .blamed ≡ has k bs) → Dec (j ≡ i)
     → getD (blameAt ms i) j noMirror .blamed ≡ has j (with i bs)
@@ -99,8 +99,8 @@ blamed-place {ms} {ds} {bs} i h k = record {
   blame = λ j p. flag-at ms bs i j h (rw (length-set ms i (blamedIf true (getD ms i noMirror))) at p) (k .blame) (ℕ-discrete j i);
 }
 
-pub flag-raised : (ms : List Mirror) {ds : List Device} {bs : List ℕ} (fs : List Bool) (i : ℕ) → i < length fs → i < length ms → Copies (accused fs ms) ds bs → Copies (accused (set fs i true) ms) ds (with i bs)
-flag-raised ms fs i h l k = rw (one-more fs ms i h l) (blamed-place i (omega (arith, accused-length fs ms, l)) k)
+pub flag-raised : (ms : List Mirror) {ds : List Device} {bs : List ℕ} (fs : List Bool) (i : ℕ) → i < length fs → i < length ms → Copies (blamedAt fs ms) ds bs → Copies (blamedAt (set fs i true) ms) ds (with i bs)
+flag-raised ms fs i h l k = rw (one-more fs ms i h l) (blamed-place i (omega (arith, blamed-length fs ms, l)) k)
 
 -- ---- repair
 unblamed-at : (ms : List Mirror) (i : ℕ) → getD (map unblamed ms) i noMirror .blamed ≡ false

@@ -2,4 +2,4 @@ pub mod Copies
 pub mod Enrolling
 mod Flags
 mod Summing
-pub mod Hearing
+pub mod Assessing

@@ -1,4 +1,4 @@
--- MODEL. What a report says of a file's mirrors, in this order: one device error; one statistics record; all of a report.
+-- MODEL. What a report says of a file's mirrors, in this order: what it changes; one device error; one statistics record; all of a report.
 use mathlib.Core.List.{List}
 use mathlib.Core.Bool.{Bool, true, false, cond}
 use Prim.Native.Nat.{ℕ}
@@ -13,7 +13,8 @@ use Rattle.mirroring.specs.Mirrors.{isAt}
 use Rattle.mirroring.specs.Totals.{noTotals}
 use Rattle.mirroring.specs.TotalsSteps.{mirrorTotals, addedTotals}
 use Rattle.mirroring.specs.declared.mirrors.Mirror.{Mirror}
-use Rattle.mirroring.specs.declared.blame.Heard.{Heard}
+use Rattle.mirroring.specs.declared.blame.Change.{Change}
+use Rattle.mirroring.specs.declared.blame.Assessment.{Assessment}
 use Rattle.mirroring.specs.declared.totals.Totals.{Totals}
 use Rattle.places.specs.declared.Found.{Found}
 use Rattle.places.specs.declared.Found.the-variants.{At, Nothing}
@@ -21,42 +22,53 @@ use Rattle.places.specs.declared.Found.the-variants.{At, Nothing}
 abbrev pub noFlags : List Bool
 noFlags = replicate 4 false
 
-abbrev pub heardNothing : ℕ → Heard
-heardNothing s = record { status = s; unknown = false; failed = false; blamed = noFlags; totals = noTotals }
+-- ---- what a report changes
+abbrev pub noChange : Change
+noChange = record { unknown = false; failed = false; blamed = noFlags }
 
-abbrev pub stranger : Heard → Heard
-stranger h = record { status = h .status; unknown = true; failed = h .failed; blamed = h .blamed; totals = h .totals }
+-- it has named a device that is no mirror
+abbrev pub naming : Change → Change
+naming x = record { unknown = true; failed = x .failed; blamed = x .blamed }
 
-abbrev pub faultAt : Heard → ℕ → Heard
-faultAt h i = record { status = h .status; unknown = h .unknown; failed = true; blamed = set (h .blamed) i true; totals = h .totals }
+-- it blames the mirror at place i
+abbrev pub blaming : ℕ → Change → Change
+blaming i x = record { unknown = x .unknown; failed = true; blamed = set (x .blamed) i true }
 
-abbrev pub toldAt : Heard → ℕ → Found → Heard
-toldAt h s Nothing = stranger h
-toldAt h s (At i) = cond (eqb s 0) h (faultAt h i)
+-- ---- nothing but a status
+abbrev pub statusOnly : ℕ → Assessment
+statusOnly s = record { status = s; change = noChange; totals = noTotals }
 
-unfoldable pub toldOf : List Mirror → Heard → ℕ → ℕ → ℕ → Heard
-toldOf ms h hi lo s = toldAt h s (first (isAt hi lo) ms)
+abbrev pub withChange : Change → Assessment → Assessment
+withChange x a = record { status = a .status; change = x; totals = a .totals }
 
-abbrev pub told : List Mirror → Heard → DeviceError → Heard
-told ms h x = toldOf ms h (deviceOf x .high) (deviceOf x .low) (x .status)
+-- ---- one device error
+abbrev pub withErrorAt : Assessment → ℕ → Found → Assessment
+withErrorAt a s Nothing = withChange (naming (a .change)) a
+withErrorAt a s (At i) = cond (eqb s 0) a (withChange (blaming i (a .change)) a)
+
+unfoldable pub withErrorOf : List Mirror → Assessment → ℕ → ℕ → ℕ → Assessment
+withErrorOf ms a hi lo s = withErrorAt a s (first (isAt hi lo) ms)
+
+abbrev pub withError : List Mirror → Assessment → DeviceError → Assessment
+withError ms a x = withErrorOf ms a (deviceOf x .high) (deviceOf x .low) (x .status)
 
 -- ---- one statistics record
-abbrev pub withTotals : Totals → Heard → Heard
-withTotals t h = record { status = h .status; unknown = h .unknown; failed = h .failed; blamed = h .blamed; totals = t }
+abbrev pub withTotals : Totals → Assessment → Assessment
+withTotals t a = record { status = a .status; change = a .change; totals = t }
 
 -- a report that names an unknown device is ignored
-unfoldable pub countedOf : List Mirror → Heard → ℕ → ℕ → ℕ → ℕ → Heard
-countedOf ms h hi lo r w = withTotals (cond (h .unknown) (h .totals) (addedTotals ms hi lo r w (h .totals))) h
+unfoldable pub countedOf : List Mirror → Assessment → ℕ → ℕ → ℕ → ℕ → Assessment
+countedOf ms a hi lo r w = withTotals (cond (a .change .unknown) (a .totals) (addedTotals ms hi lo r w (a .totals))) a
 
-abbrev pub counted : List Mirror → Heard → Statistic → Heard
-counted ms h y = countedOf ms h (halves (y .device) .high) (halves (y .device) .low) (y .read) (y .written)
+abbrev pub counted : List Mirror → Assessment → Statistic → Assessment
+counted ms a y = countedOf ms a (halves (y .device) .high) (halves (y .device) .low) (y .read) (y .written)
 
 -- ---- all of a report
 -- what its device errors say; 10036: the report is malformed
-unfoldable pub errorsHeard : List Mirror → Report → Heard
-errorsHeard ms (Whole xs ys) = over (told ms) (heardNothing 0) xs
-errorsHeard ms Malformed = heardNothing 10036
+unfoldable pub errorsAssessed : List Mirror → Report → Assessment
+errorsAssessed ms (Whole xs ys) = over (withError ms) (statusOnly 0) xs
+errorsAssessed ms Malformed = statusOnly 10036
 
 -- and the totals, which an ignored report has none of
-unfoldable pub heardOf : List Mirror → Report → Heard
-heardOf ms p = withTotals (cond (errorsHeard ms p .unknown) noTotals (mirrorTotals ms p)) (errorsHeard ms p)
+unfoldable pub assessmentOf : List Mirror → Report → Assessment
+assessmentOf ms p = withTotals (cond (errorsAssessed ms p .change .unknown) noTotals (mirrorTotals ms p)) (errorsAssessed ms p)

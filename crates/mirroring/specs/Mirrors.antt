@@ -41,10 +41,10 @@ abbrev pub blamedIf : Bool → Mirror → Mirror
 blamedIf b m = withBlame (cond b true (m .blamed)) m
 
 -- a mirror is blamed if its flag is up, or if it was
-unfoldable pub accused : List Bool → List Mirror → List Mirror
-accused bs [] = []
-accused [] (m ∷ ms) = m ∷ ms
-accused (b ∷ bs) (m ∷ ms) = blamedIf b m ∷ accused bs ms
+unfoldable pub blamedAt : List Bool → List Mirror → List Mirror
+blamedAt bs [] = []
+blamedAt [] (m ∷ ms) = m ∷ ms
+blamedAt (b ∷ bs) (m ∷ ms) = blamedIf b m ∷ blamedAt bs ms
 
 -- ---- the source
 unfoldable pub sourceIn : List Mirror → ℕ

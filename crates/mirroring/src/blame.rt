@@ -1,6 +1,7 @@
 // What a report says of a file's mirrors (paper 01, LAYOUTRETURN, steps 5 and 7; Ticket 3): one walk of its body, over its device errors and then over
 // its statistics records.
 use crate::mirrors::Mirror;
+use crate::mirrors::PLACES;
 use crate::mirrors::place;
 use crate::totals::Totals;
 use places::Found;
@@ -13,47 +14,52 @@ ghost use Prim.Native.Nat.{_<_};
 ghost use lib.ListN.{set, getD};
 ghost use Rattle.reports.specs.Report.{reportOf, outcome};
 ghost use Rattle.reports.specs.StatisticsSteps.{statisticsFrom, tally};
-ghost use Rattle.mirroring.specs.Blame.{heardNothing, told, toldOf, counted, countedOf, heardOf};
+ghost use Rattle.mirroring.specs.Blame.{blaming, statusOnly, withError, withErrorOf, counted, countedOf, assessmentOf};
 
-// What has been heard so far: the status; whether a device was named that is no mirror; whether a device error of a mirror had a status other
-// than 0; by place, the mirrors that such a device error blames; and by place, the bytes read and written.
-pub struct Heard {
-    pub status: u32,
+// What a report changes in a file: whether a device was named that is no mirror; whether a device error of a mirror had a status other than 0; and by
+// place, the mirrors that such a device error blames.
+pub struct Change {
     pub unknown: bool,
     pub failed: bool,
-    pub blamed: [bool; 4],
+    pub blamed: [bool; PLACES],
+}
+
+// What a report says of a file's mirrors, as far as it has been read: the status of step 5, what it changes, and the totals of bytes by place.
+pub struct Assessment {
+    pub status: u32,
+    pub change: Change,
     pub totals: Totals,
 }
 
 // What the device errors say, and the cursor at the first statistics record.
-struct ErrorsHeard {
-    heard: Heard,
+struct ErrorsAssessed {
+    assessment: Assessment,
     next: Tail,
 }
 
 // Whether a flag is up, or is raised now.
-fn raised(up: bool, now: bool) -> bool
-    ensures { λ r. ⌜ r ≡ cond up true now ⌝ }
+fn raised(up: bool, raise: bool) -> bool
+    ensures { λ r. ⌜ r ≡ cond up true raise ⌝ }
 {
-    if up { true } else { now }
+    if up { true } else { raise }
 }
 
 // Whether the flag at `at` is up; each place is read by its own number, which the compiler can keep in registers.
-fn is_up(flags: [bool; 4], at: usize) -> bool
+fn is_up(flags: [bool; PLACES], at: usize) -> bool
     ensures { λ r. ⌜ r ≡ getD flags at false ⌝ }
 {
     let mut i: usize = 0;
-    while i < 4 {
+    while i < PLACES {
         if i == at {
             return flags[i];
         }
-        i = i + 1;
+        i += 1;
     }
     false
 }
 
 // The flags with that at `at` up, which it mostly is already; each place is written by its own number.
-fn flagged(flags: [bool; 4], at: usize) -> [bool; 4]
+fn flagged(flags: [bool; PLACES], at: usize) -> [bool; PLACES]
     ensures { λ r. ⌜ r ≡ set flags at true ⌝ }
 {
     let known = is_up(flags, at);
@@ -62,75 +68,95 @@ fn flagged(flags: [bool; 4], at: usize) -> [bool; 4]
     }
     let mut fs = flags;
     let mut i: usize = 0;
-    while i < 4 {
+    while i < PLACES {
         let up = fs[i];
         let f = raised(up, i == at);
         fs[i] = f;
-        i = i + 1;
+        i += 1;
     }
     fs
 }
 
-impl Heard {
-    // Nothing has been heard, but the status.
-    pub fn nothing(status: u32) -> Heard
-        ensures { λ r. ⌜ r ≡ heardNothing status ⌝ }
+impl Change {
+    // The mirror at a place is blamed too.
+    pub(crate) fn blame(mut self, at: usize) -> Change
+        ensures { λ r. ⌜ r ≡ blaming at self ⌝ }
     {
-        let fs = [false; 4];
-        let ts = Totals::none();
-        Heard {
-            status: status,
-            unknown: false,
-            failed: false,
-            blamed: fs,
-            totals: ts,
+        let old = self.blamed;
+        let blamed = flagged(old, at);
+        self.blamed = blamed;
+        self.failed = true;
+        self
+    }
+}
+
+impl Assessment {
+    // Nothing but the status.
+    pub fn only(status: u32) -> Assessment
+        ensures { λ r. ⌜ r ≡ statusOnly status ⌝ }
+    {
+        let blamed = [false; PLACES];
+        let totals = Totals::none();
+        Assessment {
+            status,
+            change: Change {
+                unknown: false,
+                failed: false,
+                blamed,
+            },
+            totals,
         }
     }
 
     // One device error more.
-    pub(crate) fn told(mut self, mirrors: [Mirror; 4], high: u64, low: u64, status: u32) -> Heard
-        ensures { λ r. ⌜ r ≡ toldOf mirrors self high low status ⌝ }
+    pub(crate) fn device_error(
+        mut self,
+        mirrors: [Mirror; PLACES],
+        high: u64,
+        low: u64,
+        status: u32,
+    ) -> Assessment
+        ensures { λ r. ⌜ r ≡ withErrorOf mirrors self high low status ⌝ }
     {
         let Found::At(i) = place(mirrors, high, low) else {
-            self.unknown = true;
+            self.change.unknown = true;
             return self;
         };
         if status == 0 {
             return self;
         }
-        let old = self.blamed;
-        let fs = flagged(old, i);
-        self.blamed = fs;
-        self.failed = true;
+        let old = self.change;
+        let change = old.blame(i);
+        self.change = change;
         self
     }
 
     // One statistics record more, unless the report is ignored.
     pub(crate) fn count(
         mut self,
-        mirrors: [Mirror; 4],
+        mirrors: [Mirror; PLACES],
         high: u64,
         low: u64,
         read: u64,
         written: u64,
-    ) -> Heard
+    ) -> Assessment
         ensures { λ r. ⌜ r ≡ countedOf mirrors self high low read written ⌝ }
     {
-        if self.unknown {
+        if self.change.unknown {
             return self;
         }
         let old = self.totals;
-        let ts = old.add(mirrors, high, low, read, written);
-        self.totals = ts;
+        let totals = old.add(mirrors, high, low, read, written);
+        self.totals = totals;
         self
     }
 }
 
 // The device errors of a report's body. Where they are malformed, so is what is left.
-fn errors(mirrors: [Mirror; 4], body: &[u8]) -> ErrorsHeard
-    ensures { λ r. ⌜ tally (counted mirrors) (heardNothing 10036) (r .heard) (statisticsFrom (now (body .entry)) (r .next)) ≡ outcome (told mirrors) (counted mirrors) (heardNothing 10036) (heardNothing 0) (reportOf (now (body .entry))) ⌝ }
+fn errors(mirrors: [Mirror; PLACES], body: &[u8]) -> ErrorsAssessed
+    ensures { λ r. ⌜ tally (counted mirrors) (statusOnly 10036) (r .assessment) (statisticsFrom (now (body .entry)) (r .next)) ≡ outcome (withError mirrors) (counted mirrors) (statusOnly 10036) (statusOnly 0) (reportOf (now (body .entry))) ⌝ }
 {
-    let mut h = Heard::nothing(0);
+    let mut a = Assessment::only(0);
     let mut c = reports::report::start(body);
     loop {
         match reports::report::step(body, c) {
@@ -141,18 +167,21 @@ fn errors(mirrors: [Mirror; 4], body: &[u8]) -> ErrorsHeard
                 status,
                 next,
             } => {
-                h = h.told(mirrors, high, low, status);
+                a = a.device_error(mirrors, high, low, status);
                 c = next;
             }
             Entry::Record(next) => {
                 c = next;
             }
             Entry::Statistics(next) => {
-                return ErrorsHeard { heard: h, next };
+                return ErrorsAssessed {
+                    assessment: a,
+                    next,
+                };
             }
             Entry::Malformed => {
-                return ErrorsHeard {
-                    heard: h,
+                return ErrorsAssessed {
+                    assessment: a,
                     next: reports::statistics::none(body),
                 };
             }
@@ -161,11 +190,11 @@ fn errors(mirrors: [Mirror; 4], body: &[u8]) -> ErrorsHeard
 }
 
 // All that a report's body says.
-pub fn listen(mirrors: [Mirror; 4], body: &[u8]) -> Heard
-    ensures { λ r. ⌜ r ≡ heardOf mirrors (reportOf (now (body .entry))) ⌝ }
+pub fn assess(mirrors: [Mirror; PLACES], body: &[u8]) -> Assessment
+    ensures { λ r. ⌜ r ≡ assessmentOf mirrors (reportOf (now (body .entry))) ⌝ }
 {
     let e = errors(mirrors, body);
-    let mut h = e.heard;
+    let mut a = e.assessment;
     let mut c = e.next;
     loop {
         match reports::statistics::next(body, c) {
@@ -176,14 +205,14 @@ pub fn listen(mirrors: [Mirror; 4], body: &[u8]) -> Heard
                 written,
                 next,
             } => {
-                h = h.count(mirrors, high, low, read, written);
+                a = a.count(mirrors, high, low, read, written);
                 c = next;
             }
             Item::End => {
-                return h;
+                return a;
             }
             Item::Malformed => {
-                return Heard::nothing(statuses::BADXDR);
+                return Assessment::only(statuses::BADXDR);
             }
         }
     }

@@ -1,6 +1,7 @@
 // The mirror list of a register call, as bytes, 16 a device (paper 01, "The recovery record"): the mirrors of a new file, or none if the
 // list is bad.
 use crate::mirrors::Mirror;
+use crate::mirrors::PLACES;
 use crate::mirrors::place;
 use places::Found;
 ghost use mathlib.Core.Path.{_≡_};
@@ -10,7 +11,7 @@ ghost use Rattle.mirroring.specs.Mirrors.{wholeList, enrolledOf};
 
 // Whether the list was good, and the mirrors if so.
 pub struct Enrolled {
-    pub mirrors: [Mirror; 4],
+    pub mirrors: [Mirror; PLACES],
     pub good: bool,
 }
 
@@ -31,7 +32,7 @@ fn refused() -> Enrolled
     ensures { λ r. ⌜ r ≡ Rattle.mirroring.specs.Mirrors.refusedList ⌝ }
 {
     let none = Mirror::none();
-    let ms = [none; 4];
+    let ms = [none; PLACES];
     Enrolled {
         mirrors: ms,
         good: false,
@@ -42,12 +43,11 @@ fn refused() -> Enrolled
 pub fn enrol(list: &[u8]) -> Enrolled
     ensures { λ r. ⌜ r ≡ enrolledOf (now (list .entry)) ⌝ }
 {
-    let fits = whole(list.len());
-    if !fits {
+    if !whole(list.len()) {
         return refused();
     }
     let none = Mirror::none();
-    let mut ms = [none; 4];
+    let mut ms = [none; PLACES];
     let mut i: usize = 0;
     while 16 * i < list.len() {
         let high = xdr::be64(list, 16 * i);
@@ -58,7 +58,7 @@ pub fn enrol(list: &[u8]) -> Enrolled
         }
         let m = Mirror::new(high, low);
         ms[i] = m;
-        i = i + 1;
+        i += 1;
     }
     Enrolled {
         mirrors: ms,

@@ -5,7 +5,10 @@ ghost use mathlib.Core.Path.{_≡_};
 ghost use mathlib.Core.List.{map};
 ghost use Prim.Native.Nat.{_<_};
 ghost use Rattle.places.specs.Places.{first};
-ghost use Rattle.mirroring.specs.Mirrors.{noMirror, newMirror, isAt, isGood, unblamed, blamedIf, accused, sourceIn};
+ghost use Rattle.mirroring.specs.Mirrors.{noMirror, newMirror, isAt, isGood, unblamed, blamedIf, blamedAt, sourceIn};
+
+// How many places a file has for mirrors.
+pub const PLACES: usize = 4;
 
 // A place for a mirror: the two halves of its device's id, whether the place is used, and whether its device is blamed.
 #[repr(C)]
@@ -34,8 +37,8 @@ impl Mirror {
         ensures { λ r. ⌜ r ≡ newMirror high low ⌝ }
     {
         Mirror {
-            high: high,
-            low: low,
+            high,
+            low,
             present: true,
             blamed: false,
         }
@@ -82,39 +85,37 @@ impl Mirror {
 }
 
 // The place of a device.
-pub(crate) fn place(mirrors: [Mirror; 4], high: u64, low: u64) -> Found
+pub(crate) fn place(mirrors: [Mirror; PLACES], high: u64, low: u64) -> Found
     ensures { λ r. ⌜ r ≡ first (isAt high low) mirrors ⌝ }
 {
     let mut i: usize = 0;
-    while i < 4 {
+    while i < PLACES {
         let m = mirrors[i];
-        let hit = m.is(high, low);
-        if hit {
+        if m.is(high, low) {
             return Found::At(i);
         }
-        i = i + 1;
+        i += 1;
     }
     Found::Nothing
 }
 
 // The lowest place that is not blamed.
-fn lowest(mirrors: [Mirror; 4]) -> Found
+fn lowest(mirrors: [Mirror; PLACES]) -> Found
     ensures { λ r. ⌜ r ≡ first isGood mirrors ⌝ }
 {
     let mut i: usize = 0;
-    while i < 4 {
+    while i < PLACES {
         let m = mirrors[i];
-        let hit = m.good();
-        if hit {
+        if m.good() {
             return Found::At(i);
         }
-        i = i + 1;
+        i += 1;
     }
     Found::Nothing
 }
 
 // The place to copy from, or 255.
-pub fn source(mirrors: [Mirror; 4]) -> u8
+pub fn source(mirrors: [Mirror; PLACES]) -> u8
     ensures { λ r. ⌜ r ≡ sourceIn mirrors ⌝ }
 {
     match lowest(mirrors) {
@@ -124,32 +125,32 @@ pub fn source(mirrors: [Mirror; 4]) -> u8
 }
 
 // The mirrors once the file is repaired.
-pub fn cleared(mirrors: [Mirror; 4]) -> [Mirror; 4]
+pub fn cleared(mirrors: [Mirror; PLACES]) -> [Mirror; PLACES]
     ensures { λ r. ⌜ r ≡ map unblamed mirrors ⌝ }
 {
     let mut ms = mirrors;
     let mut i: usize = 0;
-    while i < 4 {
+    while i < PLACES {
         let m = ms[i];
         let n = m.clear();
         ms[i] = n;
-        i = i + 1;
+        i += 1;
     }
     ms
 }
 
 // The mirrors with those blamed whose flag is up.
-pub fn accused(mirrors: [Mirror; 4], flags: [bool; 4]) -> [Mirror; 4]
-    ensures { λ r. ⌜ r ≡ accused flags mirrors ⌝ }
+pub fn with_blame(mirrors: [Mirror; PLACES], flags: [bool; PLACES]) -> [Mirror; PLACES]
+    ensures { λ r. ⌜ r ≡ blamedAt flags mirrors ⌝ }
 {
     let mut ms = mirrors;
     let mut i: usize = 0;
-    while i < 4 {
+    while i < PLACES {
         let m = ms[i];
         let b = flags[i];
         let n = m.blame(b);
         ms[i] = n;
-        i = i + 1;
+        i += 1;
     }
     ms
 }

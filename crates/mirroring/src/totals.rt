@@ -1,12 +1,10 @@
 // A report's totals of bytes read and written, by mirror (Ticket 3). In order: sums by place; one number more; the totals, and one record more.
 use crate::mirrors::Mirror;
+use crate::mirrors::PLACES;
 ghost use mathlib.Core.Path.{_≡_};
 ghost use Rattle.mirroring.specs.Totals.{cutSums, noSums, noTotals};
 ghost use Rattle.mirroring.specs.TotalsSteps.{sharesOf, grownBy, passedBy, grownIn, passedIn, addedSums, addedTotals};
 ghost use mathlib.Core.Bool.{cond};
-
-// How many places a file has for mirrors.
-pub const PLACES: usize = 4;
 
 // The largest sum.
 const MOST: u64 = 18446744073709551615;
@@ -63,7 +61,7 @@ fn shares(mirrors: [Mirror; PLACES], high: u64, low: u64, n: u64) -> [u64; PLACE
         let m = mirrors[i];
         let e = share(m.is(high, low), n);
         es[i] = e;
-        i = i + 1;
+        i += 1;
     }
     es
 }
@@ -77,7 +75,7 @@ fn grown(extra: [u64; PLACES], sums: [u64; PLACES]) -> [u64; PLACES]
     while i < PLACES {
         let b = grown_by(extra[i], bs[i]);
         bs[i] = b;
-        i = i + 1;
+        i += 1;
     }
     bs
 }
@@ -91,7 +89,7 @@ fn passed(extra: [u64; PLACES], sums: [u64; PLACES], flags: [u64; PLACES]) -> [u
     while i < PLACES {
         let f = passed_by(extra[i], sums[i], fs[i]);
         fs[i] = f;
-        i = i + 1;
+        i += 1;
     }
     fs
 }

@@ -1,2 +1,4 @@
 mod Entering
 mod Listings
+-- LAYOUTRETURN at a place of the record.
+pub mod Returning

@@ -1,17 +1,14 @@
 -- MODEL. What each method answers, and the record afterwards. Nothing here need be believed: proofs/History.antt shows that it is what the ledger
--- says. In this order: the record; calls on one file; register and forget; restart and the end of grace; the lists; LAYOUTRETURN.
+-- says. In this order: the record; calls on one file; register and forget; restart and the end of grace; the lists.
 use mathlib.Core.List.{List, [], _∷_, map}
 use mathlib.Core.Bool.{Bool, true, false, not, cond}
 use Prim.Native.Nat.{ℕ}
-use lib.ListN.{getD, set, length, replicate}
-use lib.Dec.{eqb, leb, ltb}
-use Rattle.wire.specs.Reply.{replyIn}
+use lib.ListN.{getD, set, replicate}
+use lib.Dec.{eqb, leb}
 use Rattle.places.specs.Lists.{chosen}
 use Rattle.places.specs.Places.{first, placeOr, leftOut}
 use Rattle.mirroring.specs.Mirrors.{enrolledOf}
-use Rattle.mirroring.specs.Totals.{noTotals}
-use Rattle.mirroring.specs.declared.totals.Totals.{Totals}
-use Rattle.files.specs.File.{noFile, blankFile, fileOf, isFile, isVacant, openedFile, reclaimedFile, closedFile, repairedFile, forgettable, returnedHeard, returnedFile, handedOnCode, restartedFile, endedFile, isListed, isReady, sourceOf}
+use Rattle.files.specs.File.{noFile, blankFile, fileOf, isFile, isVacant, openedFile, reclaimedFile, closedFile, repairedFile, forgettable, restartedFile, endedFile, isListed, isReady, sourceOf}
 use Rattle.files.specs.Head.{freshHead}
 use Rattle.files.specs.declared.head.Edition.{Edition}
 use Rattle.files.specs.declared.head.Edition.the-variants.{Current}
@@ -22,7 +19,6 @@ use Rattle.mirroring.specs.declared.enrol.Enrolled.{Enrolled}
 use Rattle.recovery.specs.Calls.{Answer, lend}
 use Rattle.recovery.specs.declared.record.Record.{Record}
 use Rattle.recovery.specs.declared.record.Answered.{Answered}
-use Rattle.recovery.specs.declared.layoutreturn.Returned.{Returned}
 
 -- ---- the record
 -- as it is set up: empty and not in grace, of an edition, which no call changes
@@ -114,30 +110,3 @@ numberOf f = f .number
 
 unfoldable pub listingOf : Bool → Record → List ℕ → List ℕ → Answer
 listingOf idle r a b = lend (map numberOf (chosen (isWanted idle) (r .files))) (map sourceOf (chosen (isWanted idle) (r .files))) a b
-
--- ---- LAYOUTRETURN
-unfoldable pub returnedOf : ℕ → ℕ → List ℕ → Record → Answered
-returnedOf n c s r = onPlace n (returnedFile n (r .head) c s) r
-
-abbrev pub isHanded : Answered → Bool
-isHanded a = eqb (a .status) handedOnCode
-
--- the totals that go with the answer
-unfoldable pub returnedTotals : ℕ → ℕ → List ℕ → Record → Totals
-returnedTotals n c s r = returnedHeard n (r .head) c s (fileAt n r) .totals
-
-abbrev pub returning : Answered → Totals → Returned
-returning a ts = record { status = a .status; handed = isHanded a; totals = ts; after = a .after }
-
-abbrev pub returnedWith : ℕ → ℕ → List ℕ → Record → Returned
-returnedWith n c s r = returning (returnedOf n c s r) (returnedTotals n c s r)
-
-unfoldable pub layoutreturnOf : ℕ → ℕ → List ℕ → List ℕ → Record → Returned
-layoutreturnOf n c s d r = cond (ltb (length d) 24) (record { status = 28; handed = false; totals = noTotals; after = r }) (returnedWith n c s r)
-
--- the reply buffer afterwards
-abbrev pub writing : Answered → List ℕ → List ℕ
-writing a d = cond (isHanded a) d (replyIn (a .status) d)
-
-unfoldable pub replyAfter : ℕ → ℕ → List ℕ → List ℕ → Record → List ℕ
-replyAfter n c s d r = cond (ltb (length d) 24) d (writing (returnedOf n c s r) d)

@@ -11,7 +11,7 @@ use lib.Seq.{take-all}
 use lib.Dec.{ltb, leb, eqb}
 use Rattle.xdr.specs.Be.{beNat}
 use Rattle.xdr.specs.Reader.{sameBytes, zeros, padding, Got}
-use Rattle.wire.specs.Request.{Arguments, ofFile, refusalOf, unless, arguments, requestOf, bodyOf}
+use Rattle.wire.specs.Request.{Arguments, ofFile, refusalOf, unless, arguments, requestOf, partOf, bodyOf}
 use Rattle.wire.specs.RequestSteps.{fileForm, formOf, anonymousIn, judgedIn, answerIn, requestIn}
 use Rattle.wire.specs.declared.request.Form.{Form}
 use Rattle.wire.specs.declared.request.Form.the-variants as form
@@ -245,8 +245,18 @@ pub body-bulk : (s : List ℕ) → requestOf s ≡ Bulk → [] ≡ bodyOf s
 unfolding bodyOf
 body-bulk s e = simp e
 
-pub body-file : (s : List ℕ) {a : Bool} {n : ℕ} → requestOf s ≡ File a n → take (52 + n - 52) (drop 52 s) ≡ bodyOf s
-unfolding bodyOf
-body-file s {n = n} e =
-    let q : 52 + n - 52 ≡ n = omega arith in
-    simp (e, q)
+pub body-part : (s : List ℕ) {a : Bool} {n : ℕ} → requestOf s ≡ File a n → partOf n s ≡ bodyOf s
+unfolding bodyOf partOf
+body-part s {n = n} e = simp (e, le-ltb (length s) (52 + n) (body-fits s e .within))
+
+-- ---- a part of a length
+module _ (s : List ℕ) (n : ℕ) where
+  pub part-short : length s < 52 + n → [] ≡ partOf n s
+  unfolding partOf
+  part-short h = rw (lt-ltb (length s) (52 + n) h)
+
+  pub part-whole : 52 + n ≤ length s → take (52 + n - 52) (drop 52 s) ≡ partOf n s
+  unfolding partOf
+  part-whole h =
+      let q : 52 + n - 52 ≡ n = omega arith in
+      rw (le-ltb (length s) (52 + n) h, q)

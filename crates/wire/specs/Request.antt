@@ -3,12 +3,13 @@
 --     refusalOf, isAnonymous   step 2, and the test of a stateid
 --     requestOf                the answer of steps 1 to 3
 --     numberOf, kindOf         the same as numbers
---     bodyOf                   the body, as the part of the request where it lies
-use Prim.Native.Nat.{ℕ}
+--     partOf, bodyOf           a part of a length from where a body begins; the body, as the part of the request where it lies
+use Prim.Native.Nat.{ℕ, _+_}
 use mathlib.Core.List.{List, [], _∷_}
 use mathlib.Core.Bool.{Bool, cond, _&&_}
 use lib.ListN.{length, take, drop}
-use lib.Dec.{leb, eqb}
+use lib.Dec.{leb, ltb, eqb}
+use Rattle.statuses.specs.Names.{Bytes}
 use Rattle.xdr.specs.Reader.{sameBytes, zeros, Read, Got, Bad, Reader, _>>=_, give, only, number, opaque, boolean, bounded}
 use Rattle.wire.specs.declared.request.Request.{Request}
 use Rattle.wire.specs.declared.request.Request.the-variants.{Refused, Bulk, File}
@@ -95,5 +96,9 @@ bodyLength (Refused k) = 0
 bodyLength Bulk = 0
 bodyLength (File a n) = n
 
-unfoldable pub bodyOf : List ℕ → List ℕ
+-- the part of n bytes from there on; empty where it is not all there
+unfoldable pub partOf : ℕ → Bytes → Bytes
+partOf n s = cond (ltb (length s) (52 + n)) [] (take n (drop 52 s))
+
+unfoldable pub bodyOf : Bytes → Bytes
 bodyOf s = take (bodyLength (requestOf s)) (drop (bodyAt (requestOf s)) s)

@@ -7,21 +7,21 @@ use Rattle.reports.specs.Report.{reportOf, outcome}
 use Rattle.reports.specs.ReportSteps.{reportFrom}
 use Rattle.reports.proofs.Reports.{device-forward, device-given, record-forward, fold-begins, fold-device, fold-record, fold-statistics, fold-malformed}
 use Rattle.reports.proofs.StatisticsWalk.{tally-nothing}
-use Rattle.mirroring.proofs.Hearing.{told-given}
-use Rattle.mirroring.specs.Blame.{heardNothing, told, counted}
+use Rattle.mirroring.proofs.Assessing.{error-given}
+use Rattle.mirroring.specs.Blame.{statusOnly, withError, counted}
 use borrow.Author.Needs.{needs}
 use Rattle.mirroring.proofs.blame.errors.Statement.{statement}
 use Rattle.mirroring.proofs.blame.errors.Tie as tie
 
 abbrev Inv-loop : tie.InvT-loop
-Inv-loop mirrors body h₀ c₀ h c =
-    outcome (told mirrors) (counted mirrors) (heardNothing 10036) h (reportFrom body c) ≡ outcome (told mirrors) (counted mirrors) (heardNothing 10036) (heardNothing 0) (reportOf body)
+Inv-loop mirrors body a₀ c₀ a c =
+    outcome (withError mirrors) (counted mirrors) (statusOnly 10036) a (reportFrom body c) ≡ outcome (withError mirrors) (counted mirrors) (statusOnly 10036) (statusOnly 0) (reportOf body)
 
 abbrev μ-loop : tie.MeasureT-loop
-μ-loop mirrors body h₀ c₀ h c = length body - c .at
+μ-loop mirrors body a₀ c₀ a c = length body - c .at
 
-nothing-requires : tie.Need-nothing-requires Inv-loop μ-loop
-nothing-requires c κs = search needs
+only-requires : tie.Need-only-requires Inv-loop μ-loop
+only-requires c κs = search needs
 
 start-requires : tie.Need-start-requires Inv-loop μ-loop
 start-requires c κs = search needs
@@ -29,7 +29,7 @@ start-requires c κs = search needs
 loop-holds : tie.Need-loop-holds Inv-loop μ-loop
 loop-holds c =
     let a = c .before .before .before .args in
-    rw (c .before .nothing .ensures) (fold-begins (told (a .mirrors)) (counted (a .mirrors)) _ _ (a .body .now) (c .start .ensures))
+    rw (c .before .only .ensures) (fold-begins (withError (a .mirrors)) (counted (a .mirrors)) _ _ (a .body .now) (c .start .ensures))
 
 step-requires : tie.Need-step-requires Inv-loop μ-loop
 step-requires c κs = search needs
@@ -37,8 +37,8 @@ step-requires c κs = search needs
 enum-known-high : tie.Need-enum-known-high Inv-loop μ-loop
 enum-known-high c = search needs
 
-told-requires : tie.Need-told-requires Inv-loop μ-loop
-told-requires c κs = search needs
+device-error-requires : tie.Need-device-error-requires Inv-loop μ-loop
+device-error-requires c κs = search needs
 
 loop-less : tie.Need-loop-less Inv-loop μ-loop
 loop-less c =
@@ -50,8 +50,8 @@ loop-again c =
     let a = c .before .before .before .before .before .before .before .before .before .args in
     let l = c .before .before .before .before .before .loop in
     let e = sym (c .before .before .before .before .step .ensures) ∙ c .before .before .high .given .1 in
-    rw (c .told .ensures ∙ told-given (a .mirrors) (l .h) (device-given (a .body .now) (l .c) e))
-    (fold-device (told (a .mirrors)) (counted (a .mirrors)) (heardNothing 10036) (l .h) (a .body .now) (l .c) (l .inv) e)
+    rw (c .device-error .ensures ∙ error-given (a .mirrors) (l .a) (device-given (a .body .now) (l .c) e))
+    (fold-device (withError (a .mirrors)) (counted (a .mirrors)) (statusOnly 10036) (l .a) (a .body .now) (l .c) (l .inv) e)
 
 enum-known-next : tie.Need-enum-known-next Inv-loop μ-loop
 enum-known-next c = search needs
@@ -65,7 +65,7 @@ loop-again-2 : tie.Need-loop-again-2 Inv-loop μ-loop
 loop-again-2 c =
     let a = c .before .before .before .before .before .before .before .before .args in
     let l = c .before .before .before .before .loop in
-    fold-record (told (a .mirrors)) (counted (a .mirrors)) (heardNothing 10036) (l .h) (a .body .now) (l .c) (l .inv) (sym (c .before .before .before .step .ensures) ∙ c .before .next .given .1)
+    fold-record (withError (a .mirrors)) (counted (a .mirrors)) (statusOnly 10036) (l .a) (a .body .now) (l .c) (l .inv) (sym (c .before .before .before .step .ensures) ∙ c .before .next .given .1)
 
 enum-known-next-2 : tie.Need-enum-known-next-2 Inv-loop μ-loop
 enum-known-next-2 c = search needs
@@ -74,7 +74,7 @@ returns : tie.Need-returns Inv-loop μ-loop
 returns c =
     let a = c .before .before .before .before .before .before .before .before .args in
     let l = c .before .before .before .before .loop in
-    fold-statistics (told (a .mirrors)) (counted (a .mirrors)) (heardNothing 10036) (l .h) (a .body .now) (l .c) (l .inv) (sym (c .before .before .before .step .ensures) ∙ c .before .next2 .given .1)
+    fold-statistics (withError (a .mirrors)) (counted (a .mirrors)) (statusOnly 10036) (l .a) (a .body .now) (l .c) (l .inv) (sym (c .before .before .before .step .ensures) ∙ c .before .next2 .given .1)
 
 enum-told : tie.Need-enum-told Inv-loop μ-loop
 enum-told c = search needs
@@ -86,8 +86,8 @@ returns-2 : tie.Need-returns-2 Inv-loop μ-loop
 returns-2 c =
     let a = c .before .before .before .before .before .before .before .before .args in
     let l = c .before .before .before .before .loop in
-    tally-nothing (counted (a .mirrors)) (heardNothing 10036) (l .h) (a .body .now) (c .none .ensures)
-    ∙ fold-malformed (told (a .mirrors)) (counted (a .mirrors)) (heardNothing 10036) (l .h) (a .body .now) (l .c) (l .inv) (sym (c .before .before .before .step .ensures) ∙ c .before .enum-told .given .1)
+    tally-nothing (counted (a .mirrors)) (statusOnly 10036) (l .a) (a .body .now) (c .none .ensures)
+    ∙ fold-malformed (withError (a .mirrors)) (counted (a .mirrors)) (statusOnly 10036) (l .a) (a .body .now) (l .c) (l .inv) (sym (c .before .before .before .step .ensures) ∙ c .before .enum-told .given .1)
 
 pub errors-spec : {M : Type 1} → statement M
 errors-spec =
@@ -95,12 +95,12 @@ errors-spec =
     (tie.spec
     Inv-loop
     μ-loop
-    nothing-requires
+    only-requires
     start-requires
     loop-holds
     step-requires
     enum-known-high
-    told-requires
+    device-error-requires
     loop-less
     loop-again
     enum-known-next

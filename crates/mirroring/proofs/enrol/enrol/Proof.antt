@@ -10,10 +10,10 @@ use Rattle.mirroring.proofs.enrol.enrol.Statement.{statement}
 use Rattle.mirroring.proofs.enrol.enrol.Tie as tie
 
 abbrev Inv-loop : tie.InvT-loop
-Inv-loop list fits ms₀ i₀ ms i = Enrolling list ms i
+Inv-loop list ms₀ i₀ ms i = Enrolling list ms i
 
 abbrev μ-loop : tie.MeasureT-loop
-μ-loop list fits ms₀ i₀ ms i = length list - 16 * i
+μ-loop list ms₀ i₀ ms i = length list - 16 * i
 
 whole-requires : tie.Need-whole-requires Inv-loop μ-loop
 whole-requires c κs = search needs

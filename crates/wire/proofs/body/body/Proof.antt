@@ -1,7 +1,6 @@
 -- Rests on where the body of a request lies.
 use mathlib.Core.Path.{sym, _∙_}
-use Rattle.wire.proofs.Requests.{body-fits, body-refused, body-bulk, body-file}
-use native.Mathlib.Omega.{arith}
+use Rattle.wire.proofs.Requests.{body-refused, body-bulk, body-part}
 use borrow.Author.Needs.{needs}
 use Rattle.wire.proofs.body.body.Statement.{statement}
 use Rattle.wire.proofs.body.body.Tie as tie
@@ -24,19 +23,8 @@ slice-aggregate-result-2 c = search needs
 enum-known-len : tie.Need-enum-known-len
 enum-known-len c = search needs
 
-add-end : tie.Need-add-end
-add-end c =
-    omega (arith, body-fits (c .before .before .before .before .before .args .s .now) (sym (c .before .before .before .read .ensures) ∙ c .before .len .given .1))
-
-sub-result : tie.Need-sub-result
-sub-result c = search needs
-
-part-result-start : tie.Need-part-result-start
-part-result-start c = search needs
-
-part-result-end : tie.Need-part-result-end
-part-result-end c =
-    omega (arith, body-fits (c .before .before .before .before .before .args .s .now) (sym (c .before .before .before .read .ensures) ∙ c .before .len .given .1))
+part-requires : tie.Need-part-requires
+part-requires c κs = search needs
 
 returns : tie.Need-returns
 returns c =
@@ -51,7 +39,7 @@ returns-2 c =
 returns-3 : tie.Need-returns-3
 returns-3 c =
     let s = c .before .before .before .before .before .before .args .s .now in
-    body-file s (sym (c .before .before .before .before .read .ensures) ∙ c .before .before .len .given .1)
+    c .part .ensures ∙ body-part s (sym (c .before .before .before .before .read .ensures) ∙ c .before .before .len .given .1)
 
 pub body-spec : {M : Type 1} → statement M
 body-spec =
@@ -63,10 +51,7 @@ body-spec =
     enum-told-2
     slice-aggregate-result-2
     enum-known-len
-    add-end
-    sub-result
-    part-result-start
-    part-result-end
+    part-requires
     returns
     returns-2
     returns-3)

@@ -34,22 +34,22 @@ returns-2 : tie.Need-returns-2
 unfolding closedFile
 returns-2 c = rw (sym (c .before .before .before .before .before .is .ensures) ∙ not-false _ (c .before .before .before .before .if1 .left), sym (c .before .before .holding .ensures) ∙ c .enum-told .given .1)
 
-came-requires : tie.Need-came-requires
-came-requires c κs = search needs
+is-reclaimed-requires : tie.Need-is-reclaimed-requires
+is-reclaimed-requires c κs = search needs
 
 unreclaimed-requires : tie.Need-unreclaimed-requires
 unreclaimed-requires c κs = search needs
 
 returns-3 : tie.Need-returns-3
 unfolding closedFile
-returns-3 c = rw (sym (c .before .before .before .before .before .before .before .before .before .is .ensures) ∙ not-false _ (c .before .before .before .before .before .before .before .before .if1 .left), at (c .before .before .before), ← c .before .before .came .ensures, sym (c .before .unreclaimed .ensures) ∙ c .if2 .taken)
+returns-3 c = rw (sym (c .before .before .before .before .before .before .before .before .before .is .ensures) ∙ not-false _ (c .before .before .before .before .before .before .before .before .if1 .left), at (c .before .before .before), ← c .before .before .is-reclaimed .ensures, sym (c .before .unreclaimed .ensures) ∙ c .if2 .taken)
 
 without-requires : tie.Need-without-requires
 without-requires c κs = search needs
 
 returns-4 : tie.Need-returns-4
 unfolding closedFile
-returns-4 c = rw (sym (c .before .before .before .before .before .before .before .before .before .before .is .ensures) ∙ not-false _ (c .before .before .before .before .before .before .before .before .before .if1 .left), at (c .before .before .before .before), ← c .before .before .before .came .ensures, sym (c .before .before .unreclaimed .ensures) ∙ c .before .if2 .left, c .without .ensures)
+returns-4 c = rw (sym (c .before .before .before .before .before .before .before .before .before .before .is .ensures) ∙ not-false _ (c .before .before .before .before .before .before .before .before .before .if1 .left), at (c .before .before .before .before), ← c .before .before .before .is-reclaimed .ensures, sym (c .before .before .unreclaimed .ensures) ∙ c .before .if2 .left, c .without .ensures)
 
 pub close-spec : {M : Type 1} → statement M
 close-spec =
@@ -61,7 +61,7 @@ close-spec =
     enum-known-i
     enum-told
     returns-2
-    came-requires
+    is-reclaimed-requires
     unreclaimed-requires
     returns-3
     without-requires

@@ -1,53 +1,60 @@
--- Each return rewrites with the tests that led there; the reply by what `write` promises.
-use mathlib.Core.Path.{_≡_, sym, ap, _∙_}
-use mathlib.Core.Bool.{true, false}
-use Prim.Native.Nat.{_-_}
-use borrow.Author.Tests.{le-ltb, lt-ltb}
-use Rattle.recovery.specs.declared.layoutreturn.Returned.{Returned}
-use Rattle.recovery.specs.Record.{isHanded, returnedOf, layoutreturnOf, replyAfter}
+-- The law of LAYOUTRETURN at a place, at the place that is asked.
+use mathlib.Core.Path.{_≡_, ap, _∙_}
+use Rattle.layoutreturn.specs.LayoutReturn.{replyBy}
+use Rattle.recovery.specs.LayoutReturn.{layoutreturnOf, replyAfter}
+use Rattle.recovery.specs.declared.returns.Returned.{Returned}
+use Rattle.recovery.proofs.Returning.{returnedAt, placed-for, returned-at}
 use borrow.Author.Needs.{needs}
 use Rattle.recovery.proofs.record.Record.layoutreturn.Statement.{statement}
 use Rattle.recovery.proofs.record.Record.layoutreturn.Tie as tie
 
-none-requires : tie.Need-none-requires
-none-requires c κs = search needs
+decide-requires : tie.Need-decide-requires
+decide-requires c κs = search needs
 
-returns : tie.Need-returns
-unfolding layoutreturnOf replyAfter
-returns c = (rw (lt-ltb _ _ (c .before .if1 .taken), c .none .ensures), rw (lt-ltb _ _ (c .before .if1 .taken)))
+place-for-requires : tie.Need-place-for-requires
+place-for-requires c κs = search needs
 
-returned-requires : tie.Need-returned-requires
-returned-requires c κs = search needs
+mul-f : tie.Need-mul-f
+mul-f c = search needs
 
-returns-2 : tie.Need-returns-2
-unfolding layoutreturnOf replyAfter
-returns-2 c =
-    let a = c .before .before .before .before .before .args in
-    let e : isHanded (returnedOf (a .file) (a .client) (a .request .now) (a .self)) ≡ true = sym (ap (λ (x : Returned). x .handed) (c .before .returned .ensures)) ∙ c .if2 .taken in
-    (rw (le-ltb _ _ (c .before .before .if1 .left)) (c .before .returned .ensures), rw (le-ltb _ _ (c .before .before .if1 .left), e))
+element-copy-out-f : tie.Need-element-copy-out-f
+element-copy-out-f c = search needs
 
-write-requires : tie.Need-write-requires
-write-requires c κs = search needs
+answer-requires : tie.Need-answer-requires
+answer-requires c κs = search needs
+
+apply-requires : tie.Need-apply-requires
+apply-requires c κs = search needs
+
+stored-requires : tie.Need-stored-requires
+stored-requires c κs = c .before .before .before .before .before .before .before .place-for .ensures .1
 
 same-length : tie.Need-same-length
 same-length c = search needs
 
-returns-3 : tie.Need-returns-3
-unfolding layoutreturnOf replyAfter
-returns-3 c =
-    let a = c .before .before .before .before .before .before .before .before .before .args in
-    let q = c .before .before .before .before .before .returned .ensures in
-    let e : isHanded (returnedOf (a .file) (a .client) (a .request .now) (a .self)) ≡ false = sym (ap (λ (x : Returned). x .handed) q) ∙ c .before .before .before .before .if2 .left in
-    (rw (le-ltb _ _ (c .before .before .before .before .before .before .if1 .left)) q, rw (le-ltb _ _ (c .before .before .before .before .before .before .if1 .left), e, ← ap (λ (x : Returned). x .status) q) (c .before .before .write .ensures .1))
+returns : tie.Need-returns
+unfolding replyAfter
+returns c =
+    let answered = c .before .before .before .before .before .before .before .before in
+    let placed = answered .before .before .before in
+    let a = placed .before .before .before .before .before .args in
+    let i = placed .place-for .result in
+    let decided = placed .before .decide in
+    let q : returnedAt (a .t1) i (answered .answer .result) ≡ layoutreturnOf (a .file) (a .client) (a .request .now) (a .reply .now) (a .t1) =
+    ap (returnedAt (a .t1) i) (answered .answer .ensures .0)
+    ∙ returned-at (a .file) (a .client) (a .request .now) (a .reply .now) (a .t1) i (decided .result) (decided .ensures) (placed-for (a .file) (a .t1) i (decided .result) (placed .place-for .ensures .0)) in
+    (rw (c .before .before .before .stored .ensures, c .before .before .before .before .before .apply .ensures) q, answered .answer .ensures .1 ∙ ap (λ (x : Returned). replyBy (x .status) (a .reply .now)) q)
 
 pub layoutreturn-spec : {M : Type 1} → statement M
 layoutreturn-spec =
     tie.close
     (tie.spec
-    none-requires
-    returns
-    returned-requires
-    returns-2
-    write-requires
+    decide-requires
+    place-for-requires
+    mul-f
+    element-copy-out-f
+    answer-requires
+    apply-requires
+    stored-requires
     same-length
-    returns-3)
+    returns)

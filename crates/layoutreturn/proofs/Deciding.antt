@@ -1,0 +1,44 @@
+-- Where a body is read, the part of the length that was decided is the body of the request.
+use mathlib.Core.Path.{_≡_, refl, sym, ap, _∙_}
+use mathlib.Core.Bool.{Bool, true, false, cond}
+use mathlib.Core.List.{List}
+use Prim.Native.Nat.{ℕ}
+use lib.Dec.{ltb}
+use Rattle.statuses.specs.Names.{Bytes}
+use Rattle.wire.specs.Request.{requestOf, partOf, bodyOf}
+use Rattle.wire.specs.declared.request.Request.{Request}
+use Rattle.wire.specs.declared.request.Request.the-variants as request
+use Rattle.wire.proofs.Requests.{body-part}
+use Rattle.files.specs.declared.head.Head.{Head}
+use Rattle.layoutreturn.specs.LayoutReturn.{phaseOf, decided, decisionOf}
+use Rattle.layoutreturn.specs.declared.Decision.{Decision}
+use Rattle.layoutreturn.specs.declared.Decision.the-variants.{Answered, HandedOn, ReadBody}
+
+-- the length that a decision reads, if it reads one
+abbrev Reads : Bytes → Decision → Type 0
+Reads s (Answered k) = Unit {0}
+Reads s HandedOn = Unit {0}
+Reads s (ReadBody len) = partOf len s ≡ bodyOf s
+
+phase-reads : (s : Bytes) (len : ℕ) → partOf len s ≡ bodyOf s → (a o g : Bool) → Reads s (phaseOf a (record { grace = g; old = o }) len)
+phase-reads s len e true true g = tt
+phase-reads s len e true false true = e
+phase-reads s len e true false false = tt
+phase-reads s len e false o true = tt
+phase-reads s len e false o false = tt
+
+request-reads : (s : Bytes) (h : Head) (q : Request) → requestOf s ≡ q → Reads s (decided h q)
+request-reads s h (request.Refused k) e = tt
+request-reads s h request.Bulk e = tt
+request-reads s h (request.File a n) e = phase-reads s n (body-part s e) a (h .old) (h .grace)
+
+reads : (s : Bytes) (h : Head) (room : ℕ) → Reads s (decisionOf h s room)
+unfolding decisionOf
+reads s h room = by (ltb room 24)
+  where
+    by : (b : Bool) → Reads s (cond b (Answered 28) (decided h (requestOf s)))
+    by true = tt
+    by false = request-reads s h (requestOf s) refl
+
+pub body-decided : (s : Bytes) (h : Head) (room : ℕ) {len : ℕ} → decisionOf h s room ≡ ReadBody len → partOf len s ≡ bodyOf s
+body-decided s h room e = rw e at (reads s h room)

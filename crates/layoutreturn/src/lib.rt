@@ -1,0 +1,146 @@
+// LAYOUTRETURN on one file (paper 01, "LAYOUTRETURN"; 02, Tickets 1 and 3), its steps in the paper's order. In this order: what is decided before any
+// file is looked at, from the 28 for a short reply to step 4; what an answer says; steps 5 to 7 on a file; the reply; the file afterwards.
+use files::file::File;
+use files::head::Head;
+use mirroring::blame::Assessment;
+use mirroring::blame::Change;
+use mirroring::totals::Totals;
+use wire::request::Request;
+ghost use mathlib.Core.Path.{_≡_};
+ghost use Rattle.reports.specs.Report.{reportOf};
+ghost use Rattle.layoutreturn.specs.LayoutReturn.{phaseOf, decisionOf, outcomeOf, reportOn, outcomeBy, replyBy, fileAfter};
+
+// What is known of a request before any file is looked at.
+pub enum Decision {
+    // It is answered with this status, and no file is asked.
+    Answered(u32),
+    // It is handed on.
+    HandedOn,
+    // Its body, of so many bytes, is read.
+    ReadBody(usize),
+}
+
+// Step 4: by the kind of stateid, the edition and the phase.
+fn phase(anonymous: bool, head: Head, len: usize) -> Decision
+    ensures { λ r. ⌜ r ≡ phaseOf anonymous head len ⌝ }
+{
+    match anonymous {
+        true => {
+            if head.old {
+                return Decision::Answered(statuses::BAD_STATEID);
+            }
+            if head.grace {
+                return Decision::ReadBody(len);
+            }
+            Decision::Answered(statuses::NO_GRACE)
+        }
+        false => {
+            if head.grace {
+                return Decision::Answered(statuses::GRACE);
+            }
+            Decision::HandedOn
+        }
+    }
+}
+
+// A reply buffer of under 24 bytes gets 28 before all else; then steps 1 to 4.
+pub fn decide(head: Head, request: &[u8], room: usize) -> Decision
+    ensures { λ r. ⌜ r ≡ decisionOf head (now (request .entry)) room ⌝ }
+{
+    if room < 24 {
+        return Decision::Answered(statuses::NOSPC);
+    }
+    match wire::request::read(request) {
+        Request::Refused(k) => Decision::Answered(k),
+        Request::Bulk => Decision::HandedOn,
+        Request::File { anonymous, len } => phase(anonymous, head, len),
+    }
+}
+
+// All that an answer says: its status, HANDED_ON where the request is handed on; what stands beside the files; what changes in the file; the totals of
+// bytes by mirror.
+pub struct Outcome {
+    pub status: u32,
+    pub head: Head,
+    pub change: Change,
+    pub totals: Totals,
+}
+
+impl Outcome {
+    // As a report was assessed.
+    pub(crate) fn of(head: Head, a: Assessment) -> Outcome
+        ensures { λ r. ⌜ r ≡ outcomeOf head a ⌝ }
+    {
+        let change = a.change;
+        let totals = a.totals;
+        Outcome {
+            status: a.status,
+            head,
+            change,
+            totals,
+        }
+    }
+}
+
+// Steps 5 to 7: what a report says of the file, or 10036; 70; 10034.
+fn report(f: File, number: u64, client: u64, body: &[u8]) -> Assessment
+    ensures { λ r. ⌜ r ≡ reportOn number client (reportOf (now (body .entry))) f ⌝ }
+{
+    let hit = f.is(number);
+    let xs = f.intents;
+    let held = intents::held(xs, client);
+    let ms = f.mirrors;
+    let a = mirroring::blame::assess(ms, body);
+    if a.status != 0 {
+        return a;
+    }
+    if !hit {
+        return Assessment::only(statuses::STALE);
+    }
+    if !held {
+        return Assessment::only(statuses::RECLAIM_BAD);
+    }
+    a
+}
+
+// The outcome of what was decided; the file is asked only where the body is read.
+fn outcome_by(d: Decision, f: File, number: u64, head: Head, client: u64, request: &[u8]) -> Outcome
+    ensures { λ r. ⌜ r ≡ outcomeBy number head client (now (request .entry)) f d ⌝ }
+{
+    match d {
+        Decision::Answered(status) => Outcome::of(head, Assessment::only(status)),
+        Decision::HandedOn => Outcome::of(head, Assessment::only(statuses::HANDED_ON)),
+        Decision::ReadBody(len) => {
+            let body = wire::body::part(request, len);
+            Outcome::of(head, report(f, number, client, body))
+        }
+    }
+}
+
+// The outcome, with its reply: none is written where the request is handed on.
+pub fn answer(
+    d: Decision,
+    f: File,
+    number: u64,
+    head: Head,
+    client: u64,
+    request: &[u8],
+    reply: &mut [u8],
+) -> Outcome
+    ensures { λ r. ⌜ (r ≡ outcomeBy number head client (now (request .entry)) f d) × (now (reply .exit) ≡ replyBy (r .status) (now (reply .entry))) ⌝ }
+{
+    let o = outcome_by(d, f, number, head, client, request);
+    if o.status == statuses::HANDED_ON {
+        return o;
+    }
+    wire::reply::write(reply, o.status);
+    o
+}
+
+// The file afterwards.
+pub fn apply(f: File, o: Outcome) -> File
+    ensures { λ r. ⌜ r ≡ fileAfter f o ⌝ }
+{
+    let change = o.change;
+    f.apply(change)
+}

@@ -1,0 +1,38 @@
+-- By the place that `place` finds.
+use mathlib.Core.Path.{sym, _∙_}
+use Prim.Native.Nat.{_-_}
+use borrow.Author.Tests.{eq-eqb, ne-eqb}
+use Rattle.mirroring.specs.Blame.{withErrorOf}
+use native.Mathlib.Omega.{arith}
+use borrow.Author.Needs.{needs}
+use Rattle.mirroring.proofs.blame.Assessment.device_error.Statement.{statement}
+use Rattle.mirroring.proofs.blame.Assessment.device_error.Tie as tie
+
+place-requires : tie.Need-place-requires
+place-requires c κs = search needs
+
+enum-known-i : tie.Need-enum-known-i
+enum-known-i c = search needs
+
+enum-told : tie.Need-enum-told
+enum-told c = search needs
+
+returns : tie.Need-returns
+unfolding withErrorOf
+returns c = rw (sym (c .before .before .before .place .ensures) ∙ c .before .enum-told .given .1)
+
+returns-2 : tie.Need-returns-2
+unfolding withErrorOf
+returns-2 c = rw (sym (c .before .before .before .before .place .ensures) ∙ c .before .before .i .given .1, eq-eqb _ _ (c .if1 .taken))
+
+blame-requires : tie.Need-blame-requires
+blame-requires c κs = search needs
+
+returns-3 : tie.Need-returns-3
+unfolding withErrorOf
+returns-3 c = rw (sym (c .before .before .before .before .before .before .place .ensures) ∙ c .before .before .before .before .i .given .1, ne-eqb _ _ (c .before .before .if1 .left), c .blame .ensures)
+
+pub device-error-spec : {M : Type 1} → statement M
+device-error-spec =
+    tie.close
+    (tie.spec place-requires enum-known-i enum-told returns returns-2 blame-requires returns-3)

@@ -1,0 +1,17 @@
+-- The totals are none.
+use borrow.Author.Needs.{needs}
+use Rattle.mirroring.proofs.blame.Assessment.only.Statement.{statement}
+use Rattle.mirroring.proofs.blame.Assessment.only.Tie as tie
+
+none-requires : tie.Need-none-requires
+none-requires c κs = search needs
+
+returns : tie.Need-returns
+returns c = rw (c .none .ensures)
+
+pub only-spec : {M : Type 1} → statement M
+only-spec =
+    tie.close
+    (tie.spec
+    none-requires
+    returns)
