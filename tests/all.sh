@@ -4,7 +4,7 @@ set -e
 cd "$(dirname "$0")/.."
 mkdir -p target/tests
 tests/layout/run.sh
-python3 tests/list_layout/run.py build/list_layout tests/list_layout/cases.txt
+tests/list_layout/run.sh
 tests/layoutreturn/run.sh
 tests/epochs/run.sh
 tests/capi/run.sh

@@ -44,8 +44,10 @@ below() {
 source_of() {
     {
         rt version
-        cat crates.txt
-        for crate in $(below "$1"); do find "crates/$crate" -name must-fail -prune -o -type f -print; done | sort | xargs sha256sum
+        for crate in $(below "$1"); do
+            grep "^$crate:" crates.txt
+            find "crates/$crate" -name must-fail -prune -o -type f -print | sort | xargs sha256sum
+        done
     } | sha256sum | cut -d' ' -f1
 }
 
