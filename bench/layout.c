@@ -1,4 +1,4 @@
-/* The layout check and the writer. */
+/* The layout check, the extents one by one, and the writer. */
 #include "bench.h"
 #include "plain.h"
 #include "stellcircle.h"
@@ -35,6 +35,13 @@ static void fill(void)
         for (int i = 0; i < CALLS; i++) \
             bench_sum[FORM] += P##layout_check(body, 4 + 44 * n, &place) + place; \
     } \
+    static void P##extents(void) \
+    { \
+        uint64_t device, offset, length, storage; \
+        uint32_t extent_state; \
+        for (size_t i = 0; i < n; i++) \
+            bench_sum[FORM] += P##layout_extent(body, 4 + 44 * n, n, i, &device, &offset, &length, &storage, &extent_state) + device + offset + storage + extent_state; \
+    } \
     static void P##write(void) \
     { \
         uint64_t place; \
@@ -48,7 +55,7 @@ JOBS(clang_, 2)
 #define SIZE(N) \
     {"layout check, " #N " extents", CALLS, 0, N, {fill, fill, fill}, BENCH_FORMS(check)}, \
     {"layout write, " #N " extents", CALLS, 0, N, {fill, fill, fill}, BENCH_FORMS(write)}
-static const struct bench_job jobs[] = {SIZE(256), SIZE(512), SIZE(1024)};
+static const struct bench_job jobs[] = {SIZE(256), SIZE(512), SIZE(1024), {"layout extent, by its place", 1024, 0, 1024, {fill, fill, fill}, BENCH_FORMS(extents)}};
 
 int main(int argc, char **argv)
 {

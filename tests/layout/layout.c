@@ -51,6 +51,9 @@ static void read_place(const uint8_t *body, size_t len, uint64_t n, uint64_t i, 
 {
     uint64_t device = 77, offset = 77, length = 77, storage = 77;
     uint32_t state = 77, rule = sc_layout_extent(body, len, n, i, &device, &offset, &length, &storage, &state);
+    uint64_t plain[4];
+    uint32_t plain_state, plain_rule = plain_layout_extent(body, len, n, i, &plain[0], &plain[1], &plain[2], &plain[3], &plain_state);
+    expect(plain_rule == rule && plain[0] == device && plain[1] == offset && plain[2] == length && plain[3] == storage && plain_state == state, line, "plain C gives another extent");
     if (i >= n) {
         expect(rule == 9 && (device | offset | length | storage | state) == 0, line, "a place past the count is not 9 and zeros");
         return;

@@ -1,4 +1,4 @@
-/* Layout bodies in plain C: the check, in one pass, and the writer. */
+/* Layout bodies in plain C: the check, in one pass, an extent by its place, and the writer. */
 #include "bytes.h"
 #include "plain.h"
 
@@ -58,6 +58,20 @@ uint32_t FN(layout_check)(const uint8_t *body, size_t len, uint64_t *place)
         }
     }
     *place = n;
+    return 0;
+}
+
+uint32_t FN(layout_extent)(const uint8_t *body, size_t len, uint64_t n, uint64_t i, uint64_t *device, uint64_t *offset, uint64_t *length, uint64_t *storage, uint32_t *state)
+{
+    *device = *offset = *length = *storage = *state = 0;
+    if (len < 4 || i >= n || i >= (len - 4) / 44)
+        return 9;
+    const uint8_t *e = body + 4 + 44 * i;
+    *device = 4 + 44 * i;
+    *offset = be64(e + 16);
+    *length = be64(e + 24);
+    *storage = be64(e + 32);
+    *state = be32(e + 40);
     return 0;
 }
 

@@ -43,6 +43,7 @@ struct plain_epochs {
 
 #define PLAIN(P) \
     uint32_t P##layout_check(const uint8_t *, size_t, uint64_t *); \
+    uint32_t P##layout_extent(const uint8_t *, size_t, uint64_t, uint64_t, uint64_t *, uint64_t *, uint64_t *, uint64_t *, uint32_t *); \
     uint32_t P##layout_write(const uint8_t *, size_t, const uint64_t *, size_t, const uint64_t *, size_t, const uint64_t *, size_t, const uint32_t *, size_t, \
                              uint8_t *, size_t, uint64_t *); \
     uint32_t P##layoutreturn_check(const uint8_t *, size_t, uint32_t *, uint64_t *, uint64_t *); \
