@@ -31,6 +31,11 @@ for compile in "gcc -std=c11" "g++ -x c++ -std=c++11" "clang -std=c11"; do
     $compile -Wall -Wextra -Wpedantic -Werror -o "$room/server" "$room/server.c" -x none $(pkg-config --cflags --libs stellcircle)
     [ "$("$room/server")" = "0 0 0 0" ] || { echo "install: the server of $compile answers otherwise"; exit 1; }
 done
+# the header alone, by each edition of C and C++ that it is for
+for edition in c11 c17 c2x c++11 c++20; do
+    case $edition in c++*) compile=g++ language=c++ ;; *) compile=gcc language=c ;; esac
+    echo '#include <stellcircle.h>' | "$compile" -std=$edition -fsyntax-only -Wall -Wextra -Wpedantic -Werror -I"$room/usr/include" -x $language - || exit 1
+done
 for program in list_layout stellcircle-replay; do
     [ -x "$room/usr/bin/$program" ] && [ -f "$room/usr/share/man/man1/$program.1" ] || { echo "install: $program or its man page is missing"; exit 1; }
 done

@@ -1,4 +1,4 @@
--- DEFINITION. What C is handed of totals (Ticket 3), in this order: a slice that it lends; the flags.
+-- DEFINITION. What C is handed of totals (Rules 7.5), in this order: a slice that it lends; the flags.
 use mathlib.Core.List.{List}
 use mathlib.Core.Bool.{Bool}
 use Prim.Native.Nat.{ℕ}

@@ -1,4 +1,4 @@
--- DEFINITION. Cluster grace epochs (paper 01, "Cluster epochs"; source document 002): what each call on a node's epoch record answers, and the record afterwards. In this order:
+-- DEFINITION. Cluster grace epochs (Rules 6.1 to 6.4): what each call on a node's epoch record answers, and the record afterwards. In this order:
 --     above31, member, needs, enforces     what a number and a record say of a node.        noGrace, lastEpoch, allEnforce     and of the cluster
 --     fresh                    the record that a history begins with
 --     joinRules ..             each call's refusals in order, a condition and its number (`Rule` of the crate statuses)

@@ -1,4 +1,4 @@
--- DEFINITION. Histories of calls on a fresh epoch record, and what paper 01 ("Cluster epochs", last paragraph) says after any of them. In this order:
+-- DEFINITION. Histories of calls on a fresh epoch record, and what holds after any of them (Rules 6.5). In this order:
 --     Call, called     a call, and what it answers and leaves: the very definition that its function's contract cites
 --     after            the record after a list of calls
 --     raises, raised   whether a call is a start that is accepted where R is 0; how many of a list are

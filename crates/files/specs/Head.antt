@@ -1,4 +1,4 @@
--- DEFINITION. What stands beside a record's files: whether it is in grace, and its edition (02, Ticket 1), which the head keeps as a flag.
+-- DEFINITION. What stands beside a record's files: whether it is in grace, and its edition (Rules 4.3), which the head keeps as a flag.
 use mathlib.Core.Bool.{Bool, true, false, cond}
 use Rattle.files.specs.declared.head.Head.{Head}
 use Rattle.files.specs.declared.head.Edition.{Edition}

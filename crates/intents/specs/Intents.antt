@@ -25,7 +25,7 @@ isFree x = not (x .taken)
 abbrev pub isKept : Intent → Bool
 isKept x = cond (x .taken) (x .reclaimed) false
 
--- one that was not reclaimed (02, Ticket 2)
+-- one that was not reclaimed (Rules 4.6)
 abbrev pub isLost : Intent → Bool
 isLost x = cond (x .taken) (not (x .reclaimed)) false
 

@@ -1,4 +1,4 @@
--- MODEL. LAYOUTRETURN on one file (paper 01, "LAYOUTRETURN"), in this order: 28 and steps 1 to 4, before any file is looked at; steps 5 to 7 on a file; the
+-- MODEL. LAYOUTRETURN on one file (Rules 3.7, 3.8), in this order: 28 and steps 1 to 4, before any file is looked at; steps 5 to 7 on a file; the
 -- outcome; the reply; the file afterwards.
 use mathlib.Core.Bool.{Bool, true, false, cond}
 use Prim.Native.Nat.{ℕ}

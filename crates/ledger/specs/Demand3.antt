@@ -1,4 +1,4 @@
--- DEFINITION. Demand 3 (paper 01, "Histories"), of any list of calls from a fresh record of either edition (02, Ticket 1): one claim about the whole list, proved in proofs/History.antt.
+-- DEFINITION. Demand 3 (Rules 5.9), of any list of calls from a fresh record of either edition (Rules 4.3): one claim about the whole list, proved in proofs/History.antt.
 use mathlib.Core.Path.{_≡_}
 use mathlib.Core.List.{List}
 use mathlib.Core.Bool.{Bool, true, false}
@@ -15,7 +15,7 @@ use Rattle.ledger.specs.History.{answers, recordAfter, verdicts, ledgerA
 abbrev pub ledgerOf : Edition → List Call → Ledger
 ledgerOf e calls = ledgerAfter (noRows e) calls (answers (freshAs e) calls)
 
--- each answer is what the ledger before that call says, every lent byte and all totals of a LAYOUTRETURN (Ticket 3) included; after all calls both listings are
+-- each answer is what the ledger before that call says, every lent byte and all totals of a LAYOUTRETURN (Rules 3.11) included; after all calls both listings are
 -- the ledger's, and the ledger's two lists are those that the paper's sentences mean, and no other lists are; and the record's edition is the one that it was
 -- set up with
 pub record Holds (e : Edition) (calls : List Call) : Type 0 where

@@ -1,4 +1,4 @@
--- DEFINITION. A history (paper 01, "Histories"): any list of calls, each on the record that the last one left, and the ledger that goes along with it. In this
+-- DEFINITION. A history (Rules 5.1): any list of calls, each on the record that the last one left, and the ledger that goes along with it. In this
 -- order: a step; the record's side of a history; the ledger's side.
 use mathlib.Core.List.{List, [], _∷_}
 use mathlib.Core.Bool.{Bool, true, false, cond}

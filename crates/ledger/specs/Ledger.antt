@@ -1,4 +1,4 @@
--- DEFINITION. The ledger of a history (paper 01, "The ledger"): it is fed each call and its answer, and nothing that the record holds. In this order:
+-- DEFINITION. The ledger of a history (Rules 5.2 to 5.4): it is fed each call and its answer, and nothing that the record holds. In this order:
 -- rows and the ledger; what a row says; the rules of refusal; the two lists; LAYOUTRETURN; `judge`, which answer each call must get; rows as calls
 -- change them; `feed`, what an answered call does.
 use mathlib.Core.List.{List, [], _∷_, _++_, map}
@@ -47,7 +47,7 @@ withMark b w = record { number = w .number; mirrors = w .mirrors; intents = w .i
 abbrev pub withBlame : List ℕ → Row → Row
 withBlame bs w = record { number = w .number; mirrors = w .mirrors; intents = w .intents; reclaimed = w .reclaimed; marked = w .marked; blamed = bs }
 
--- the record's edition (02, Ticket 1), whether in grace, and the rows, which stand by rising number
+-- the record's edition (Rules 4.3), whether in grace, and the rows, which stand by rising number
 pub record Ledger : Type 0 where
   pub edition : Edition
   pub grace : Bool
@@ -94,7 +94,7 @@ isOpen w = not (none (w .intents))
 abbrev pub reclaimedBy : ℕ → Row → Bool
 reclaimedBy c w = has c (w .reclaimed)
 
--- whether the end of grace marks the file (02, Ticket 2): there is an intent whose client has not reclaimed
+-- whether the end of grace marks the file (Rules 4.6): there is an intent whose client has not reclaimed
 abbrev pub lost : Row → Bool
 lost w = any (λ c. not (reclaimedBy c w)) (w .intents)
 
@@ -148,7 +148,7 @@ abbrev pub listOf : List Row → List ℕ → List ℕ → Answer
 listOf ws a b = lend (numbers ws) (sources ws) a b
 
 -- ---- LAYOUTRETURN
--- the totals of a report, by mirror (Ticket 3); none if a named device is no mirror
+-- the totals of a report, by mirror (Rules 3.11); none if a named device is no mirror
 abbrev pub rowTotals : Report → Row → Totals
 rowTotals Malformed w = noTotals
 rowTotals (Whole xs ys) w = cond (any (isStranger w) xs) noTotals (totalsOf ys (w .mirrors))
@@ -169,7 +169,7 @@ bodyRules (Whole xs ys) = []
 abbrev pub reportRules : Ledger → ℕ → ℕ → Report → List (Rule ℕ)
 reportRules l n c p = bodyRules p ++ not (registered n l) ⇒ 70 ∷ intentRules c (rowOf n l)
 
--- steps 1 to 6: s is the request, d the reply buffer. Step 4: all zeros get 10025 from a record set up as old, and 10033 if not in grace; in grace a stateid that
+-- steps 1 to 6 (Rules 3.7): s is the request, d the reply buffer. Step 4: all zeros get 10025 from a record set up as old, and 10033 if not in grace; in grace a stateid that
 -- is not all zeros gets 10013
 abbrev pub judgeRequest : Ledger → ℕ → ℕ → List ℕ → List ℕ → Request → Answer
 judgeRequest l n c s d (request.Refused k) = refusal k d
@@ -212,7 +212,7 @@ restarted w = withReclaimed [] w
 abbrev pub ended : Row → Row
 ended w = withMark (cond (lost w) true (w .marked)) (withIntents (chosen (λ c. reclaimedBy c w) (w .intents)) w)
 
--- step 7: a device with a status other than 0 is blamed
+-- step 7 (Rules 3.8): a device with a status other than 0 is blamed
 abbrev pub isFault : DeviceError → Bool
 isFault x = not (eqb (x .status) 0)
 

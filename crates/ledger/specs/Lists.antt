@@ -1,4 +1,4 @@
--- DEFINITION. The list rule as what it means (paper 01, "The ledger"): the resilver list gives each file that needs repair once, by rising number, with
+-- DEFINITION. The list rule as what it means (Rules 5.6, 5.7): the resilver list gives each file that needs repair once, by rising number, with
 -- its source; the other list keeps only files with no intent.
 use mathlib.Core.Path.{_≡_}
 use mathlib.Core.List.{List, [], _∷_}

@@ -1,4 +1,4 @@
--- DEFINITION. Statistics change nothing but the totals (Ticket 3): they never mark, blame or reclaim, and the record is the same without them. Proved in
+-- DEFINITION. Statistics change nothing but the totals (Rules 3.12): they never mark, blame or reclaim, and the record is the same without them. Proved in
 -- proofs/OnlyTotals.antt. In this order: two requests that differ in their statistics; two answers that differ in their totals; the claim, of any record.
 use mathlib.Core.Path.{_≡_}
 use mathlib.Core.List.{List, []}

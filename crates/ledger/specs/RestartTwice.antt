@@ -1,4 +1,4 @@
--- DEFINITION. Restarting twice (02, Ticket 14): one more restart inside a grace period takes no file off the list at its end, and clears no blame; and no reclaim
+-- DEFINITION. Restarting twice (Rules 5.10): one more restart inside a grace period takes no file off the list at its end, and clears no blame; and no reclaim
 -- outlives a restart. Proved in proofs/RestartTwice.antt.
 use mathlib.Core.Path.{_≡_}
 use mathlib.Core.List.{List, [], _∷_, _++_}

@@ -1,4 +1,4 @@
--- DEFINITION. What leaves the record as it was (paper 01, "The recovery record", "The ledger"), of EVERY record value and not only of those that a history leads
+-- DEFINITION. What leaves the record as it was (Rules 4.7), of EVERY record value and not only of those that a history leads
 -- to. In this order: any call that is refused, handed on or a listing; open where the intent is held; reclaim again. Proved in proofs/Unchanged.antt.
 use mathlib.Core.Path.{_≡_}
 use mathlib.Core.Bool.{Bool, true, false, not, cond}

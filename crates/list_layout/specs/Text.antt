@@ -1,4 +1,4 @@
--- DEFINITION. What list_layout prints (paper 01, "The program prints"), as bytes. In this order: a number in decimal; an extent's line; the text of an
+-- DEFINITION. What list_layout prints (Rules 2.11), as bytes. In this order: a number in decimal; an extent's line; the text of an
 -- accepted body and of a refusal; the text of an input (over 65,536 bytes: refusal 1); a text stored in a buffer.
 use Prim.Native.Nat.{ℕ, zero, suc, _+_, _/_, _%_}
 use mathlib.Core.Path.{_≡_}

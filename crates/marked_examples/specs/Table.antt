@@ -1,4 +1,4 @@
--- DEFINITION. The marked examples K1 to K15 of paper 01, as one table: what the definitions answer, and beside it what the paper prints. In this order:
+-- DEFINITION. The marked examples K1 to K15 (Rules 8), as one table: what the definitions answer, and beside it what the paper prints. In this order:
 -- layout bodies; a report as bytes; histories of the record, by the record's definitions and by the ledger's; rows; the table; the claim.
 use Prim.Native.Nat.{ℕ, _-_, _^_}
 use mathlib.Core.Path.{_≡_}

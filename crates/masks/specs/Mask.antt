@@ -1,4 +1,4 @@
--- DEFINITION. A set of nodes, kept as a number: a node is in it where its binary digit there is 1 (paper 01, "Cluster epochs": nodes 0 to 31).
+-- DEFINITION. A set of nodes, kept as a number: a node is in it where its binary digit there is 1 (Rules 6.1: nodes 0 to 31).
 --     nodes            how many nodes there are
 --     has              whether a node is in a set
 --     setOf            the set of the nodes that pass a test, below a number of nodes

@@ -1,4 +1,4 @@
--- DEFINITION. Devices, and the mirror list of a register call (paper 01, "The recovery record"), in this order: the same id; the ids in a list of
+-- DEFINITION. Devices, and the mirror list of a register call (Rules 4.2), in this order: the same id; the ids in a list of
 -- bytes; whether a device is among others and at which place; a bad mirror list.
 use mathlib.Core.List.{List, [], _∷_}
 use mathlib.Core.Bool.{Bool, true, false, not, cond}

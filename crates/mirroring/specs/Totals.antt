@@ -1,4 +1,4 @@
--- DEFINITION. The totals of bytes read and written of one report, by mirror (Ticket 3), in this order: a sum as it is told; a device's sum; the totals of
+-- DEFINITION. The totals of bytes read and written of one report, by mirror (Rules 3.11), in this order: a sum as it is told; a device's sum; the totals of
 -- some devices.
 use mathlib.Core.List.{List, [], _∷_, map}
 use mathlib.Core.Bool.{cond}

@@ -1,5 +1,5 @@
 -- DEFINITION. The calls of a history, with what the host passes and the buffers that it lends, what each call is answered, and how a listing fills its
--- slices (paper 01, "Histories"), in this order.
+-- slices (Rules 5.1), in this order.
 use mathlib.Core.List.{List}
 use mathlib.Core.Bool.{cond}
 use Prim.Native.Nat.{ℕ}
@@ -17,7 +17,7 @@ pub data Call : Type 0 where
   layoutReturn : (file client : ℕ) (request reply : List ℕ) → Call
   resilver offered : (numbers sources : List ℕ) → Call
 
--- a LAYOUTRETURN answers a status, or is handed on, with its report's totals by mirror (Ticket 3) and the reply buffer afterwards; a listing its status, its
+-- a LAYOUTRETURN answers a status, or is handed on, with its report's totals by mirror (Rules 3.11) and the reply buffer afterwards; a listing its status, its
 -- count and both slices afterwards
 pub data Answer : Type 0 where
   said : (status : ℕ) → Answer

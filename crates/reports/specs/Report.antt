@@ -1,4 +1,4 @@
--- DEFINITION. The error report of a LAYOUTRETURN, which is its body (RFC 8435, section 9; paper 01, "LAYOUTRETURN").
+-- DEFINITION. The error report of a LAYOUTRETURN, which is its body (RFC 8435, 9; Rules 3.3, 3.4).
 --     DeviceError, deviceError, ioerr, layoutreturn   the RFC's structures, a line a field
 --     Report, reportOf, statusOf                      what step 5 makes of a body
 --     withoutStatistics, withoutErrors                the two halves of a report

@@ -1,4 +1,4 @@
--- DEFINITION. The statistics records of a LAYOUTRETURN's body (RFC 8435, 9.2; Ticket 3), a line a field. Beyond the form of XDR and the limits of
+-- DEFINITION. The statistics records of a LAYOUTRETURN's body (RFC 8435, 9.2; Rules 3.5), a line a field. Beyond the form of XDR and the limits of
 -- its three opaque fields nothing in a record is judged.
 --     Statistic                                 what is kept of a record
 --     ioInfo, nfstime, ioLatency, layoutupdate  the structures in a record

@@ -1,5 +1,5 @@
 -- DEFINITION. The two walks of a body, step by step from their starts: one visits each device error of the report once and in their order, the other each
--- statistics record (paper 01, "LAYOUTRETURN"; 02, Ticket 3).
+-- statistics record (Rules 3.3).
 --     Walk, Given        the device errors that the steps from a cursor on give, where they end well; the numbers that a step hands out of one
 --     TailWalk, Stated   the same of the statistics records
 --     EachVisited        the claim, which proofs/Walk.antt proves

@@ -1,4 +1,4 @@
--- DEFINITION. The reply of a LAYOUTRETURN (LAYOUTRETURN4res, RFC 8881; paper 01, "LAYOUTRETURN").
+-- DEFINITION. The reply of a LAYOUTRETURN (LAYOUTRETURN4res, RFC 8881; Rules 3.9).
 --     replyBytes              the bytes of a reply
 --     replyIn, replyAnswer    the lent buffer afterwards, and the answer
 use Prim.Native.Nat.{ℕ}

@@ -1,4 +1,4 @@
--- DEFINITION. The arguments of a LAYOUTRETURN (LAYOUTRETURN4args, RFC 8881) and steps 1 to 3 of paper 01, "LAYOUTRETURN".
+-- DEFINITION. The arguments of a LAYOUTRETURN (LAYOUTRETURN4args, RFC 8881) and steps 1 to 3 (Rules 3.1, 3.2, 3.7).
 --     Arguments, arguments     the structures, a line a field
 --     refusalOf, isAnonymous   step 2, and the test of a stateid
 --     requestOf                the answer of steps 1 to 3

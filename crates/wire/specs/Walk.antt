@@ -1,4 +1,4 @@
--- DEFINITION. What C's walks of a body hand out (paper 01, "LAYOUTRETURN"; 02, Ticket 3): `sc_report_next` the device errors and `sc_statistics_next` the
+-- DEFINITION. What C's walks of a body hand out (Rules 7.4): `sc_report_next` the device errors and `sc_statistics_next` the
 -- statistics records, each called until it answers other than 1, the place of its cursor 0 at first.
 --     Calls                                       such calls from a cursor on: what they hand out, and the last answer
 --     errorCall, errorsLeft, seen, ErrorCalls     a call of the one function, the cursor that it leaves, what C sees by its numbers, and calls of it

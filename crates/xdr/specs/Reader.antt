@@ -1,4 +1,4 @@
--- DEFINITION. XDR (RFC 4506) as a list of bytes holds it, read a field at a time in the order of a structure's fields.
+-- DEFINITION. XDR (RFC 4506; Rules 1) as a list of bytes holds it, read a field at a time in the order of a structure's fields.
 --     Read, Reader               a value and the bytes after it, or bytes that are not of the form; what reads one
 --     _>>=_, give, only          one reader after another (the lines of a `do`); a value that takes no bytes; the same under a test
 --     number, opaque, boolean    fields of fixed size
