@@ -71,7 +71,7 @@ module _ (ms : List Mirror) (w : Row) (s : Slots MirrorIs NoMirror ms (w .mirror
   error-at t i p k true e = rw e k
   error-at t i p k false e = rw e (record {
     copies = flag-raised ms (h .change .blamed) i (omega (arith, p, k .flags)) p (k .copies);
-    flags = length-set (h .change .blamed) i true ∙ k .flags;
+    flags = length-set (h .change .blamed) i 1 ∙ k .flags;
     unknown = k .unknown;
     failed = refl;
   })

@@ -7,6 +7,7 @@ use Prim.Native.Nat.{ℕ, zero, suc, _+_, _<_, _≤_}
 use native.Mathlib.Omega.{arith}
 use native.Mathlib.Decide.{ℕ-discrete}
 use lib.ListN.{getD, set, length, replicate, length-set, length-map, List·getD-map}
+use lib.Dec.{eqb}
 use lib.Seq.{getD-set-same, getD-set-other}
 use borrow.Author.Tests.{eq-eqb, ne-eqb}
 use Rattle.places.specs.Lists.{any, has, with, fill}
@@ -66,21 +67,21 @@ abbrev blameAt : List Mirror → ℕ → List Mirror
 blameAt ms i = set ms i (blamedIf true (getD ms i noMirror))
 
 -- one flag more is one place more
-one-more : (fs : List Bool) (ms : List Mirror) (i : ℕ) → i < length fs → i < length ms → blamedAt (set fs i true) ms ≡ blameAt (blamedAt fs ms) i
+one-more : (fs : List ℕ) (ms : List Mirror) (i : ℕ) → i < length fs → i < length ms → blamedAt (set fs i 1) ms ≡ blameAt (blamedAt fs ms) i
 unfolding blamedAt
 one-more [] ms i h k = absurd (omega arith)
 one-more (b ∷ fs) [] i h k = absurd (omega arith)
 one-more (b ∷ fs) (m ∷ ms) zero h k = refl
-one-more (b ∷ fs) (m ∷ ms) (suc i) h k = ap {B = List Mirror} (λ t. blamedIf b m ∷ t) (one-more fs ms i (omega arith) (omega arith))
+one-more (b ∷ fs) (m ∷ ms) (suc i) h k = ap {B = List Mirror} (λ t. blamedIf (eqb b 1) m ∷ t) (one-more fs ms i (omega arith) (omega arith))
 
-pub blamed-length : (fs : List Bool) (ms : List Mirror) → length (blamedAt fs ms) ≡ length ms
+pub blamed-length : (fs : List ℕ) (ms : List Mirror) → length (blamedAt fs ms) ≡ length ms
 unfolding blamedAt
 blamed-length fs [] = refl
 blamed-length [] (m ∷ ms) = refl
 blamed-length (b ∷ fs) (m ∷ ms) = ap suc (blamed-length fs ms)
 
 -- no flag is up
-pub none-blamed : (k : ℕ) (ms : List Mirror) → blamedAt (replicate k false) ms ≡ ms
+pub none-blamed : (k : ℕ) (ms : List Mirror) → blamedAt (replicate k 0) ms ≡ ms
 unfolding blamedAt
 none-blamed zero [] = refl
 none-blamed zero (m ∷ ms) = refl
@@ -99,7 +100,7 @@ blamed-place {ms} {ds} {bs} i h k = record {
   blame = λ j p. flag-at ms bs i j h (rw (length-set ms i (blamedIf true (getD ms i noMirror))) at p) (k .blame) (ℕ-discrete j i);
 }
 
-pub flag-raised : (ms : List Mirror) {ds : List Device} {bs : List ℕ} (fs : List Bool) (i : ℕ) → i < length fs → i < length ms → Copies (blamedAt fs ms) ds bs → Copies (blamedAt (set fs i true) ms) ds (with i bs)
+pub flag-raised : (ms : List Mirror) {ds : List Device} {bs : List ℕ} (fs : List ℕ) (i : ℕ) → i < length fs → i < length ms → Copies (blamedAt fs ms) ds bs → Copies (blamedAt (set fs i 1) ms) ds (with i bs)
 flag-raised ms fs i h l k = rw (one-more fs ms i h l) (blamed-place i (omega (arith, blamed-length fs ms, l)) k)
 
 -- ---- repair

@@ -19,8 +19,8 @@ use Rattle.mirroring.specs.declared.totals.Totals.{Totals}
 use Rattle.places.specs.declared.Found.{Found}
 use Rattle.places.specs.declared.Found.the-variants.{At, Nothing}
 
-abbrev pub noFlags : List Bool
-noFlags = replicate 4 false
+abbrev pub noFlags : List ℕ
+noFlags = replicate 4 0
 
 -- ---- what a report changes
 abbrev pub noChange : Change
@@ -32,7 +32,7 @@ naming x = record { unknown = true; failed = x .failed; blamed = x .blamed }
 
 -- it blames the mirror at place i
 abbrev pub blaming : ℕ → Change → Change
-blaming i x = record { unknown = x .unknown; failed = true; blamed = set (x .blamed) i true }
+blaming i x = record { unknown = x .unknown; failed = true; blamed = set (x .blamed) i 1 }
 
 -- ---- nothing but a status
 abbrev pub statusOnly : ℕ → Assessment

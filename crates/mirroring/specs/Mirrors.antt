@@ -40,11 +40,11 @@ unblamed m = withBlame false m
 abbrev pub blamedIf : Bool → Mirror → Mirror
 blamedIf b m = withBlame (cond b true (m .blamed)) m
 
--- a mirror is blamed if its flag is up, or if it was
-unfoldable pub blamedAt : List Bool → List Mirror → List Mirror
+-- a mirror is blamed if its flag is 1, or if it was
+unfoldable pub blamedAt : List ℕ → List Mirror → List Mirror
 blamedAt bs [] = []
 blamedAt [] (m ∷ ms) = m ∷ ms
-blamedAt (b ∷ bs) (m ∷ ms) = blamedIf b m ∷ blamedAt bs ms
+blamedAt (b ∷ bs) (m ∷ ms) = blamedIf (eqb b 1) m ∷ blamedAt bs ms
 
 -- ---- the source
 unfoldable pub sourceIn : List Mirror → ℕ

@@ -9,19 +9,20 @@ use reports::report::Entry;
 use reports::statistics::Item;
 use reports::statistics::Tail;
 ghost use mathlib.Core.Path.{_≡_};
-ghost use mathlib.Core.Bool.{Bool, true, false, cond};
+ghost use mathlib.Core.Bool.{cond};
 ghost use Prim.Native.Nat.{_<_};
-ghost use lib.ListN.{set, getD};
+ghost use lib.ListN.{set};
 ghost use Rattle.reports.specs.Report.{reportOf, outcome};
 ghost use Rattle.reports.specs.StatisticsSteps.{statisticsFrom, tally};
 ghost use Rattle.mirroring.specs.Blame.{blaming, statusOnly, withError, withErrorOf, counted, countedOf, assessmentOf};
 
 // What a report changes in a file: whether a device was named that is no mirror; whether a device error of a mirror had a status other than 0; and by
-// place, the mirrors that such a device error blames.
+// place, 1 for a mirror that such a device error blames, and 0. A flag is as wide as a sum of totals, since the compiler packs four bytes into one
+// number and takes them out again at each device error.
 pub struct Change {
     pub unknown: bool,
     pub failed: bool,
-    pub blamed: [bool; PLACES],
+    pub blamed: [u64; PLACES],
 }
 
 // What a report says of a file's mirrors, as far as it has been read: the status of step 5, what it changes, and the totals of bytes by place.
@@ -37,40 +38,21 @@ struct ErrorsAssessed {
     next: Tail,
 }
 
-// Whether a flag is up, or is raised now.
-fn raised(up: bool, raise: bool) -> bool
-    ensures { λ r. ⌜ r ≡ cond up true raise ⌝ }
+// A flag, once it is raised or as it was.
+fn raised(raise: bool, flag: u64) -> u64
+    ensures { λ r. ⌜ r ≡ cond raise 1 flag ⌝ }
 {
-    if up { true } else { raise }
+    if raise { 1 } else { flag }
 }
 
-// Whether the flag at `at` is up; each place is read by its own number, which the compiler can keep in registers.
-fn is_up(flags: [bool; PLACES], at: usize) -> bool
-    ensures { λ r. ⌜ r ≡ getD flags at false ⌝ }
+// The flags with that at `at` up; each place is written by its own number, which the compiler can keep in registers.
+fn flagged(flags: [u64; PLACES], at: usize) -> [u64; PLACES]
+    ensures { λ r. ⌜ r ≡ set flags at 1 ⌝ }
 {
-    let mut i: usize = 0;
-    while i < PLACES {
-        if i == at {
-            return flags[i];
-        }
-        i += 1;
-    }
-    false
-}
-
-// The flags with that at `at` up, which it mostly is already; each place is written by its own number.
-fn flagged(flags: [bool; PLACES], at: usize) -> [bool; PLACES]
-    ensures { λ r. ⌜ r ≡ set flags at true ⌝ }
-{
-    let known = is_up(flags, at);
-    if known {
-        return flags;
-    }
     let mut fs = flags;
     let mut i: usize = 0;
     while i < PLACES {
-        let up = fs[i];
-        let f = raised(up, i == at);
+        let f = raised(i == at, fs[i]);
         fs[i] = f;
         i += 1;
     }
@@ -95,7 +77,7 @@ impl Assessment {
     pub fn only(status: u32) -> Assessment
         ensures { λ r. ⌜ r ≡ statusOnly status ⌝ }
     {
-        let blamed = [false; PLACES];
+        let blamed = [0u64; PLACES];
         let totals = Totals::none();
         Assessment {
             status,

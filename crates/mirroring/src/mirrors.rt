@@ -139,16 +139,15 @@ pub fn cleared(mirrors: [Mirror; PLACES]) -> [Mirror; PLACES]
     ms
 }
 
-// The mirrors with those blamed whose flag is up.
-pub fn with_blame(mirrors: [Mirror; PLACES], flags: [bool; PLACES]) -> [Mirror; PLACES]
+// The mirrors with those blamed whose flag is 1.
+pub fn with_blame(mirrors: [Mirror; PLACES], flags: [u64; PLACES]) -> [Mirror; PLACES]
     ensures { λ r. ⌜ r ≡ blamedAt flags mirrors ⌝ }
 {
     let mut ms = mirrors;
     let mut i: usize = 0;
     while i < PLACES {
         let m = ms[i];
-        let b = flags[i];
-        let n = m.blame(b);
+        let n = m.blame(flags[i] == 1);
         ms[i] = n;
         i += 1;
     }

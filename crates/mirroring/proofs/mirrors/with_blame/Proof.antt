@@ -1,6 +1,6 @@
 -- The loop maps by place: `Mapping` holds at its head.
 use mathlib.Core.Path.{_≡_, sym, _∙_}
-use mathlib.Core.Bool.{false}
+use lib.Dec.{eqb}
 use Prim.Native.Nat.{_-_}
 use lib.ListN.{length, getD}
 use Rattle.places.proofs.Loops.{mapped-length, Mapping, mapping-none, mapping-more}
@@ -12,7 +12,7 @@ use Rattle.mirroring.proofs.mirrors.with_blame.Statement.{statement}
 use Rattle.mirroring.proofs.mirrors.with_blame.Tie as tie
 
 abbrev Inv-loop : tie.InvT-loop
-Inv-loop flags ms₀ i₀ ms i = Mapping (λ k. blamedIf (getD flags k false)) ms₀ ms i
+Inv-loop flags ms₀ i₀ ms i = Mapping (λ k. blamedIf (eqb (getD flags k 0) 1)) ms₀ ms i
 
 abbrev μ-loop : tie.MeasureT-loop
 μ-loop flags ms₀ i₀ ms i = 4 - i
@@ -32,8 +32,11 @@ mul-m c = omega arith
 array-copy-out-m : tie.Need-array-copy-out-m Inv-loop μ-loop
 array-copy-out-m c = omega arith
 
-array-read-b : tie.Need-array-read-b Inv-loop μ-loop
-array-read-b c = omega arith
+mul-blame : tie.Need-mul-blame Inv-loop μ-loop
+mul-blame c = omega arith
+
+array-read-blame : tie.Need-array-read-blame Inv-loop μ-loop
+array-read-blame c = omega arith
 
 blame-requires : tie.Need-blame-requires Inv-loop μ-loop
 blame-requires c κs = search needs
@@ -65,7 +68,8 @@ with-blame-spec =
     loop-holds
     mul-m
     array-copy-out-m
-    array-read-b
+    mul-blame
+    array-read-blame
     blame-requires
     mul-ms
     array-set-from-ms
