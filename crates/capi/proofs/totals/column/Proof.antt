@@ -14,6 +14,15 @@ Inv-loop sums lent₀ i₀ lent i = Mapping (summed sums) lent₀ lent i
 abbrev μ-loop : tie.MeasureT-loop
 μ-loop sums lent₀ i₀ lent i = length lent₀ - i
 
+straight-requires : tie.Need-straight-requires Inv-loop μ-loop
+straight-requires c κs = search needs
+
+same-length : tie.Need-same-length Inv-loop μ-loop
+same-length c = search needs
+
+returns : tie.Need-returns Inv-loop μ-loop
+returns c = c .before .before .straight .ensures
+
 loop-holds : tie.Need-loop-holds Inv-loop μ-loop
 loop-holds c = mapping-none _ _
 
@@ -35,11 +44,11 @@ loop-less c = omega (arith, mapping-length (c .before .before .loop .inv))
 loop-again : tie.Need-loop-again Inv-loop μ-loop
 loop-again c = mapping-more (c .before .before .loop .inv) 0 (omega (arith, mapping-length (c .before .before .loop .inv))) _ (c .sum .ensures)
 
-same-length : tie.Need-same-length Inv-loop μ-loop
-same-length c = mapping-length (c .before .loop .inv)
+same-length-2 : tie.Need-same-length-2 Inv-loop μ-loop
+same-length-2 c = mapping-length (c .before .loop .inv)
 
-returns : tie.Need-returns Inv-loop μ-loop
-returns c = column-is (c .before .before .before .args .sums) (c .before .before .before .args .lent .now) (c .before .loop .inv) (omega (arith, mapping-length (c .before .loop .inv)))
+returns-2 : tie.Need-returns-2 Inv-loop μ-loop
+returns-2 c = column-is (c .before .before .before .before .args .sums) (c .before .before .before .before .args .lent .now) (c .before .loop .inv) (omega (arith, mapping-length (c .before .loop .inv)))
 
 pub column-spec : {M : Type 1} → statement M
 column-spec =
@@ -47,6 +56,9 @@ column-spec =
     (tie.spec
     Inv-loop
     μ-loop
+    straight-requires
+    same-length
+    returns
     loop-holds
     sum-requires
     mul-lent
@@ -54,5 +66,5 @@ column-spec =
     add-i
     loop-less
     loop-again
-    same-length
-    returns)
+    same-length-2
+    returns-2)
