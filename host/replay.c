@@ -400,6 +400,43 @@ static bool run_layoutreturn(const struct command *c, const struct word *argumen
     return true;
 }
 
+/* Prints what a request is: refused, handed on, or the kind of its stateid and where its body lies. */
+static void print_request(uint32_t answer, uint32_t kind, uint64_t at, uint64_t len)
+{
+    static const char *const kinds[] = {"refused", "handed on", "ordinary", "anonymous", "bypass", "current", "invalid"};
+    if (kind >= sizeof kinds / sizeof kinds[0] || (kind == SC_REQUEST_REFUSED) != (answer != 0))
+        broken("a request is of no kind, or its kind belies the answer");
+    if (kind == SC_REQUEST_REFUSED)
+        printf("refused %" PRIu32 "\n", answer);
+    else if (kind == SC_REQUEST_HANDED_ON)
+        puts("handed on");
+    else
+        printf("%s %" PRIu64 " %" PRIu64 "\n", kinds[kind], at, len);
+}
+
+/* The check of a request; the numbers that it lends are written whatever they held. */
+static bool run_request(const struct command *c, const struct word *argument)
+{
+    (void)c;
+    struct lent request;
+    if (!read_bytes(argument[0], MAX_REQUEST, &request))
+        return false;
+    struct lent kind = lend(sizeof(uint32_t)), at = lend(sizeof(uint64_t)), len = lend(sizeof(uint64_t));
+    uint32_t answer = sc_layoutreturn_check(bytes_of(request), request.len, (uint32_t *)(void *)bytes_of(kind), (uint64_t *)(void *)bytes_of(at),
+                                            (uint64_t *)(void *)bytes_of(len));
+    take_back_bytes(argument[0], request, "bytes in or beside the request changed");
+    check_lent(kind, kind.len, "bytes beside a request's kind changed");
+    check_lent(at, at.len, "bytes beside the place of a request's body changed");
+    check_lent(len, len.len, "bytes beside the length of a request's body changed");
+    uint32_t found;
+    memcpy(&found, bytes_of(kind), sizeof found);
+    print_request(answer, found, number_in(at), number_in(len));
+    give_back(kind);
+    give_back(at);
+    give_back(len);
+    return true;
+}
+
 static void print_total(uint64_t bytes, bool over)
 {
     printf("%" PRIu64 "%s", bytes, over ? "!" : "");
@@ -570,6 +607,7 @@ static const struct command commands[] = {
     {"end", 0, run_on_record, {.record = sc_record_end_grace}},
     {"restart", 0, run_on_record, {.record = sc_record_restart}},
     {"layoutreturn", 4, run_layoutreturn, {NULL}},
+    {"request", 1, run_request, {NULL}},
     {"totals", 0, run_totals, {NULL}},
     {"resilver", 2, run_listing, {.list = sc_record_resilver}},
     {"offered", 2, run_listing, {.list = sc_record_offered}},

@@ -46,7 +46,7 @@ extern "C" {
 #define SC_STALE UINT32_C(70)                 /* no such file */
 #define SC_DELAY UINT32_C(10008)              /* not yet: the file needs repair, or an intent is open */
 #define SC_GRACE UINT32_C(10013)              /* a grace period is on */
-#define SC_BAD_STATEID UINT32_C(10025)        /* no intent to close, one that is not reclaimed, or the all-zero stateid where the record is old */
+#define SC_BAD_STATEID UINT32_C(10025)        /* no intent to close, one not reclaimed, or a stateid that is not taken */
 #define SC_NO_GRACE UINT32_C(10033)           /* no grace period is on */
 #define SC_RECLAIM_BAD UINT32_C(10034)        /* the client has no intent on the file */
 #define SC_BADXDR UINT32_C(10036)             /* malformed bytes */
@@ -85,15 +85,19 @@ uint32_t sc_layout_write(const uint8_t *devices, size_t devices_len, const uint6
  * Pure checks: any bytes are good input. Every number that is lent is written on every call, unless said otherwise.
  */
 
-/* What sc_layoutreturn_check says of a request, through `kind`. */
+/* What sc_layoutreturn_check says of a request, through `kind`; from 2 on, return type 1 by the kind of its stateid (RFC 8881, 8.2.3), of which the
+ * first 4 bytes are the seqid and the last 12 `other`. */
 #define SC_REQUEST_REFUSED 0   /* refused: reply with the number that was answered */
 #define SC_REQUEST_HANDED_ON 1 /* return type 2 or 3: not for this library */
-#define SC_REQUEST_ORDINARY 2  /* return type 1 with a stateid that is not all zeros */
-#define SC_REQUEST_ANONYMOUS 3 /* return type 1 with the all-zero stateid */
+#define SC_REQUEST_ORDINARY 2  /* none of the following */
+#define SC_REQUEST_ANONYMOUS 3 /* all sixteen bytes zero */
+#define SC_REQUEST_BYPASS 4    /* all sixteen bytes ones: read bypass */
+#define SC_REQUEST_CURRENT 5   /* seqid 1, and other all zeros: the current stateid */
+#define SC_REQUEST_INVALID 6   /* other all zeros or all ones, with any other seqid */
 
 /* Checks the arguments of a LAYOUTRETURN, from the reclaim flag to the end of the padded body (steps 1 to 3).
  * Answers 0, or why it is refused: 10036 (BADXDR), 10062 (UNKNOWN_LAYOUTTYPE), 10049 (BADIOMODE), the first that applies.
- * `kind` says what the request is. For kinds 2 and 3 the body is the `*len` bytes at request + *at; otherwise both are 0.
+ * `kind` says what the request is. For kinds 2 to 6 the body is the `*len` bytes at request + *at; otherwise both are 0.
  */
 uint32_t sc_layoutreturn_check(const uint8_t *request, size_t request_len, uint32_t *kind, uint64_t *at, uint64_t *len);
 
@@ -188,11 +192,13 @@ uint32_t sc_record_restart(struct sc_record *r);
 
 /* A LAYOUTRETURN of the client on the file. `request` is its arguments, from the reclaim flag to the end of the padded body.
  * 28: reply_len is under 24. No reply is written, and nothing changes.
- * SC_HANDED_ON: return type 2 or 3, or not in grace with a stateid that is not all zeros. No reply is written, and nothing changes.
+ * SC_HANDED_ON: return type 2 or 3, or not in grace with a stateid that is current or ordinary (SC_REQUEST_CURRENT, SC_REQUEST_ORDINARY). No reply is
+ * written, and nothing changes.
  * Else the status, which is also the reply: its 4 bytes big-endian at the start of `reply`; for 0 then boolean 1 and sixteen zero bytes, 24 in
  * all. Later bytes of `reply` stay. The statuses besides 0, which change nothing:
- * 10036: malformed; 10062: layout type not 4; 10049: iomode outside 1 to 3; 10025: all zeros, and the record is set up as old; 10013: in grace,
- * stateid not all zeros; 10033: not in grace, all zeros; 10036: the body malformed; 70: no such file; 10034: the client has no intent on it.
+ * 10036: malformed; 10062: layout type not 4; 10049: iomode outside 1 to 3; 10025: stateid all zeros, and the record is set up as old; 10013: in grace,
+ * stateid not all zeros; 10033: not in grace, all zeros; 10025: not in grace, read bypass or invalid; 10036: the body malformed; 70: no such file; 10034:
+ * the client has no intent on it.
  *
  * The totals of this one request, from the byte counts of its statistics records, are written on EVERY call, whatever it answers: read[k] and
  * written[k] are those of the mirror at place k, for each of the read_len and written_len places that are lent; places without a mirror get 0.

@@ -316,6 +316,15 @@ static void tell(const uint64_t *sums, size_t len, uint32_t over)
     }
 }
 
+/* A stateid that is a fixed string of RFC 8881, 8.2.3, or differs from one in its seqid, or in the last byte. */
+static void special_stateid(void)
+{
+    static const uint32_t seqids[4] = {0, 1, 2, UINT32_MAX};
+    put32(request + 32, seqids[below(4)]);
+    memset(request + 36, below(2) ? 0 : 255, 12);
+    request[47] ^= below(6) ? 0 : 1;
+}
+
 static void compare_returns(unsigned long n, uint64_t file, uint64_t client)
 {
     uint8_t reply[2][30];
@@ -324,6 +333,8 @@ static void compare_returns(unsigned long n, uint64_t file, uint64_t client)
     struct lent t = lend(below(2) ? 4 : below(LENT + 1), below(2) ? 4 : below(LENT + 1)), u = t;
     if (below(3) != 0)
         len = statistics(len, below(6));
+    if (below(6) == 0)
+        special_stateid();
     if (below(6) == 0)
         request[below(len)] ^= (uint8_t)(1u << below(8));
     if (below(10) == 0)

@@ -103,6 +103,7 @@ def layoutreturn(request, in_grace, out_of_grace, errors, statistics):
     """One request out of grace, then in grace with the letters' mirrors, and with the first four devices that it names."""
     yield "fresh", "0"
     yield f"register {FILE} {LETTERS[0]}", "0"
+    yield f"request {request}", asked(request, out_of_grace)
     yield f"layoutreturn {FILE} {CLIENT} 24 {request}", said(out_of_grace)
     yield "totals", NO_TOTALS
     yield from report(LETTERS, request, in_grace, errors, statistics)
@@ -124,13 +125,38 @@ def statistics_records(column):
     return [(entry[0], int(entry[1]), int(entry[2])) for entry in entries]
 
 
+def kind(stateid):
+    """The kind of a stateid, of which these are the hex digits (RFC 8881, 8.2.3; Ticket 6)."""
+    seqid, other = stateid[:8], stateid[8:]
+    if other == 12 * "00":
+        return {"00000000": "anonymous", "00000001": "current"}.get(seqid, "invalid")
+    if other == 12 * "ff":
+        return "bypass" if seqid == "ffffffff" else "invalid"
+    return "ordinary"
+
+
+def by_kind(request, out_of_grace):
+    """The answer out of grace since Ticket 6: of the file returns that were handed on, those with the bypass or an invalid stateid are refused."""
+    one_file = request[24:32] == "00000001"
+    return "10025" if out_of_grace == "on" and one_file and kind(request[64:96]) in ("bypass", "invalid") else out_of_grace
+
+
+def asked(request, out_of_grace):
+    """What `request` prints, from the answer out of grace: a refusal of step 1 or 2, or the kind and where the body lies."""
+    if out_of_grace in ("10036", "10062", "10049"):
+        return "refused " + out_of_grace
+    if request[24:32] != "00000001":
+        return "handed on"
+    return f"{kind(request[64:96])} 52 {int(request[96:104], 16)}"
+
+
 def layoutreturn_damaged(path):
-    """Columns: hex, answer of steps 1 to 5 before Ticket 3, the same out of grace, that in grace with statistics read, errors, statistics."""
+    """Columns: hex, answer of steps 1 to 5 before Ticket 3, the same out of grace before Ticket 6, that in grace with statistics read, errors, statistics."""
     for line in lines_of(path):
         if line.startswith("#"):
             continue
         request, _, out_of_grace, in_grace, errors, statistics = line.split()
-        yield from layoutreturn(request, in_grace, out_of_grace, device_errors(errors), statistics_records(statistics))
+        yield from layoutreturn(request, in_grace, by_kind(request, out_of_grace), device_errors(errors), statistics_records(statistics))
 
 
 def answers(head, stateid, body):
@@ -139,8 +165,8 @@ def answers(head, stateid, body):
     assert return_type == 1 and 1 <= iomode <= 3
     if layout_type != 4:
         return "10062", "10062"
-    if stateid != "00000000:" + "00" * 12:
-        return "10013", "on"
+    if kind(stateid.replace(":", "")) != "anonymous":
+        return "10013", "10025" if kind(stateid.replace(":", "")) in ("bypass", "invalid") else "on"
     if body == "malformed":
         return "10036", "10033"
     return "ok", "10033"

@@ -22,6 +22,7 @@ ANSWERS = {
     "end": "0 10033",
     "restart": "0",
     "layoutreturn": "handed 0 28 10036 10062 10049 10025 10013 10033 70 10034",
+    "request": "handed refused:10036 refused:10062 refused:10049 anonymous bypass current invalid ordinary",
     "totals": "zeros bytes full flagged",
     "resilver": "0 28 source:0 source:1 source:2 source:3 source:255",
     "offered": "0 28 source:0 source:1 source:2 source:3 source:255",
@@ -54,7 +55,7 @@ def keys(command, words):
         numbers = b" ".join(words).replace(b":", b" ").split()
         kinds = {"zeros": set(numbers) == {b"0"}, "bytes": set(numbers) != {b"0"}, "full": b"18446744073709551615" in numbers, "flagged": b"18446744073709551615!" in numbers}
         return [(command, kind) for kind, seen in kinds.items() if seen]
-    if command == "layout" and words[0] == b"refused":
+    if command in ("layout", "request") and words[0] == b"refused":
         return [(command, "refused:" + words[1].decode())]
     sources = [("source:" + word.split(b":")[1].decode()) for word in words[2:]] if command in ("resilver", "offered") else []
     return [(command, key) for key in [words[0].decode()] + sources]

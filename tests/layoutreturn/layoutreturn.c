@@ -152,10 +152,12 @@ static void answer_of(const uint8_t *request, size_t n, int grace, char *out, si
     uint32_t kind, number;
     uint64_t at, len;
     number = sc_layoutreturn_check(request, n, &kind, &at, &len);
-    if (kind == SC_REQUEST_ORDINARY && grace)
-        number = 10013;
     if (kind == SC_REQUEST_ANONYMOUS)
         number = grace ? sc_report_check(request + at, len) : 10033;
+    else if (kind >= SC_REQUEST_ORDINARY && grace)
+        number = 10013;
+    else if (kind == SC_REQUEST_BYPASS || kind == SC_REQUEST_INVALID)
+        number = 10025;
     if (number != 0)
         snprintf(out, size, "%u", (unsigned)number);
     else
@@ -205,7 +207,21 @@ static void beside_plain(const char *where, unsigned long line, const uint8_t *r
     statistics_beside_plain(where, line, body, len, check);
 }
 
-/* Requests with the answers of steps 1 to 5: hex, in grace before statistics were read, out of grace, in grace now, errors, statistics. */
+/* The answer out of grace since Ticket 6, from the one before: of what was handed on, a file's return with the bypass or an invalid stateid is refused. */
+static const char *since_kinds(const uint8_t *request, size_t n, const char *before)
+{
+    if (strcmp(before, "on") != 0 || n < 48 || be32(request + 12) != 1)
+        return before;
+    size_t zeros = 0, ones = 0;
+    for (size_t i = 36; i < 48; i++) {
+        zeros += request[i] == 0;
+        ones += request[i] == 255;
+    }
+    uint32_t seqid = be32(request + 32);
+    return ones == 12 || (zeros == 12 && seqid > 1) ? "10025" : before;
+}
+
+/* Requests with the answers of steps 1 to 5: hex, in grace before statistics were read, out of grace before Ticket 6, in grace now, errors, statistics. */
 static unsigned long damaged(const char *path)
 {
     static char line[4 * MOST_BYTES], hex[2 * MOST_BYTES], list[2 * MOST_BYTES], stats[2 * MOST_BYTES];
@@ -227,7 +243,7 @@ static unsigned long damaged(const char *path)
         if (strcmp(told, grace) != 0)
             differs(path, at_line, "another answer in grace");
         answer_of(request, n, 0, told, sizeof told);
-        if (strcmp(told, after) != 0)
+        if (strcmp(told, since_kinds(request, n, after)) != 0)
             differs(path, at_line, "another answer out of grace");
         if (strcmp(grace, "ok") == 0) {
             uint32_t kind;
@@ -283,7 +299,9 @@ static unsigned long linux_client(const char *path)
         number = sc_layoutreturn_check(request, n, &kind, &at, &len);
         static const uint8_t zeros[16];
         uint32_t refusal = type != 4 ? 10062 : iomode < 1 || iomode > 3 ? 10049 : 0;
-        uint32_t expected = refusal != 0 ? 0 : ways != 1 ? 1 : memcmp(stateid, zeros, 16) == 0 ? 3 : 2;
+        /* the client sends no stateid of another kind */
+        uint32_t sent = memcmp(stateid, zeros, 16) == 0 ? SC_REQUEST_ANONYMOUS : SC_REQUEST_ORDINARY;
+        uint32_t expected = refusal != 0 ? SC_REQUEST_REFUSED : ways != 1 ? SC_REQUEST_HANDED_ON : sent;
         if (number != refusal || kind != expected)
             differs(path, at_line, "another answer or kind");
         if (kind >= 2 && (at != 52 || len != size))
@@ -410,9 +428,13 @@ static void made_up(uint8_t *d, struct made *m, size_t too_long)
     at = append32(d, at, 1);
     for (int i = 0; i < 4; i++)
         at = append32(d, at, chance(7));
-    uint32_t anonymous = chance(2);
-    for (int i = 0; i < 4; i++)
-        at = append32(d, at, anonymous ? 0 : 1 + chance(3));
+    static const uint32_t seqids[] = {0, 1, 2, UINT32_MAX}, fills[] = {0, UINT32_MAX, 7};
+    uint32_t anonymous = chance(2), fill = anonymous ? 0 : fills[chance(3)];
+    at = append32(d, at, anonymous ? 0 : seqids[chance(4)]);
+    for (int i = 0; i < 3; i++)
+        at = append32(d, at, fill);
+    if (!anonymous && chance(3) == 0)
+        d[chance(2) ? 36 : 47] ^= (uint8_t)(1 + chance(255));
     at = put_errors(d, BODY, m);
     uint32_t records = too_long < NONE_TOO_LONG ? 1 + (uint32_t)too_long / 3 + chance(5 - (uint32_t)too_long / 3) : chance(6);
     m->count = at;

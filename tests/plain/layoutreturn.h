@@ -7,8 +7,8 @@
 
 enum { BADXDR = 10036, UNKNOWN_LAYOUTTYPE = 10062, BADIOMODE = 10049, BODY_LIMIT = 4096, OPAQUE_LIMIT = 128 };
 
-/* What a request is: refused, handed on, an ordinary return, one with the all-zero stateid. */
-enum { REQUEST_REFUSED, REQUEST_HANDED_ON, REQUEST_ORDINARY, REQUEST_ANONYMOUS };
+/* What a request is: refused, handed on, or a file's return by the kind of its stateid (RFC 8881, 8.2.3). */
+enum { REQUEST_REFUSED, REQUEST_HANDED_ON, REQUEST_ORDINARY, REQUEST_ANONYMOUS, REQUEST_BYPASS, REQUEST_CURRENT, REQUEST_INVALID };
 
 /* An error record up to its device errors, and one of these. */
 enum { ERROR_RECORD = 36, DEVICE_ERROR = 24 };
@@ -23,10 +23,22 @@ enum {
     STATISTIC_END = 144
 };
 
+/* The kind of a stateid. */
+static inline uint32_t stateid_kind(const uint8_t *s)
+{
+    static const uint8_t zeros[12], ones[12] = {255, 255, 255, 255, 255, 255, 255, 255, 255, 255, 255, 255};
+    uint32_t seqid = be32(s);
+    if (memcmp(s + 4, zeros, 12) == 0)
+        return seqid == 0 ? REQUEST_ANONYMOUS : seqid == 1 ? REQUEST_CURRENT : REQUEST_INVALID;
+    if (memcmp(s + 4, ones, 12) == 0)
+        return seqid == UINT32_MAX ? REQUEST_BYPASS : REQUEST_INVALID;
+    return REQUEST_ORDINARY;
+}
+
 /* Steps 1 to 3. */
 static inline uint32_t request_check(const uint8_t *s, size_t n, uint32_t *kind, uint64_t *at, uint64_t *len)
 {
-    static const uint8_t zeros[16];
+    static const uint8_t zeros[4];
     uint32_t body = 0;
     *kind = REQUEST_REFUSED;
     *at = *len = 0;
@@ -50,7 +62,7 @@ static inline uint32_t request_check(const uint8_t *s, size_t n, uint32_t *kind,
         *kind = REQUEST_HANDED_ON;
         return 0;
     }
-    *kind = memcmp(s + 32, zeros, 16) == 0 ? REQUEST_ANONYMOUS : REQUEST_ORDINARY;
+    *kind = stateid_kind(s + 32);
     *at = 52;
     *len = body;
     return 0;

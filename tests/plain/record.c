@@ -238,7 +238,7 @@ static uint32_t returned(struct plain_record *r, uint64_t file, uint64_t client,
     if (kind == REQUEST_ANONYMOUS && r->old)
         return 10025;
     if (!r->grace)
-        return kind == REQUEST_ANONYMOUS ? 10033 : PLAIN_HANDED_ON;
+        return kind == REQUEST_ANONYMOUS ? 10033 : kind == REQUEST_BYPASS || kind == REQUEST_INVALID ? 10025 : PLAIN_HANDED_ON;
     if (kind != REQUEST_ANONYMOUS)
         return 10013;
     struct plain_file *f = find(r, file);

@@ -21,6 +21,41 @@ impl From<u32> for Other {
     }
 }
 
+/// The kinds of stateid (RFC 8881, 8.2.3; Ticket 6).
+#[derive(Clone, Copy, PartialEq, Eq)]
+pub enum Kind {
+    Anonymous,
+    Bypass,
+    Current,
+    Invalid,
+    Ordinary,
+}
+
+impl Kind {
+    /// By the seqid, a number, and the twelve bytes after it.
+    fn of(stateid: [u8; 16]) -> Kind {
+        let (seqid, other) = stateid.split_at(4);
+        let number = seqid.iter().fold(0u32, |n, byte| n << 8 | u32::from(*byte));
+        match (number, other.iter().all(|byte| *byte == 0), other.iter().all(|byte| *byte == 0xff)) {
+            (0, true, _) => Kind::Anonymous,
+            (1, true, _) => Kind::Current,
+            (u32::MAX, _, true) => Kind::Bypass,
+            (_, false, false) => Kind::Ordinary,
+            _ => Kind::Invalid,
+        }
+    }
+
+    pub fn name(self) -> &'static str {
+        match self {
+            Kind::Anonymous => "anonymous",
+            Kind::Bypass => "bypass",
+            Kind::Current => "current",
+            Kind::Invalid => "invalid",
+            Kind::Ordinary => "ordinary",
+        }
+    }
+}
+
 /// A well-formed body: its device errors in their order, device and status, and its statistics.
 #[derive(Default)]
 pub struct Report {
@@ -183,21 +218,27 @@ fn read_report(body: &[u8]) -> Option<Report> {
     xdr.end().map(|()| Report { errors, statistics })
 }
 
+/// Steps 1 to 3: the kind of stateid and the body of a file's return, or the answer.
+pub fn check(request: &[u8]) -> Result<(Kind, Vec<u8>), Other> {
+    let request = read_request(request).ok_or(BADXDR)?;
+    refuse_if(request.layout_type != FLEX_FILES, UNKNOWN_LAYOUTTYPE)?;
+    refuse_if(!(1..=3).contains(&request.iomode), BADIOMODE)?;
+    let (stateid, body) = request.one_file.ok_or(Other::HandedOn)?;
+    Ok((Kind::of(stateid), body))
+}
+
 /// Steps 1 to 5: the report that goes on to step 6, or the answer.
 pub fn judge(edition: Edition, in_grace: bool, room: usize, request: &[u8]) -> Result<Report, Other> {
     if room < 24 {
         return Err(Other::NoRoom);
     }
-    let request = read_request(request).ok_or(BADXDR)?;
-    refuse_if(request.layout_type != FLEX_FILES, UNKNOWN_LAYOUTTYPE)?;
-    refuse_if(!(1..=3).contains(&request.iomode), BADIOMODE)?;
-    let (stateid, body) = request.one_file.ok_or(Other::HandedOn)?;
-    let anonymous = stateid == [0; 16];
-    refuse_if(edition == Edition::Old && anonymous, BAD_STATEID)?;
-    match (in_grace, anonymous) {
-        (true, false) => Err(GRACE.into()),
-        (false, true) => Err(NO_GRACE.into()),
-        (false, false) => Err(Other::HandedOn),
-        (true, true) => Ok(read_report(&body).ok_or(BADXDR)?),
+    let (kind, body) = check(request)?;
+    refuse_if(edition == Edition::Old && kind == Kind::Anonymous, BAD_STATEID)?;
+    match (in_grace, kind) {
+        (true, Kind::Anonymous) => Ok(read_report(&body).ok_or(BADXDR)?),
+        (true, _) => Err(GRACE.into()),
+        (false, Kind::Anonymous) => Err(NO_GRACE.into()),
+        (false, Kind::Bypass | Kind::Invalid) => Err(BAD_STATEID.into()),
+        (false, Kind::Current | Kind::Ordinary) => Err(Other::HandedOn),
     }
 }

@@ -59,6 +59,7 @@ impl Desk {
                 self.totals = *call.as_ref().unwrap_or(&Totals::default());
                 Some(said(call))
             }
+            ("request", [q]) => Some(asked(&bytes(q, MAX_REQUEST)?)),
             ("totals", []) => Some(summed(&self.totals)),
             ("resilver", [f, s]) => Some(listed(self.ledger.resilver(), room(f)?, room(s)?)),
             ("offered", [f, s]) => Some(listed(self.ledger.offered(), room(f)?, room(s)?)),
@@ -107,6 +108,15 @@ fn said(call: Result<Totals, Other>) -> String {
         Err(Other::Status(status)) => format!("{status} {status:08x}"),
         Err(Other::NoRoom) => "28".to_string(),
         Err(Other::HandedOn) => "handed on".to_string(),
+    }
+}
+
+/// The line for a request: what it is, and where the body of a file's return lies, behind 52 bytes.
+fn asked(request: &[u8]) -> String {
+    match layoutreturn::check(request) {
+        Ok((kind, body)) => format!("{} 52 {}", kind.name(), body.len()),
+        Err(Other::Status(status)) => format!("refused {status}"),
+        Err(_) => "handed on".to_string(),
     }
 }
 

@@ -6,6 +6,8 @@ use Prim.Native.Nat.{ℕ}
 use lib.Dec.{ltb}
 use Rattle.statuses.specs.Names.{Bytes}
 use Rattle.wire.specs.Request.{requestOf, partOf, bodyOf}
+use Rattle.wire.specs.declared.request.Kind.{Kind}
+use Rattle.wire.specs.declared.request.Kind.the-variants.{Anonymous, Bypass, Current, Invalid, Ordinary}
 use Rattle.wire.specs.declared.request.Request.{Request}
 use Rattle.wire.specs.declared.request.Request.the-variants as request
 use Rattle.wire.proofs.Requests.{body-part}
@@ -20,12 +22,18 @@ Reads s (Answered k) = Unit {0}
 Reads s HandedOn = Unit {0}
 Reads s (ReadBody len) = partOf len s ≡ bodyOf s
 
-phase-reads : (s : Bytes) (len : ℕ) → partOf len s ≡ bodyOf s → (a o g : Bool) → Reads s (phaseOf a (record { grace = g; old = o }) len)
-phase-reads s len e true true g = tt
-phase-reads s len e true false true = e
-phase-reads s len e true false false = tt
-phase-reads s len e false o true = tt
-phase-reads s len e false o false = tt
+phase-reads : (s : Bytes) (len : ℕ) → partOf len s ≡ bodyOf s → (k : Kind) (o g : Bool) → Reads s (phaseOf k (record { grace = g; old = o }) len)
+phase-reads s len e Anonymous true g = tt
+phase-reads s len e Anonymous false true = e
+phase-reads s len e Anonymous false false = tt
+phase-reads s len e Bypass o true = tt
+phase-reads s len e Bypass o false = tt
+phase-reads s len e Invalid o true = tt
+phase-reads s len e Invalid o false = tt
+phase-reads s len e Current o true = tt
+phase-reads s len e Current o false = tt
+phase-reads s len e Ordinary o true = tt
+phase-reads s len e Ordinary o false = tt
 
 request-reads : (s : Bytes) (h : Head) (q : Request) → requestOf s ≡ q → Reads s (decided h q)
 request-reads s h (request.Refused k) e = tt

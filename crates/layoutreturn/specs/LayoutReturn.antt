@@ -7,6 +7,8 @@ use Rattle.statuses.specs.Names.{Bytes, Status, Client, FileNumber}
 use Rattle.reports.specs.Report.{Report, reportOf}
 use Rattle.wire.specs.Request.{requestOf, partOf}
 use Rattle.wire.specs.Reply.{replyIn}
+use Rattle.wire.specs.declared.request.Kind.{Kind}
+use Rattle.wire.specs.declared.request.Kind.the-variants.{Anonymous, Bypass, Current, Invalid, Ordinary}
 use Rattle.wire.specs.declared.request.Request.{Request}
 use Rattle.wire.specs.declared.request.Request.the-variants as request
 use Rattle.places.specs.Places.{first, isFound}
@@ -26,16 +28,23 @@ abbrev pub handedOnCode : Status
 handedOnCode = 4294967295
 
 -- ---- before any file is looked at
+-- 10013 in grace, and d out of it
+abbrev pub outOfGrace : Head → Decision → Decision
+outOfGrace h d = cond (h .grace) (Answered 10013) d
+
 -- step 4: by the kind of stateid, the edition and the phase
-abbrev pub phaseOf : Bool → Head → ℕ → Decision
-phaseOf true h len = cond (h .old) (Answered 10025) (cond (h .grace) (ReadBody len) (Answered 10033))
-phaseOf false h len = cond (h .grace) (Answered 10013) HandedOn
+abbrev pub phaseOf : Kind → Head → ℕ → Decision
+phaseOf Anonymous h len = cond (h .old) (Answered 10025) (cond (h .grace) (ReadBody len) (Answered 10033))
+phaseOf Bypass h len = outOfGrace h (Answered 10025)
+phaseOf Invalid h len = outOfGrace h (Answered 10025)
+phaseOf Current h len = outOfGrace h HandedOn
+phaseOf Ordinary h len = outOfGrace h HandedOn
 
 -- steps 1 to 4
 abbrev pub decided : Head → Request → Decision
 decided h (request.Refused k) = Answered k
 decided h request.Bulk = HandedOn
-decided h (request.File anonymous len) = phaseOf anonymous h len
+decided h (request.File kind len) = phaseOf kind h len
 
 -- 28 for a reply buffer of under 24 bytes before them
 unfoldable pub decisionOf : Head → Bytes → ℕ → Decision

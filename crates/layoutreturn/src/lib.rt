@@ -1,14 +1,15 @@
-// LAYOUTRETURN on one file (paper 01, "LAYOUTRETURN"; 02, Tickets 1 and 3), its steps in the paper's order. In this order: what is decided before any
+// LAYOUTRETURN on one file (paper 01, "LAYOUTRETURN"; 02, Tickets 1, 3 and 6), its steps in the paper's order. In this order: what is decided before any
 // file is looked at, from the 28 for a short reply to step 4; what an answer says; steps 5 to 7 on a file; the reply; the file afterwards.
 use files::file::File;
 use files::head::Head;
 use mirroring::blame::Assessment;
 use mirroring::blame::Change;
 use mirroring::totals::Totals;
+use wire::request::Kind;
 use wire::request::Request;
 ghost use mathlib.Core.Path.{_≡_};
 ghost use Rattle.reports.specs.Report.{reportOf};
-ghost use Rattle.layoutreturn.specs.LayoutReturn.{phaseOf, decisionOf, outcomeOf, reportOn, outcomeBy, replyBy, fileAfter};
+ghost use Rattle.layoutreturn.specs.LayoutReturn.{outOfGrace, phaseOf, decisionOf, outcomeOf, reportOn, outcomeBy, replyBy, fileAfter};
 
 // What is known of a request before any file is looked at.
 pub enum Decision {
@@ -20,12 +21,22 @@ pub enum Decision {
     ReadBody(usize),
 }
 
-// Step 4: by the kind of stateid, the edition and the phase.
-fn phase(anonymous: bool, head: Head, len: usize) -> Decision
-    ensures { λ r. ⌜ r ≡ phaseOf anonymous head len ⌝ }
+// 10013 in grace, and `d` out of it.
+fn out_of_grace(head: Head, d: Decision) -> Decision
+    ensures { λ r. ⌜ r ≡ outOfGrace head d ⌝ }
 {
-    match anonymous {
-        true => {
+    if head.grace {
+        return Decision::Answered(statuses::GRACE);
+    }
+    d
+}
+
+// Step 4: by the kind of stateid, the edition and the phase.
+fn phase(kind: Kind, head: Head, len: usize) -> Decision
+    ensures { λ r. ⌜ r ≡ phaseOf kind head len ⌝ }
+{
+    match kind {
+        Kind::Anonymous => {
             if head.old {
                 return Decision::Answered(statuses::BAD_STATEID);
             }
@@ -34,12 +45,10 @@ fn phase(anonymous: bool, head: Head, len: usize) -> Decision
             }
             Decision::Answered(statuses::NO_GRACE)
         }
-        false => {
-            if head.grace {
-                return Decision::Answered(statuses::GRACE);
-            }
-            Decision::HandedOn
-        }
+        Kind::Bypass => out_of_grace(head, Decision::Answered(statuses::BAD_STATEID)),
+        Kind::Invalid => out_of_grace(head, Decision::Answered(statuses::BAD_STATEID)),
+        Kind::Current => out_of_grace(head, Decision::HandedOn),
+        Kind::Ordinary => out_of_grace(head, Decision::HandedOn),
     }
 }
 
@@ -53,7 +62,7 @@ pub fn decide(head: Head, request: &[u8], room: usize) -> Decision
     match wire::request::read(request) {
         Request::Refused(k) => Decision::Answered(k),
         Request::Bulk => Decision::HandedOn,
-        Request::File { anonymous, len } => phase(anonymous, head, len),
+        Request::File { kind, len } => phase(kind, head, len),
     }
 }
 

@@ -10,6 +10,8 @@ use lib.Dec.{eqb, ltb}
 use Rattle.reports.specs.Statistics.{Statistic}
 use Rattle.reports.specs.Report.{Report, Whole, Malformed, reportOf, withoutStatistics, over}
 use Rattle.wire.specs.Request.{requestOf, bodyOf}
+use Rattle.wire.specs.declared.request.Kind.{Kind}
+use Rattle.wire.specs.declared.request.Kind.the-variants as kind
 use Rattle.wire.specs.declared.request.Request.{Request}
 use Rattle.wire.specs.declared.request.Request.the-variants as request
 use Rattle.places.specs.Places.{first, isFound}
@@ -98,12 +100,18 @@ module _ (r : Record) (n c : ℕ) (d : List ℕ) where
           answer = says-read s ∙ ap says q ∙ sym (says-read t);
         }
 
-    phase-same : (j k : ℕ) (a o g : Bool) → Same (returnedBy n c s r (phaseOf a (record { grace = g; old = o }) j)) (returnedBy n c t r (phaseOf a (record { grace = g; old = o }) k))
-    phase-same j k true true g = record { after = refl; answer = refl }
-    phase-same j k true false true = reads
-    phase-same j k true false false = record { after = refl; answer = refl }
-    phase-same j k false o true = record { after = refl; answer = refl }
-    phase-same j k false o false = record { after = refl; answer = refl }
+    phase-same : (j k : ℕ) (a : Kind) (o g : Bool) → Same (returnedBy n c s r (phaseOf a (record { grace = g; old = o }) j)) (returnedBy n c t r (phaseOf a (record { grace = g; old = o }) k))
+    phase-same j k kind.Anonymous true g = record { after = refl; answer = refl }
+    phase-same j k kind.Anonymous false true = reads
+    phase-same j k kind.Anonymous false false = record { after = refl; answer = refl }
+    phase-same j k kind.Bypass o true = record { after = refl; answer = refl }
+    phase-same j k kind.Bypass o false = record { after = refl; answer = refl }
+    phase-same j k kind.Invalid o true = record { after = refl; answer = refl }
+    phase-same j k kind.Invalid o false = record { after = refl; answer = refl }
+    phase-same j k kind.Current o true = record { after = refl; answer = refl }
+    phase-same j k kind.Current o false = record { after = refl; answer = refl }
+    phase-same j k kind.Ordinary o true = record { after = refl; answer = refl }
+    phase-same j k kind.Ordinary o false = record { after = refl; answer = refl }
 
     decided-same : (p q : Request) → kindOf p ≡ kindOf q → Same (returnedBy n c s r (decided (r .head) p)) (returnedBy n c t r (decided (r .head) q))
     decided-same (request.Refused j) (request.Refused k) x = let z : j ≡ k = cc in rw z (record { after = refl; answer = refl })

@@ -12,6 +12,7 @@ use borrow.Author.Tests.{ne-eqb, le-leb, ltb-true, ltb-false}
 use Rattle.statuses.specs.Rules.{refused}
 use Rattle.reports.specs.Report.{Report, Whole, Malformed, reportOf}
 use Rattle.wire.specs.Request.{requestOf, bodyOf}
+use Rattle.wire.specs.declared.request.Kind.the-variants as kind
 use Rattle.wire.specs.declared.request.Request.{Request}
 use Rattle.wire.specs.declared.request.Request.the-variants as request
 use Rattle.wire.proofs.Requests.{refused-number}
@@ -107,9 +108,12 @@ return-side : (o : Edition) (n c : ℕ) (s d : List ℕ) (q : Request) → reque
 unfolding feed apply registered rowOf
 return-side o n c s d (request.Refused k) e h = rw (ne-eqb k 0 (refused-number s e)) (side h)
 return-side o n c s d request.Bulk e h = side h
-return-side o n c s d (request.File false k) e h = side h
-return-side Old n c s d (request.File true k) e h = side h
-return-side Current n c s d (request.File true k) e {ws} {vs} h = by (reportOf (bodyOf s))
+return-side o n c s d (request.File kind.Bypass k) e h = side h
+return-side o n c s d (request.File kind.Invalid k) e h = side h
+return-side o n c s d (request.File kind.Current k) e h = side h
+return-side o n c s d (request.File kind.Ordinary k) e h = side h
+return-side Old n c s d (request.File kind.Anonymous k) e h = side h
+return-side Current n c s d (request.File kind.Anonymous k) e {ws} {vs} h = by (reportOf (bodyOf s))
   where
     by : (p : Report)
         → Side (cond (eqb (refused (reportRules (inGrace Current ws) n c p)) 0) (onRow (inGrace Current ws) n (reported Current (errorsOf p))) (inGrace Current ws)) (cond (eqb (refused (reportRules (inGrace Current vs) n c p)) 0) (onRow (inGrace Current vs) n (reported Current (errorsOf p))) (inGrace Current vs))

@@ -13,6 +13,8 @@ use Rattle.statuses.specs.Rules.{_⇒_, firstOf, refused}
 use Rattle.reports.specs.Report.{DeviceError, Report, Whole, Malformed, reportOf}
 use Rattle.wire.specs.Request.{requestOf, bodyOf}
 use Rattle.wire.specs.Reply.{replyIn}
+use Rattle.wire.specs.declared.request.Kind.{Kind}
+use Rattle.wire.specs.declared.request.Kind.the-variants as kind
 use Rattle.wire.specs.declared.request.Request.{Request}
 use Rattle.wire.specs.declared.request.Request.the-variants as request
 use Rattle.wire.proofs.Requests.{cond-below, refused-number, refused-small}
@@ -113,20 +115,24 @@ module _ {r : Record} {l : Ledger} (m : Matches r l) (n c : ℕ) (s d : List ℕ
       reads-by _ (refused (reportRules l n c (reportOf (bodyOf s)))) _ _ _ (z .same) (rules-low l n c (reportOf (bodyOf s))) (report-totals m n c (reportOf (bodyOf s))) (z .kept)
 
   -- ---- step 4
-  abbrev phase : Bool → ℕ → Bool → Bool → Returned
+  abbrev phase : Kind → ℕ → Bool → Bool → Returned
   phase a k o g = returnedBy n c s r (phaseOf a (record { grace = g; old = o }) k)
 
-  ordinary : (k : ℕ) (o g : Bool) → StepIs (returns (phase false k o g) d) l this (firstOf (g ⇒ refusal 10013 d ∷ []) (handedOn noTotals d))
+  bypass : (k : ℕ) (o g : Bool) → StepIs (returns (phase kind.Bypass k o g) d) l this (firstOf (g ⇒ refusal 10013 d ∷ []) (refusal 10025 d))
+  bypass k o true = refuses 10013 (omega arith) (λ e. omega arith)
+  bypass k o false = refuses 10025 (omega arith) (λ e. omega arith)
+
+  ordinary : (k : ℕ) (o g : Bool) → StepIs (returns (phase kind.Ordinary k o g) d) l this (firstOf (g ⇒ refusal 10013 d ∷ []) (handedOn noTotals d))
   ordinary k o true = refuses 10013 (omega arith) (λ e. omega arith)
   ordinary k o false = hands-on
 
   anonymous : (k : ℕ) (o g : Bool) → isOld (l .edition) ≡ o
-      → StepIs (returns (phase true k o g) d) l this (reply (refused (o ⇒ 10025 ∷ not g ⇒ 10033 ∷ reportRules l n c (reportOf (bodyOf s)))) (rowTotals (reportOf (bodyOf s)) (rowOf n l)) d)
+      → StepIs (returns (phase kind.Anonymous k o g) d) l this (reply (refused (o ⇒ 10025 ∷ not g ⇒ 10033 ∷ reportRules l n c (reportOf (bodyOf s)))) (rowTotals (reportOf (bodyOf s)) (rowOf n l)) d)
   anonymous k true g e = refuses 10025 (omega arith) (λ z. omega arith)
   anonymous k false false e = refuses 10033 (omega arith) (λ z. omega arith)
   anonymous k false true e = reads e
 
-  in-phase : (a : Bool) (k : ℕ) {t : Answer} → StepIs (returns (phase a k (isOld (l .edition)) (l .grace)) d) l this t → StepIs (returns (phase a k (r .head .old) (r .head .grace)) d) l this t
+  in-phase : (a : Kind) (k : ℕ) {t : Answer} → StepIs (returns (phase a k (isOld (l .edition)) (l .grace)) d) l this t → StepIs (returns (phase a k (r .head .old) (r .head .grace)) d) l this t
   in-phase a k {t} h =
       subst (λ (o : Bool). StepIs (returns (phase a k o (r .head .grace)) d) l this t) (sym (m .old))
       (subst (λ (g : Bool). StepIs (returns (phase a k (isOld (l .edition)) g) d) l this t) (sym (m .grace)) h)
@@ -135,8 +141,11 @@ module _ {r : Record} {l : Ledger} (m : Matches r l) (n c : ℕ) (s d : List ℕ
   asked : (q : Request) → Read-as q → StepIs (returns (returnedBy n c s r (decided (r .head) q)) d) l this (judgeRequest l n c s d q)
   asked (request.Refused k) h = refuses k (h .small) (h .nonzero)
   asked request.Bulk h = hands-on
-  asked (request.File true k) h = in-phase true k (anonymous k (isOld (l .edition)) (l .grace) refl)
-  asked (request.File false k) h = in-phase false k (ordinary k (isOld (l .edition)) (l .grace))
+  asked (request.File kind.Anonymous k) h = in-phase kind.Anonymous k (anonymous k (isOld (l .edition)) (l .grace) refl)
+  asked (request.File kind.Bypass k) h = in-phase kind.Bypass k (bypass k (isOld (l .edition)) (l .grace))
+  asked (request.File kind.Invalid k) h = in-phase kind.Invalid k (bypass k (isOld (l .edition)) (l .grace))
+  asked (request.File kind.Current k) h = in-phase kind.Current k (ordinary k (isOld (l .edition)) (l .grace))
+  asked (request.File kind.Ordinary k) h = in-phase kind.Ordinary k (ordinary k (isOld (l .edition)) (l .grace))
 
   -- a short reply buffer stays as it is
   short : ltb (length d) 24 ≡ true → StepIs (returns (returning 28 noTotals r) d) l this (replied 28 noTotals d)

@@ -11,6 +11,7 @@ use Rattle.reports.specs.Device.{Device}
 use Rattle.reports.specs.Report.{DeviceError, Report, Whole, Malformed, reportOf}
 use Rattle.wire.specs.Request.{requestOf, bodyOf}
 use Rattle.wire.specs.Reply.{replyIn}
+use Rattle.wire.specs.declared.request.Kind.the-variants as kind
 use Rattle.wire.specs.declared.request.Request.{Request}
 use Rattle.wire.specs.declared.request.Request.the-variants as request
 use Rattle.places.specs.Lists.{any, chosen, has, with, none, amend, discard, firstOr}
@@ -169,14 +170,18 @@ bodyRules (Whole xs ys) = []
 abbrev pub reportRules : Ledger → ℕ → ℕ → Report → List (Rule ℕ)
 reportRules l n c p = bodyRules p ++ not (registered n l) ⇒ 70 ∷ intentRules c (rowOf n l)
 
--- steps 1 to 6 (Rules 3.7): s is the request, d the reply buffer. Step 4: all zeros get 10025 from a record set up as old, and 10033 if not in grace; in grace a stateid that
--- is not all zeros gets 10013
+-- steps 1 to 6 (Rules 3.7): s is the request, d the reply buffer. Step 4, by the kind of stateid (02, Tickets 1 and 6): the anonymous one gets 10025 from a record set up as
+-- old, and 10033 if not in grace; in grace any other gets 10013; out of it read bypass and an invalid one get 10025, and the current and an ordinary one are
+-- handed on
 abbrev pub judgeRequest : Ledger → ℕ → ℕ → List ℕ → List ℕ → Request → Answer
 judgeRequest l n c s d (request.Refused k) = refusal k d
 judgeRequest l n c s d request.Bulk = handedOn noTotals d
-judgeRequest l n c s d (request.File true k) =
+judgeRequest l n c s d (request.File kind.Anonymous k) =
     reply (refused (isOld (l .edition) ⇒ 10025 ∷ not (l .grace) ⇒ 10033 ∷ reportRules l n c (reportOf (bodyOf s)))) (rowTotals (reportOf (bodyOf s)) (rowOf n l)) d
-judgeRequest l n c s d (request.File false k) = firstOf (l .grace ⇒ refusal 10013 d ∷ []) (handedOn noTotals d)
+judgeRequest l n c s d (request.File kind.Bypass k) = firstOf (l .grace ⇒ refusal 10013 d ∷ []) (refusal 10025 d)
+judgeRequest l n c s d (request.File kind.Invalid k) = firstOf (l .grace ⇒ refusal 10013 d ∷ []) (refusal 10025 d)
+judgeRequest l n c s d (request.File kind.Current k) = firstOf (l .grace ⇒ refusal 10013 d ∷ []) (handedOn noTotals d)
+judgeRequest l n c s d (request.File kind.Ordinary k) = firstOf (l .grace ⇒ refusal 10013 d ∷ []) (handedOn noTotals d)
 
 -- ---- what the ledger before a call says that it is answered
 unfoldable pub judge : Ledger → Call → Answer

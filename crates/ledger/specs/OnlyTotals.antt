@@ -17,7 +17,7 @@ use Rattle.ledger.specs.History.{step}
 abbrev pub kindOf : Request → Request
 kindOf (request.Refused k) = request.Refused k
 kindOf request.Bulk = request.Bulk
-kindOf (request.File anonymous len) = request.File anonymous 0
+kindOf (request.File kind len) = request.File kind 0
 
 -- they are read alike, and their bodies hold the same device errors in the same order, or are both malformed
 pub record SameButStatistics (s t : List ℕ) : Type 0 where

@@ -22,7 +22,7 @@ pub const DELAY: u32 = 10008;
 // A grace period is on.
 pub const GRACE: u32 = 10013;
 
-// No intent to close, one that is not reclaimed, or the anonymous stateid where the record is old.
+// No intent to close, one that is not reclaimed, or a stateid that is not taken: the anonymous one where the record is old, read bypass, an invalid one.
 pub const BAD_STATEID: u32 = 10025;
 
 // No grace period is on.

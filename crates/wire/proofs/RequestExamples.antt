@@ -1,4 +1,4 @@
--- The definition's answers on a few requests, computed: the 120-byte request of paper 01, and the order of steps 1 to 3.
+-- The definition's answers on a few requests, computed: the 120-byte request of paper 01, the order of steps 1 to 3, and the kinds of stateid.
 use mathlib.Core.Path.{_≡_, refl}
 use mathlib.Core.List.{List, [], _∷_, _++_, map}
 use mathlib.Core.Bool.{true, false}
@@ -6,7 +6,10 @@ use Prim.Native.Nat.{ℕ}
 use lib.ListN.{length}
 use Rattle.xdr.specs.Be.{beNat}
 use Rattle.xdr.specs.Reader.{sameBytes, number, opaque, boolean, bounded}
-use Rattle.wire.specs.Request.{fileReturn, returnOf, arguments, refusalOf, isAnonymous, unless, requestOf, bodyOf}
+use Rattle.wire.specs.Request.{fileReturn, returnOf, arguments, refusalOf, unless, requestOf, bodyOf}
+use Rattle.wire.specs.Stateid.{ones, stateidKind}
+use Rattle.wire.specs.declared.request.Kind.{Kind}
+use Rattle.wire.specs.declared.request.Kind.the-variants.{Anonymous, Bypass, Current, Invalid, Ordinary}
 use Rattle.wire.specs.declared.request.Request.{Request}
 use Rattle.wire.specs.declared.request.Request.the-variants.{Refused, Bulk, File}
 use Rattle.reports.proofs.ReportExamples.{blank, one}
@@ -38,10 +41,28 @@ pub answers :
     ∷ head 2 4 2 3
     ∷ head 0 4 2 4
     ∷ [])
-    ≡ File true 68 ∷ File false 68 ∷ Refused 10062 ∷ Refused 10049 ∷ Refused 10036 ∷ Bulk ∷ Refused 10036 ∷ Refused 10036 ∷ []
-unfolding requestOf arguments returnOf fileReturn bounded boolean number opaque refusalOf isAnonymous unless sameBytes beNat
+    ≡ File Anonymous 68 ∷ File Ordinary 68 ∷ Refused 10062 ∷ Refused 10049 ∷ Refused 10036 ∷ Bulk ∷ Refused 10036 ∷ Refused 10036 ∷ []
+unfolding requestOf arguments returnOf fileReturn bounded boolean number opaque refusalOf stateidKind unless sameBytes beNat
 answers = refl
 
 pub body-is : bodyOf (whole 4 3 0) ≡ one
-unfolding bodyOf requestOf arguments returnOf fileReturn bounded boolean number opaque refusalOf isAnonymous unless sameBytes beNat
+unfolding bodyOf requestOf arguments returnOf fileReturn bounded boolean number opaque refusalOf stateidKind unless sameBytes beNat
 body-is = refl
+
+-- in order: anonymous; read bypass; current; `other` all zeros with seqids 2 and 2^32 - 1; `other` all ones with seqids 0 and 1; one byte of `other` off, the
+-- first and the last
+pub kinds :
+    map stateidKind
+    (blank 16
+    ∷ ones 16
+    ∷ (word 1 ++ blank 12)
+    ∷ (word 2 ++ blank 12)
+    ∷ (ones 4 ++ blank 12)
+    ∷ (blank 4 ++ ones 12)
+    ∷ (word 1 ++ ones 12)
+    ∷ (blank 4 ++ (1 ∷ blank 11))
+    ∷ (ones 15 ++ (254 ∷ []))
+    ∷ [])
+    ≡ Anonymous ∷ Bypass ∷ Current ∷ Invalid ∷ Invalid ∷ Invalid ∷ Invalid ∷ Ordinary ∷ Ordinary ∷ []
+unfolding stateidKind sameBytes
+kinds = refl

@@ -10,8 +10,8 @@ use lib.Seq.{drop-drop, length-take-le}
 use lib.Dec.{ltb, leb, eqb}
 use Rattle.xdr.specs.Be.{beNat}
 use Rattle.xdr.specs.Reader.{sameBytes, zeros, padding, Read, Got, Bad, Reader, onward, _>>=_, give, only, number, opaque, boolean, bounded}
-use Rattle.wire.specs.Request.{Returned, ofFile, ofMany, Arguments, fileReturn, returnOf, arguments, refusalOf, isAnonymous, asked, unless, answered, requestOf}
-use Rattle.wire.specs.RequestSteps.{fileForm, formOf, anonymousIn, judgedIn, answerIn, requestIn}
+use Rattle.wire.specs.Request.{Returned, ofFile, ofMany, Arguments, fileReturn, returnOf, arguments, refusalOf, asked, unless, answered, requestOf}
+use Rattle.wire.specs.RequestSteps.{fileForm, formOf, kindIn, judgedIn, answerIn, requestIn}
 use Rattle.wire.specs.declared.request.Form.{Form}
 use Rattle.wire.specs.declared.request.Form.the-variants as form
 use Rattle.wire.specs.declared.request.Request.{Request}
@@ -101,7 +101,7 @@ module _ (s : List ℕ) (h : 16 ≤ length s) where
       rw (file-read .reads (drop 16 s), closed-if, e, d, t, b, closed-with (boundedRest 4096 size (drop 52 s)) (λ body. ofFile (take 16 (drop 32 s)) body), body-closed, drop-drop)
 
   same-found : 52 + size ≤ length s → found ≡ answerIn s (form.File size)
-  unfolding judgedAs anonymousIn
+  unfolding judgedAs kindIn
   same-found g = rw (length-take-le size (drop 52 s) (rw length-drop (omega arith)))
 
   file-agrees : closed (fileReturn (drop 16 s)) (judgedAs s) ≡ answerIn s (fileForm s)

@@ -11,10 +11,12 @@ use lib.Seq.{take-all}
 use lib.Dec.{ltb, leb, eqb}
 use Rattle.xdr.specs.Be.{beNat}
 use Rattle.xdr.specs.Reader.{sameBytes, zeros, padding, Got}
+use Rattle.wire.specs.Stateid.{stateidKind}
 use Rattle.wire.specs.Request.{Arguments, ofFile, refusalOf, unless, arguments, requestOf, partOf, bodyOf}
-use Rattle.wire.specs.RequestSteps.{fileForm, formOf, anonymousIn, judgedIn, answerIn, requestIn}
+use Rattle.wire.specs.RequestSteps.{fileForm, formOf, kindIn, judgedIn, answerIn, requestIn}
 use Rattle.wire.specs.declared.request.Form.{Form}
 use Rattle.wire.specs.declared.request.Form.the-variants as form
+use Rattle.wire.specs.declared.request.Kind.{Kind}
 use Rattle.wire.specs.declared.request.Request.{Request}
 use Rattle.wire.specs.declared.request.Request.the-variants.{Refused, Bulk, File}
 use Rattle.xdr.proofs.Readers.{by-test}
@@ -167,9 +169,9 @@ module _ (s : List ℕ) where
   unfolding requestIn
   read-bulk e q = rw (as-tested s, e) q
 
-  pub read-file : {n : ℕ} → formOf s ≡ form.File n → {a : Bool} → a ≡ anonymousIn s → {r : Request} → r ≡ judgedIn s (File a n) → r ≡ requestOf s
-  unfolding requestIn
-  read-file {n} e {a} p q = rw (as-tested s, e) (q ∙ ap (λ (b : Bool). judgedIn s (File b n)) p)
+  pub read-file : {n : ℕ} → formOf s ≡ form.File n → {a : Kind} → a ≡ stateidKind (take 16 (drop 32 s)) → {r : Request} → r ≡ judgedIn s (File a n) → r ≡ requestOf s
+  unfolding requestIn kindIn
+  read-file {n} e {a} p q = rw (as-tested s, e) (q ∙ ap (λ (b : Kind). judgedIn s (File b n)) p)
 
 -- what holds of 10036 and of every number of step 2 holds of a refusal's number
 module _ (P : ℕ → Type 0) (malformed : P 10036) (refusal : (layout iomode : ℕ) → (refusalOf layout iomode ≡ 0 → ⊥) → P (refusalOf layout iomode)) where
@@ -187,7 +189,7 @@ module _ (P : ℕ → Type 0) (malformed : P 10036) (refusal : (layout iomode : 
   form-refuses : (s : List ℕ) (f : Form) → Refuses (answerIn s f)
   form-refuses s form.Malformed = malformed
   form-refuses s form.Bulk = judged-refuses s Bulk tt
-  form-refuses s (form.File n) = judged-refuses s (File (anonymousIn s) n) tt
+  form-refuses s (form.File n) = judged-refuses s (File (kindIn s) n) tt
 
   of-refused : (s : List ℕ) {k : ℕ} → requestOf s ≡ Refused k → P k
   unfolding requestIn
@@ -224,10 +226,10 @@ judged-lent s r h =
 lent : (s : List ℕ) (f : Form) → Laid s f → Lent s (answerIn s f)
 lent s form.Malformed h = tt
 lent s form.Bulk h = judged-lent s Bulk tt
-lent s (form.File n) h = judged-lent s (File (anonymousIn s) n) h
+lent s (form.File n) h = judged-lent s (File (kindIn s) n) h
 
 -- the body of an ordinary return is within the limit and within the request
-pub body-fits : (s : List ℕ) {a : Bool} {n : ℕ} → requestOf s ≡ File a n → Fits s n
+pub body-fits : (s : List ℕ) {a : Kind} {n : ℕ} → requestOf s ≡ File a n → Fits s n
 unfolding requestIn
 body-fits s e = rw (sym (as-tested s) ∙ e) at (lent s (formOf s) (form-laid s))
 
@@ -245,7 +247,7 @@ pub body-bulk : (s : List ℕ) → requestOf s ≡ Bulk → [] ≡ bodyOf s
 unfolding bodyOf
 body-bulk s e = simp e
 
-pub body-part : (s : List ℕ) {a : Bool} {n : ℕ} → requestOf s ≡ File a n → partOf n s ≡ bodyOf s
+pub body-part : (s : List ℕ) {a : Kind} {n : ℕ} → requestOf s ≡ File a n → partOf n s ≡ bodyOf s
 unfolding bodyOf partOf
 body-part s {n = n} e = simp (e, le-ltb (length s) (52 + n) (body-fits s e .within))
 

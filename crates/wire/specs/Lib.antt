@@ -1,4 +1,5 @@
 -- LAYOUTRETURN: Request, Reply; RequestSteps is a model of the code. Handed is a model of what C is handed of a report; Walk: what C's walks hand out.
+pub mod Stateid
 pub mod Request
 pub mod RequestSteps
 pub mod Handed

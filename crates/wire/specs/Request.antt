@@ -1,6 +1,6 @@
 -- DEFINITION. The arguments of a LAYOUTRETURN (LAYOUTRETURN4args, RFC 8881) and steps 1 to 3 (Rules 3.1, 3.2, 3.7).
 --     Arguments, arguments     the structures, a line a field
---     refusalOf, isAnonymous   step 2, and the test of a stateid
+--     refusalOf                step 2
 --     requestOf                the answer of steps 1 to 3
 --     numberOf, kindOf         the same as numbers
 --     partOf, bodyOf           a part of a length from where a body begins; the body, as the part of the request where it lies
@@ -10,7 +10,8 @@ use mathlib.Core.Bool.{Bool, cond, _&&_}
 use lib.ListN.{length, take, drop}
 use lib.Dec.{leb, ltb, eqb}
 use Rattle.statuses.specs.Names.{Bytes}
-use Rattle.xdr.specs.Reader.{sameBytes, zeros, Read, Got, Bad, Reader, _>>=_, give, only, number, opaque, boolean, bounded}
+use Rattle.xdr.specs.Reader.{Read, Got, Bad, Reader, _>>=_, give, only, number, opaque, boolean, bounded}
+use Rattle.wire.specs.Stateid.{stateidKind, kindNumber}
 use Rattle.wire.specs.declared.request.Request.{Request}
 use Rattle.wire.specs.declared.request.Request.the-variants.{Refused, Bulk, File}
 
@@ -51,13 +52,9 @@ arguments = do
 unfoldable pub refusalOf : ℕ → ℕ → ℕ
 refusalOf layout iomode = cond (eqb layout 4) (cond (leb 1 iomode && leb iomode 3) 0 10049) 10062
 
--- the anonymous stateid (RFC 8881, 8.2.3): its sixteen bytes are all zero
-unfoldable pub isAnonymous : List ℕ → Bool
-isAnonymous stateid = sameBytes stateid (zeros 16)
-
 -- ---- steps 1 to 3
 abbrev pub asked : Returned → Request
-asked (ofFile stateid body) = File (isAnonymous stateid) (length body)
+asked (ofFile stateid body) = File (stateidKind stateid) (length body)
 asked ofMany = Bulk
 
 -- what is asked, unless there is a refusal
@@ -77,24 +74,24 @@ requestOf s = answered (arguments s)
 abbrev pub numberOf : Request → ℕ
 numberOf (Refused k) = k
 numberOf Bulk = 0
-numberOf (File a n) = 0
+numberOf (File kind n) = 0
 
--- 0 refused, 1 handed on, 2 an ordinary return, 3 one with the anonymous stateid
+-- 0 refused, 1 handed on; from 2 on a file's return, by the kind of its stateid
 abbrev pub kindOf : Request → ℕ
 kindOf (Refused k) = 0
 kindOf Bulk = 1
-kindOf (File a n) = cond a 3 2
+kindOf (File kind n) = kindNumber kind
 
 -- ---- the body lies in the request from byte 52 on; no other request has one
 abbrev pub bodyAt : Request → ℕ
 bodyAt (Refused k) = 0
 bodyAt Bulk = 0
-bodyAt (File a n) = 52
+bodyAt (File kind n) = 52
 
 abbrev pub bodyLength : Request → ℕ
 bodyLength (Refused k) = 0
 bodyLength Bulk = 0
-bodyLength (File a n) = n
+bodyLength (File kind n) = n
 
 -- the part of n bytes from there on; empty where it is not all there
 unfoldable pub partOf : ℕ → Bytes → Bytes

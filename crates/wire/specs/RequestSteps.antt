@@ -1,6 +1,6 @@
 -- MODEL of the code: the tests of a request at the places of its fields. proofs/RequestModel.antt proves that they give `requestOf`.
 --     fileForm, formOf             step 1, as `file_laid_out` and `laid_out` answer it
---     anonymousIn, judgedIn        the stateid, layout type and iomode in their places
+--     kindIn, judgedIn             the stateid, layout type and iomode in their places
 --     requestIn                    steps 1 to 3 from these
 use Prim.Native.Nat.{ℕ, _+_}
 use mathlib.Core.List.{List}
@@ -9,9 +9,11 @@ use lib.ListN.{length, take, drop}
 use lib.Dec.{ltb, leb, eqb}
 use Rattle.xdr.specs.Be.{beNat}
 use Rattle.xdr.specs.Reader.{sameBytes, zeros, padding}
-use Rattle.wire.specs.Request.{refusalOf, isAnonymous, unless}
+use Rattle.wire.specs.Stateid.{stateidKind}
+use Rattle.wire.specs.Request.{refusalOf, unless}
 use Rattle.wire.specs.declared.request.Form.{Form}
 use Rattle.wire.specs.declared.request.Form.the-variants as form
+use Rattle.wire.specs.declared.request.Kind.{Kind}
 use Rattle.wire.specs.declared.request.Request.{Request}
 use Rattle.wire.specs.declared.request.Request.the-variants.{Refused, Bulk, File}
 
@@ -31,8 +33,8 @@ formOf s =
     (cond (leb 2 (beNat 4 (drop 12 s)) && leb (beNat 4 (drop 12 s)) 3) (cond (eqb (length s) 16) form.Bulk form.Malformed) form.Malformed)))
 
 -- the stateid lies from byte 32 on
-unfoldable pub anonymousIn : List ℕ → Bool
-anonymousIn s = isAnonymous (take 16 (drop 32 s))
+unfoldable pub kindIn : List ℕ → Kind
+kindIn s = stateidKind (take 16 (drop 32 s))
 
 -- layout type and iomode lie from bytes 4 and 8 on
 unfoldable pub judgedIn : List ℕ → Request → Request
@@ -41,7 +43,7 @@ judgedIn s r = unless (refusalOf (beNat 4 (drop 4 s)) (beNat 4 (drop 8 s))) r
 abbrev pub answerIn : List ℕ → Form → Request
 answerIn s form.Malformed = Refused 10036
 answerIn s form.Bulk = judgedIn s Bulk
-answerIn s (form.File n) = judgedIn s (File (anonymousIn s) n)
+answerIn s (form.File n) = judgedIn s (File (kindIn s) n)
 
 unfoldable pub requestIn : List ℕ → Request
 requestIn s = answerIn s (formOf s)

@@ -26,6 +26,6 @@ pub fn body(s: &[u8]) -> &[u8]
     match read(s) {
         Request::Refused(_) => &s[..0],
         Request::Bulk => &s[..0],
-        Request::File { anonymous: _, len } => part(s, len),
+        Request::File { kind: _, len } => part(s, len),
     }
 }

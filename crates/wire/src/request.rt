@@ -1,12 +1,27 @@
 // The arguments of a LAYOUTRETURN: LAYOUTRETURN4args of RFC 8881 (paper 01, "LAYOUTRETURN", steps 1 to 3).
-// In order: what a request asks for; step 1; step 2; the test of the stateid; `read`, the answer of the three steps; the same for C.
+// In order: the kinds of stateid; what a request asks for; step 1; step 2; the test of the stateid; `read`, the answer of the three steps; the same for C.
 use xdr::fields::pad;
 use xdr::fields::same;
 ghost use mathlib.Core.Path.{_≡_};
 ghost use Prim.Native.Nat.{_≤_};
 ghost use lib.ListN.{length};
 ghost use Rattle.wire.specs.Request.{refusalOf, unless, requestOf, numberOf, kindOf, bodyAt, bodyLength};
-ghost use Rattle.wire.specs.RequestSteps.{fileForm, formOf, anonymousIn, judgedIn};
+ghost use Rattle.wire.specs.RequestSteps.{fileForm, formOf, judgedIn};
+ghost use Rattle.wire.specs.Stateid.{stateidKind, kindNumber};
+
+// The kinds of stateid (RFC 8881, 8.2.3; Ticket 6): a seqid of 4 bytes and an `other` of 12.
+pub enum Kind {
+    // All sixteen bytes are zero.
+    Anonymous,
+    // All sixteen bytes are ones: read bypass.
+    Bypass,
+    // Seqid 1, and `other` all zeros.
+    Current,
+    // `other` all zeros or all ones, with any other seqid.
+    Invalid,
+    // The rest.
+    Ordinary,
+}
 
 // What a request asks for.
 pub enum Request {
@@ -14,8 +29,8 @@ pub enum Request {
     Refused(u32),
     // Return type 2 or 3: handed on.
     Bulk,
-    // An ordinary return: whether its stateid is the anonymous one, and the length of its body, which lies from byte 52 on.
-    File { anonymous: bool, len: usize },
+    // A file's return: the kind of its stateid, and the length of its body, which lies from byte 52 on.
+    File { kind: Kind, len: usize },
 }
 
 // How the bytes are laid out.
@@ -97,15 +112,42 @@ fn judged(s: &[u8], asked: Request) -> Request
     Request::Refused(number)
 }
 
-// Whether the sixteen stateid bytes are the all-zero string: the anonymous stateid of RFC 8881.
-fn anonymous(s: &[u8]) -> bool
-    requires { ⌜ 48 ≤ length (now s) ⌝ }
-    ensures { λ r. ⌜ r ≡ anonymousIn (now (s .entry)) ⌝ }
+// Which kind a stateid is: its bytes, or those of its `other`, compared with the fixed strings.
+fn kind_of(stateid: &[u8]) -> Kind
+    requires { ⌜ length (now stateid) ≡ 16 ⌝ }
+    ensures { λ r. ⌜ r ≡ stateidKind (now (stateid .entry)) ⌝ }
 {
-    same(
-        &s[32..48],
+    if same(
+        stateid,
         b"\x00\x00\x00\x00\x00\x00\x00\x00\x00\x00\x00\x00\x00\x00\x00\x00",
-    )
+    ) {
+        return Kind::Anonymous;
+    }
+    if same(
+        stateid,
+        b"\xff\xff\xff\xff\xff\xff\xff\xff\xff\xff\xff\xff\xff\xff\xff\xff",
+    ) {
+        return Kind::Bypass;
+    }
+    if same(
+        stateid,
+        b"\x00\x00\x00\x01\x00\x00\x00\x00\x00\x00\x00\x00\x00\x00\x00\x00",
+    ) {
+        return Kind::Current;
+    }
+    if same(
+        &stateid[4..16],
+        b"\x00\x00\x00\x00\x00\x00\x00\x00\x00\x00\x00\x00",
+    ) {
+        return Kind::Invalid;
+    }
+    if same(
+        &stateid[4..16],
+        b"\xff\xff\xff\xff\xff\xff\xff\xff\xff\xff\xff\xff",
+    ) {
+        return Kind::Invalid;
+    }
+    Kind::Ordinary
 }
 
 // Steps 1 to 3.
@@ -116,14 +158,27 @@ pub fn read(s: &[u8]) -> Request
         Form::Malformed => Request::Refused(statuses::BADXDR),
         Form::Bulk => judged(s, Request::Bulk),
         Form::File(len) => {
-            let anonymous = anonymous(s);
-            judged(s, Request::File { anonymous, len })
+            let kind = kind_of(&s[32..48]);
+            judged(s, Request::File { kind, len })
         }
     }
 }
 
-// For C: steps 1 to 3. Answers the number of a refusal, or 0; `kind` is 0 for a refusal, 1 for a request that is handed on, 2 for an ordinary
-// return, 3 for one with the anonymous stateid; `at` and `len` say where in the request its body lies, and are 0 where there is none.
+// The number of a kind in C.
+fn kind_number(kind: Kind) -> u32
+    ensures { λ r. ⌜ r ≡ kindNumber kind ⌝ }
+{
+    match kind {
+        Kind::Ordinary => 2,
+        Kind::Anonymous => 3,
+        Kind::Bypass => 4,
+        Kind::Current => 5,
+        Kind::Invalid => 6,
+    }
+}
+
+// For C: steps 1 to 3. Answers the number of a refusal, or 0; `kind` is 0 for a refusal, 1 for a request that is handed on, and from 2 on a file's
+// return by the kind of its stateid; `at` and `len` say where in the request its body lies, and are 0 where there is none.
 #[no_mangle]
 pub extern "C" fn sc_layoutreturn_check(
     request: &[u8],
@@ -146,8 +201,8 @@ pub extern "C" fn sc_layoutreturn_check(
             *len = 0;
             0
         }
-        Request::File { anonymous, len: n } => {
-            *kind = if anonymous { 3 } else { 2 };
+        Request::File { kind: k, len: n } => {
+            *kind = kind_number(k);
             *at = 52;
             *len = n as u64;
             0

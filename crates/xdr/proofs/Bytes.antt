@@ -6,7 +6,7 @@ use mathlib.Core.Bool.{Bool, true, false, cond, _&&_}
 use native.Mathlib.Omega.{arith}
 use native.Mathlib.Numerals.{add-one}
 use native.Mathlib.Nat.{suc-add}
-use borrow.Author.Tests.{eqb-true}
+use borrow.Author.Tests.{eqb-true, eq-eqb}
 use lib.ListN.{length, take, drop, getD}
 use lib.Seq.{drop-cons, drop-length}
 use lib.Dec.{eqb}
@@ -27,6 +27,25 @@ same-are (x ∷ a) (y ∷ b) h = by-head (eqb x y) refl h (same-are a b)
     by-head : (e : Bool) → eqb x y ≡ e → e && sameBytes a b ≡ true → (sameBytes a b ≡ true → a ≡ b) → x ∷ a ≡ y ∷ b
     by-head true e h go = rw (eqb-true x y e, go h)
     by-head false e h go = absurd (false-true h)
+
+-- the same bytes are found the same, and others are not
+pub same-self : (a : List ℕ) → sameBytes a a ≡ true
+unfolding sameBytes
+same-self [] = refl
+same-self (x ∷ a) = rw (eq-eqb x x refl) (same-self a)
+
+pub are-same : (a b : List ℕ) → a ≡ b → sameBytes a b ≡ true
+are-same a b e = rw e (same-self b)
+
+pub not-same : (a b : List ℕ) → sameBytes a b ≡ false → a ≡ b → ⊥
+not-same a b h e = false-true (sym h ∙ are-same a b e)
+
+pub differ : (a b : List ℕ) → (a ≡ b → ⊥) → sameBytes a b ≡ false
+differ a b h = by (sameBytes a b) refl
+  where
+    by : (t : Bool) → sameBytes a b ≡ t → t ≡ false
+    by true e = absurd (h (same-are a b e))
+    by false e = refl
 
 -- lists of different lengths differ
 pub other-length : (a b : List ℕ) → (length a ≡ length b → ⊥) → false ≡ sameBytes a b

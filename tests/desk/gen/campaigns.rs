@@ -116,7 +116,7 @@ impl<W: Write> Campaigns<W> {
 
     fn layoutreturn(&mut self, pool: &Pool, file: u64, client: u64) -> Done {
         let room = self.r.weighted(&[(90, 24), (2, 0), (1, 4), (3, 23), (2, 25), (1, 100)]);
-        let request = hex(&request(&mut self.r, &pool.devices));
+        let request = hex(&request(&mut self.r, &pool.devices, 12));
         self.call(&format!("layoutreturn {file} {client} {room} {request}"))?;
         if self.r.percent(40) {
             self.call("totals")?;
@@ -414,6 +414,22 @@ impl<W: Write> Campaigns<W> {
         Ok(())
     }
 
+    /// Requests by themselves, most with a special stateid, each also as a LAYOUTRETURN.
+    fn requests(&mut self) -> Done {
+        let pool = self.pool(2, 2, 3);
+        self.fresh()?;
+        for _ in 0..60 {
+            let request = hex(&request(&mut self.r, &pool.devices, 80));
+            self.call(&format!("request {request}"))?;
+            if self.r.percent(20) {
+                let phase = self.r.pick(&["restart", "end"]);
+                self.call(phase)?;
+            }
+            self.call(&format!("layoutreturn {} {} 24 {request}", pool.files[0], pool.clients[0]))?;
+        }
+        Ok(())
+    }
+
     fn layouts(&mut self) -> Done {
         for _ in 0..120 {
             let body = hex(&layout_body(&mut self.r));
@@ -441,6 +457,7 @@ impl<W: Write> Campaigns<W> {
                 "fresh old".to_string(),
                 "epochs".to_string(),
                 "totals".to_string(),
+                "request -".to_string(),
                 "resilver 2 2".to_string(),
                 format!("layout {:08x}", 0),
             ];
@@ -474,7 +491,7 @@ impl<W: Write> Campaigns<W> {
     }
 
     pub fn run(mut self, calls: u64) -> Done {
-        const KINDS: [(u64, u32); 10] = [(30, 0), (12, 1), (10, 2), (6, 3), (50, 4), (10, 5), (18, 6), (10, 7), (24, 8), (60, 9)];
+        const KINDS: [(u64, u32); 11] = [(30, 0), (12, 1), (10, 2), (6, 3), (50, 4), (10, 5), (18, 6), (10, 7), (24, 8), (60, 9), (12, 10)];
         self.limits()?;
         while self.calls < calls {
             match self.r.weighted(&KINDS) {
@@ -487,7 +504,8 @@ impl<W: Write> Campaigns<W> {
                 6 => self.layouts()?,
                 7 => self.lines()?,
                 8 => self.returning()?,
-                _ => self.counts()?,
+                9 => self.counts()?,
+                _ => self.requests()?,
             }
         }
         self.out.flush()

@@ -59,6 +59,7 @@ pub fn at_the_limits() -> Vec<String> {
             format!("offered 64 6553{}", 6 + over),
             format!("layoutreturn 7 1 6553{} 00", 6 + over),
             format!("layoutreturn 7 1 24 {}", zeros(16_384 + over)),
+            format!("request {}", zeros(16_384 + over)),
             format!("register 7 {}", zeros(16_384 + over)),
             format!("layout {}", zeros(65_536 + over)),
             format!("restart{}", " ".repeat(262_144 - 7 + over)),

@@ -113,12 +113,30 @@ fn sized_body(r: &mut Random, devices: &[Device], size: usize) -> Vec<u8> {
     body
 }
 
-fn stateid(r: &mut Random) -> Vec<u8> {
+/// A seqid and an other that are a fixed string of RFC 8881, 8.2.3, or nearly: seqids 0, 1, 2 and 2^32 - 1, an other of zeros or of ones, or one that
+/// differs from it in its first or last byte.
+fn special(r: &mut Random) -> Vec<u8> {
+    let seqid: u32 = r.pick(&[0, 1, 2, u32::MAX]);
+    let mut stateid = seqid.to_be_bytes().to_vec();
+    let fill = r.pick(&[0, 0xff]);
+    stateid.extend(vec![fill; 12]);
+    match r.below(6) {
+        0 => stateid[4] ^= 1 << r.below(8),
+        1 => stateid[15] ^= 1 << r.below(8),
+        _ => {}
+    }
+    stateid
+}
+
+/// A stateid: `often` of a hundred one as above, else mostly the all-zero one, which a report takes.
+fn stateid(r: &mut Random, often: u64) -> Vec<u8> {
+    if r.percent(often) {
+        return special(r);
+    }
     let mut stateid = vec![0; 16];
     match r.below(40) {
-        0..=2 => stateid[r.size(16)] = 1 << r.below(8),
-        3 => stateid = r.bytes(16),
-        4 => stateid = vec![0xff; 16],
+        0 | 1 => stateid[r.size(16)] = 1 << r.below(8),
+        2 => stateid = r.bytes(16),
         _ => {}
     }
     stateid
@@ -133,8 +151,8 @@ fn field(r: &mut Random, right: u32, wrong: &[u32]) -> u32 {
     }
 }
 
-/// The fixed part and the body with its padding; the length that it states may be off.
-fn request_with(r: &mut Random, body: &[u8]) -> Vec<u8> {
+/// The fixed part and the body with its padding; the length that it states may be off. `often` is how many of a hundred stateids are special.
+fn request_with(r: &mut Random, body: &[u8], often: u64) -> Vec<u8> {
     let mut q = Vec::new();
     let reclaim = r.pick(&[0, 0, 0, 1]);
     put(&mut q, field(r, reclaim, &[2, 256, 0x0100_0000, 0xffff_ffff]));
@@ -147,7 +165,7 @@ fn request_with(r: &mut Random, body: &[u8]) -> Vec<u8> {
         return q;
     }
     put_range(r, &mut q);
-    q.extend(stateid(r));
+    q.extend(stateid(r, often));
     let length = body.len() as u32;
     put(&mut q, field(r, length, &[length.wrapping_sub(1), length + 1, length.wrapping_sub(4), length + 4, 0, 0xffff_fffc, 0xffff_ffff]));
     q.extend(body);
@@ -161,8 +179,8 @@ fn request_with(r: &mut Random, body: &[u8]) -> Vec<u8> {
     q
 }
 
-/// A request that names these devices: mostly sound, else with wrong counts, of an edge's size, or damaged.
-pub fn request(r: &mut Random, devices: &[Device]) -> Vec<u8> {
+/// A request that names these devices: mostly sound, else with wrong counts, of an edge's size, or damaged; `often` of a hundred with a special stateid.
+pub fn request(r: &mut Random, devices: &[Device], often: u64) -> Vec<u8> {
     let body = match r.below(20) {
         0..=11 => body(r, devices, 0),
         12..=14 => body(r, devices, 8),
@@ -180,7 +198,7 @@ pub fn request(r: &mut Random, devices: &[Device]) -> Vec<u8> {
             body
         }
     };
-    let mut request = request_with(r, &body);
+    let mut request = request_with(r, &body, often);
     if r.percent(8) {
         damage(r, &mut request);
     }

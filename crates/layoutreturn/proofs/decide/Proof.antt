@@ -19,8 +19,8 @@ enum-known-k c = search needs
 enum-told : tie.Need-enum-told
 enum-told c = search needs
 
-enum-known-anonymous : tie.Need-enum-known-anonymous
-enum-known-anonymous c = search needs
+enum-known-kind : tie.Need-enum-known-kind
+enum-known-kind c = search needs
 
 phase-requires : tie.Need-phase-requires
 phase-requires c κs = search needs
@@ -35,7 +35,7 @@ returns-3 c = rw (le-ltb _ _ (c .before .before .before .if1 .left), sym (c .bef
 
 returns-4 : tie.Need-returns-4
 unfolding decisionOf
-returns-4 c = rw (le-ltb _ _ (c .before .before .before .before .before .if1 .left), sym (c .before .before .before .before .read .ensures) ∙ c .before .before .anonymous .given .1) (c .phase .ensures)
+returns-4 c = rw (le-ltb _ _ (c .before .before .before .before .before .if1 .left), sym (c .before .before .before .before .read .ensures) ∙ c .before .before .kind .given .1) (c .phase .ensures)
 
 pub decide-spec : {M : Type 1} → statement M
 decide-spec =
@@ -45,7 +45,7 @@ decide-spec =
     read-requires
     enum-known-k
     enum-told
-    enum-known-anonymous
+    enum-known-kind
     phase-requires
     returns-2
     returns-3

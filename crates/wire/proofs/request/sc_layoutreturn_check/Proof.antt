@@ -14,8 +14,11 @@ enum-known-number c = search needs
 enum-told : tie.Need-enum-told
 enum-told c = search needs
 
-enum-known-anonymous : tie.Need-enum-known-anonymous
-enum-known-anonymous c = search needs
+enum-known-k : tie.Need-enum-known-k
+enum-known-k c = search needs
+
+kind-number-requires : tie.Need-kind-number-requires
+kind-number-requires c κs = search needs
 
 returns : tie.Need-returns
 returns c =
@@ -27,11 +30,7 @@ returns-2 c =
 
 returns-3 : tie.Need-returns-3
 returns-3 c =
-    rw (sym (c .before .before .before .before .read .ensures) ∙ c .before .before .anonymous .given .1, c .if1 .taken) (refl, refl, refl, refl)
-
-returns-4 : tie.Need-returns-4
-returns-4 c =
-    rw (sym (c .before .before .before .before .read .ensures) ∙ c .before .before .anonymous .given .1, c .if1 .left) (refl, refl, refl, refl)
+    rw (sym (c .before .before .before .before .read .ensures) ∙ c .before .before .k .given .1) (refl, c .kind-number .ensures, refl, refl)
 
 pub sc-layoutreturn-check-spec : {M : Type 1} → statement M
 sc-layoutreturn-check-spec =
@@ -40,8 +39,8 @@ sc-layoutreturn-check-spec =
     read-requires
     enum-known-number
     enum-told
-    enum-known-anonymous
+    enum-known-k
+    kind-number-requires
     returns
     returns-2
-    returns-3
-    returns-4)
+    returns-3)
