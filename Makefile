@@ -11,14 +11,14 @@ WARNINGS = -Wall -Wextra -Wpedantic -Werror
 .DEFAULT_GOAL := build
 .PHONY: build run test bench bench-counts fuzz install fmt clean help
 
-build: build/libstellcircle.a build/list_layout build/stellcircle-replay ## proves the libraries and the program, and builds them and the C host (the default)
+build: build/libstellcircle.a build/list_layout build/list_rdma_layout build/stellcircle-replay ## proves the libraries and the programs, and builds them and the C host (the default)
 
-# the archive; the program is made beside it
+# the archive; the programs are made beside it
 build/libstellcircle.a: $(SOURCES) tests/build.sh
 	@tests/setup.sh build
 	@tests/build.sh
 
-build/list_layout: build/libstellcircle.a
+build/list_layout build/list_rdma_layout: build/libstellcircle.a
 	@test -x $@ || tests/build.sh
 	@touch $@
 
@@ -50,8 +50,8 @@ install: build ## header, archive, programs, man pages and pkg-config file below
 	@install -m 644 include/stellcircle.h $(DESTDIR)$(PREFIX)/include/
 	@install -m 644 build/libstellcircle.a $(DESTDIR)$(PREFIX)/lib/
 	@sed 's|@PREFIX@|$(PREFIX)|; s|@VERSION@|$(VERSION)|' stellcircle.pc.in > $(DESTDIR)$(PREFIX)/lib/pkgconfig/stellcircle.pc
-	@install -m 755 build/list_layout build/stellcircle-replay $(DESTDIR)$(PREFIX)/bin/
-	@install -m 644 man/list_layout.1 man/stellcircle-replay.1 $(DESTDIR)$(PREFIX)/share/man/man1/
+	@install -m 755 build/list_layout build/list_rdma_layout build/stellcircle-replay $(DESTDIR)$(PREFIX)/bin/
+	@install -m 644 man/list_layout.1 man/list_rdma_layout.1 man/stellcircle-replay.1 $(DESTDIR)$(PREFIX)/share/man/man1/
 
 fmt: ## formats the Rattle files
 	rt fmt

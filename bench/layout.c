@@ -1,4 +1,4 @@
-/* The layout check, the extents one by one, and the writer. */
+/* The layout check, the extents one by one, and the writer; for SCSI and for RDMA bodies. */
 #include "bench.h"
 #include "plain.h"
 #include "stellcircle.h"
@@ -7,9 +7,9 @@ PLAIN(gcc_)
 PLAIN(clang_)
 
 enum { MOST = 1024, CALLS = 20 };
-static uint8_t devices[16 * MOST], body[4 + 44 * MOST], out[4 + 44 * MOST];
+static uint8_t devices[16 * MOST], body[4 + 44 * MOST], rdma_body[4 + 48 * MOST], out[4 + 48 * MOST];
 static uint64_t offsets[MOST], lengths[MOST], storages[MOST];
-static uint32_t states[MOST];
+static uint32_t handles[MOST], states[MOST];
 static size_t n;
 
 /* A body of so many extents, one after the other, of any states. */
@@ -23,8 +23,10 @@ static void fill(void)
         lengths[i] = 4096;
         storages[i] = 1 << 20;
         states[i] = (uint32_t)i * 2654435761u >> 30;
+        handles[i] = (uint32_t)i * 40503u;
     }
-    if (sc_layout_write(devices, 16 * n, offsets, n, lengths, n, storages, n, states, n, body, 4 + 44 * n, &place) != 0)
+    if (sc_layout_write(devices, 16 * n, offsets, n, lengths, n, storages, n, states, n, body, 4 + 44 * n, &place) != 0 ||
+        sc_rdma_layout_write(devices, 16 * n, offsets, n, handles, n, lengths, n, storages, n, states, n, rdma_body, 4 + 48 * n, &place) != 0)
         exit(1);
 }
 
@@ -47,6 +49,18 @@ static void fill(void)
         uint64_t place; \
         for (int i = 0; i < CALLS; i++) \
             bench_sum[FORM] += P##layout_write(devices, 16 * n, offsets, n, lengths, n, storages, n, states, n, out, 4 + 44 * n, &place) + place; \
+    } \
+    static void P##rdma_check(void) \
+    { \
+        uint64_t place; \
+        for (int i = 0; i < CALLS; i++) \
+            bench_sum[FORM] += P##rdma_layout_check(rdma_body, 4 + 48 * n, &place) + place; \
+    } \
+    static void P##rdma_write(void) \
+    { \
+        uint64_t place; \
+        for (int i = 0; i < CALLS; i++) \
+            bench_sum[FORM] += P##rdma_layout_write(devices, 16 * n, offsets, n, handles, n, lengths, n, storages, n, states, n, out, 4 + 48 * n, &place) + place; \
     }
 JOBS(sc_, 0)
 JOBS(gcc_, 1)
@@ -55,7 +69,14 @@ JOBS(clang_, 2)
 #define SIZE(N) \
     {"layout check, " #N " extents", CALLS, 0, N, {fill, fill, fill}, BENCH_FORMS(check)}, \
     {"layout write, " #N " extents", CALLS, 0, N, {fill, fill, fill}, BENCH_FORMS(write)}
-static const struct bench_job jobs[] = {SIZE(256), SIZE(512), SIZE(1024), {"layout extent, by its place", 1024, 0, 1024, {fill, fill, fill}, BENCH_FORMS(extents)}};
+static const struct bench_job jobs[] = {
+    SIZE(256),
+    SIZE(512),
+    SIZE(1024),
+    {"layout extent, by its place", 1024, 0, 1024, {fill, fill, fill}, BENCH_FORMS(extents)},
+    {"RDMA layout check, 1024 extents", CALLS, 1.2, 1024, {fill, fill, fill}, BENCH_FORMS(rdma_check)},
+    {"RDMA layout write, 1024 extents", CALLS, 1.2, 1024, {fill, fill, fill}, BENCH_FORMS(rdma_write)},
+};
 
 int main(int argc, char **argv)
 {

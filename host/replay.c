@@ -20,7 +20,8 @@ enum {
     MAX_REQUEST = 16384, /* bytes of a LAYOUTRETURN request or a mirror list */
     MAX_BODY = 65536,    /* bytes of a layout body */
     MAX_ROOM = 65536,    /* places of a lent reply or list */
-    MAX_LINE = 262144,   /* bytes of a line, the newline not counted */
+    MAX_LIST = 196608,   /* bytes of extents to write */
+    MAX_LINE = 524288,   /* bytes of a line, the newline not counted */
     MAX_WORDS = 5,
     GUARD = 64, /* bytes before and after each lent buffer; a multiple of every alignment */
     REPLY_REFUSED = 4,
@@ -265,6 +266,7 @@ typedef uint32_t on_file(struct sc_record *, uint64_t);
 typedef uint32_t on_client(struct sc_record *, uint64_t, uint64_t);
 typedef uint32_t listing(const struct sc_record *, uint64_t *, size_t, uint8_t *, size_t, uint64_t *);
 typedef uint32_t on_node(struct sc_epochs *, uint32_t);
+struct kind;
 
 struct command {
     const char *name;
@@ -276,6 +278,7 @@ struct command {
         on_client *client;
         listing *list;
         on_node *node;
+        const struct kind *kind;
     } call;
 };
 
@@ -491,40 +494,155 @@ static bool run_listing(const struct command *c, const struct word *argument)
     return true;
 }
 
-/* Prints the extent at place i of a body that was accepted with n, as the library hands it out. */
-static void print_extent(struct lent body, uint64_t n, uint64_t i)
-{
+/* An extent as the library hands it out; the handle is 0 in a SCSI body. */
+struct extent {
     uint64_t device, offset, length, storage;
-    uint32_t state;
-    if (sc_layout_extent(bytes_of(body), body.len, n, i, &device, &offset, &length, &storage, &state) != 0)
-        broken("a place below the count of a layout body gives no extent");
-    printf(" %" PRIu64 ":%" PRIu64 ":%" PRIu64 ":%" PRIu32, offset, length, storage, state);
+    uint32_t handle, state;
+};
+
+/* A list of extents, lent as columns. */
+struct columns {
+    struct lent devices, offsets, handles, lengths, storages, states;
+    size_t n;
+};
+
+/* What the two kinds of body have of their own. */
+struct kind {
+    size_t extent_size;
+    bool has_handles;
+    uint32_t (*check)(const uint8_t *, size_t, uint64_t *);
+    uint32_t (*extent)(const uint8_t *, size_t, uint64_t, uint64_t, struct extent *);
+    uint32_t (*write)(const struct columns *, struct lent, uint64_t *);
+};
+
+static uint32_t scsi_extent(const uint8_t *body, size_t len, uint64_t n, uint64_t i, struct extent *e)
+{
+    e->handle = 0;
+    return sc_layout_extent(body, len, n, i, &e->device, &e->offset, &e->length, &e->storage, &e->state);
 }
 
-static void print_body(struct lent body, uint64_t n)
+static uint32_t rdma_extent(const uint8_t *body, size_t len, uint64_t n, uint64_t i, struct extent *e)
+{
+    return sc_rdma_layout_extent(body, len, n, i, &e->device, &e->offset, &e->handle, &e->length, &e->storage, &e->state);
+}
+
+static uint64_t *numbers_of(struct lent column)
+{
+    return (uint64_t *)(void *)bytes_of(column);
+}
+
+static uint32_t *small_numbers_of(struct lent column)
+{
+    return (uint32_t *)(void *)bytes_of(column);
+}
+
+static uint32_t scsi_write(const struct columns *c, struct lent out, uint64_t *place)
+{
+    return sc_layout_write(bytes_of(c->devices), c->devices.len, numbers_of(c->offsets), c->n, numbers_of(c->lengths), c->n, numbers_of(c->storages), c->n,
+                           small_numbers_of(c->states), c->n, bytes_of(out), out.len, place);
+}
+
+static uint32_t rdma_write(const struct columns *c, struct lent out, uint64_t *place)
+{
+    return sc_rdma_layout_write(bytes_of(c->devices), c->devices.len, numbers_of(c->offsets), c->n, small_numbers_of(c->handles), c->n,
+                                numbers_of(c->lengths), c->n, numbers_of(c->storages), c->n, small_numbers_of(c->states), c->n, bytes_of(out), out.len,
+                                place);
+}
+
+static const struct kind scsi = {44, false, sc_layout_check, scsi_extent, scsi_write};
+static const struct kind rdma = {48, true, sc_rdma_layout_check, rdma_extent, rdma_write};
+
+/* Prints the n extents of an accepted body, as the library hands them out. */
+static void print_body(const struct kind *k, struct lent body, uint64_t n)
 {
     printf("extents %" PRIu64, n);
-    for (uint64_t i = 0; i < n; i++)
-        print_extent(body, n, i);
+    for (uint64_t i = 0; i < n; i++) {
+        struct extent e;
+        if (k->extent(bytes_of(body), body.len, n, i, &e) != 0)
+            broken("a place below the count of a layout body gives no extent");
+        printf(" %" PRIu64 ":%" PRIu64 ":%" PRIu64 ":%" PRIu32, e.offset, e.length, e.storage, e.state);
+        if (k->has_handles)
+            printf(":%" PRIu32, e.handle);
+    }
     putchar('\n');
 }
 
 static bool run_layout(const struct command *c, const struct word *argument)
 {
-    (void)c;
     struct lent body;
     if (!read_bytes(argument[0], MAX_BODY, &body))
         return false;
     struct lent place = lend(sizeof(uint64_t));
-    uint32_t answer = sc_layout_check(bytes_of(body), body.len, (uint64_t *)(void *)bytes_of(place));
+    uint32_t answer = c->call.kind->check(bytes_of(body), body.len, (uint64_t *)(void *)bytes_of(place));
     check_lent(place, place.len, "bytes beside a layout check's place changed");
     check_held();
     if (answer == 0)
-        print_body(body, number_in(place));
+        print_body(c->call.kind, body, number_in(place));
     else
         printf("refused %" PRIu32 " at %" PRIu64 "\n", answer, number_in(place));
     take_back_bytes(argument[0], body, "bytes in or beside the layout body changed");
     give_back(place);
+    return true;
+}
+
+/* The columns of extents that stand one after the other, read by the library as if a count stood before them. */
+static struct columns columns_of(const struct kind *k, struct lent extents)
+{
+    size_t n = extents.len / k->extent_size;
+    struct columns c = {lend(16 * n), lend(8 * n), lend(4 * n), lend(8 * n), lend(8 * n), lend(4 * n), n};
+    struct lent body = lend(4 + extents.len);
+    memcpy(bytes_of(body) + 4, bytes_of(extents), extents.len);
+    for (size_t i = 0; i < n; i++) {
+        struct extent e;
+        if (k->extent(bytes_of(body), body.len, n, i, &e) != 0)
+            broken("an extent that is there is not given");
+        memcpy(bytes_of(c.devices) + 16 * i, bytes_of(body) + e.device, 16);
+        numbers_of(c.offsets)[i] = e.offset;
+        small_numbers_of(c.handles)[i] = e.handle;
+        numbers_of(c.lengths)[i] = e.length;
+        numbers_of(c.storages)[i] = e.storage;
+        small_numbers_of(c.states)[i] = e.state;
+    }
+    give_back(body);
+    return c;
+}
+
+static void give_back_columns(const struct columns *c)
+{
+    const struct lent all[] = {c->devices, c->offsets, c->handles, c->lengths, c->storages, c->states};
+    for (size_t i = 0; i < sizeof all / sizeof all[0]; i++) {
+        check_lent(all[i], all[i].len, "bytes beside a column changed");
+        give_back(all[i]);
+    }
+}
+
+static bool run_write(const struct command *c, const struct word *argument)
+{
+    const struct kind *k = c->call.kind;
+    uint64_t room, place;
+    struct lent extents;
+    if (!read_number(argument[0], MAX_ROOM, &room) || !read_bytes(argument[1], MAX_LIST, &extents))
+        return false;
+    if (extents.len % k->extent_size != 0) {
+        give_back(extents);
+        return false;
+    }
+    struct columns list = columns_of(k, extents);
+    struct lent out = lend((size_t)room);
+    uint32_t answer = k->write(&list, out, &place);
+    size_t written = answer == 0 ? 4 + k->extent_size * list.n : 0;
+    check_lent(out, written, "bytes past the written body changed");
+    check_held();
+    if (answer == 0) {
+        printf("0 ");
+        print_hex(bytes_of(out), written);
+        putchar('\n');
+    } else {
+        printf("refused %" PRIu32 " at %" PRIu64 "\n", answer, place);
+    }
+    give_back_columns(&list);
+    give_back(out);
+    give_back(extents);
     return true;
 }
 
@@ -611,7 +729,10 @@ static const struct command commands[] = {
     {"totals", 0, run_totals, {NULL}},
     {"resilver", 2, run_listing, {.list = sc_record_resilver}},
     {"offered", 2, run_listing, {.list = sc_record_offered}},
-    {"layout", 1, run_layout, {NULL}},
+    {"layout", 1, run_layout, {.kind = &scsi}},
+    {"rdma", 1, run_layout, {.kind = &rdma}},
+    {"write", 2, run_write, {.kind = &scsi}},
+    {"rdmawrite", 2, run_write, {.kind = &rdma}},
     {"join", 1, run_on_node, {.node = sc_epochs_join}},
     {"leave", 1, run_on_node, {.node = sc_epochs_leave}},
     {"start", 1, run_on_node, {.node = sc_epochs_start}},

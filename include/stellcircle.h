@@ -53,11 +53,13 @@ extern "C" {
 #define SC_BADIOMODE UINT32_C(10049)          /* an iomode outside 1 to 3 */
 #define SC_UNKNOWN_LAYOUTTYPE UINT32_C(10062) /* a layout type that is not 4 */
 
-/* ---- layout bodies (RFC 8154) ----
+/* ---- layout bodies of SCSI layouts (RFC 8154), sc_layout_*, and of RDMA layouts (draft-hellwig-nfsv4-rdma-layout), sc_rdma_layout_* ----
  *
- * A body is a 4-byte count n and n extents of 44 bytes: device id (16), file offset (8), length (8), storage offset (8), state (4), big-endian.
+ * A SCSI body is a 4-byte count n and n extents of 44 bytes: device id (16), file offset (8), length (8), storage offset (8), state (4), big-endian.
+ * An RDMA body has extents of 48 bytes: after the file offset stands a handle (4), which is kept and not judged. Nothing in the bytes tells the kinds apart:
+ * a body is read as the kind whose function is called, and the functions of the two kinds take different arguments wherever the handle is one.
  * States: 0 read-write, 1 read, 2 invalid, 3 none. A refusal is the number of the first rule that a body breaks:
- *   1  fewer than 4 bytes, or the length is not 4 + 44n     5  an end above 2^64 - 1
+ *   1  fewer than 4 bytes, or not 4 + 44n (RDMA: 4 + 48n)   5  an end above 2^64 - 1
  *   2  n above 1,024                                         6  out of order
  *   3  a state above 3                                       7  an overlap with an earlier extent
  *   4  length 0                                              8  (writing) the buffer is too short
@@ -79,6 +81,15 @@ uint32_t sc_layout_extent(const uint8_t *body, size_t body_len, uint64_t n, uint
 uint32_t sc_layout_write(const uint8_t *devices, size_t devices_len, const uint64_t *offsets, size_t offsets_len,
                          const uint64_t *lengths, size_t lengths_len, const uint64_t *storages, size_t storages_len,
                          const uint32_t *states, size_t states_len, uint8_t *out, size_t out_len, uint64_t *place);
+
+/* The same for RDMA bodies, of 4 + 48n bytes: each with the handle, after the offset. */
+uint32_t sc_rdma_layout_check(const uint8_t *body, size_t body_len, uint64_t *place);
+uint32_t sc_rdma_layout_extent(const uint8_t *body, size_t body_len, uint64_t n, uint64_t i, uint64_t *device, uint64_t *offset, uint32_t *handle,
+                               uint64_t *length, uint64_t *storage, uint32_t *state);
+uint32_t sc_rdma_layout_write(const uint8_t *devices, size_t devices_len, const uint64_t *offsets, size_t offsets_len,
+                              const uint32_t *handles, size_t handles_len, const uint64_t *lengths, size_t lengths_len,
+                              const uint64_t *storages, size_t storages_len, const uint32_t *states, size_t states_len,
+                              uint8_t *out, size_t out_len, uint64_t *place);
 
 /* ---- LAYOUTRETURN requests (RFC 8881) and their bodies, error and statistics records (RFC 8435) ----
  *

@@ -1,11 +1,11 @@
 #!/bin/sh
-# build.sh: proves the libraries and the program list_layout, and makes build/libstellcircle.a, which has a member for each library, and build/list_layout.
+# build.sh: proves the libraries and the programs, and makes build/libstellcircle.a, which has a member for each library, and build/list_layout and build/list_rdma_layout.
 # Says which crates it is at and how many are left. What the prover says goes to target/build.log, and is shown where it fails.
 # What was made from the same sources before is not proved again, also where target/ is gone since.
 set -u
 cd "$(dirname "$0")/.." || exit 1
 libraries='wire epochs capi'
-programs='list_layout'
+programs='list_layout list_rdma_layout'
 mkdir -p build target
 : > target/build.log
 

@@ -27,6 +27,9 @@ ANSWERS = {
     "resilver": "0 28 source:0 source:1 source:2 source:3 source:255",
     "offered": "0 28 source:0 source:1 source:2 source:3 source:255",
     "layout": "extents refused:1 refused:2 refused:3 refused:4 refused:5 refused:6 refused:7",
+    "rdma": "extents refused:1 refused:2 refused:3 refused:4 refused:5 refused:6 refused:7",
+    "write": "0 refused:2 refused:3 refused:4 refused:5 refused:6 refused:7 refused:8",
+    "rdmawrite": "0 refused:2 refused:3 refused:4 refused:5 refused:6 refused:7 refused:8",
     "join": "0 17 22",
     "leave": "0 2 10013 22",
     "start": "0 2 22",
@@ -55,7 +58,7 @@ def keys(command, words):
         numbers = b" ".join(words).replace(b":", b" ").split()
         kinds = {"zeros": set(numbers) == {b"0"}, "bytes": set(numbers) != {b"0"}, "full": b"18446744073709551615" in numbers, "flagged": b"18446744073709551615!" in numbers}
         return [(command, kind) for kind, seen in kinds.items() if seen]
-    if command in ("layout", "request") and words[0] == b"refused":
+    if words[0] == b"refused":
         return [(command, "refused:" + words[1].decode())]
     sources = [("source:" + word.split(b":")[1].decode()) for word in words[2:]] if command in ("resilver", "offered") else []
     return [(command, key) for key in [words[0].decode()] + sources]
@@ -65,7 +68,7 @@ def calls_of(script):
     """The words of each line that prints one; a line past the limit prints one whatever it holds."""
     for line in script:
         words = words_of(line.rstrip(b"\n")[:64])
-        if len(line.rstrip(b"\n")) > 262144:
+        if len(line.rstrip(b"\n")) > 524288:
             yield b"too long"
         elif words and not words[0].startswith(b"#"):
             yield b" ".join(words) if words[0] == b"fresh" else words[0]

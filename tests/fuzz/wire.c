@@ -63,29 +63,39 @@ static uint8_t *lend_input(const uint8_t *bytes, size_t len, bool end)
 
 /* ---- Layout bodies ---- */
 
-/* The extent at a place, of any bytes and for any count. */
+/* The extent at a place, of any bytes and for any count, of each kind. */
 static void extent(const uint8_t *body, size_t len, uint64_t n, uint64_t i)
 {
     uint64_t a[2][4];
-    uint32_t state[2];
+    uint32_t state[2], handle[2];
     uint32_t number = sc_layout_extent(body, len, n, i, &a[0][0], &a[0][1], &a[0][2], &a[0][3], &state[0]);
     same("extent number", number, plain_layout_extent(body, len, n, i, &a[1][0], &a[1][1], &a[1][2], &a[1][3], &state[1]));
-    for (int k = 0; k < 4; k++)
-        same("extent", a[0][k], a[1][k]);
-    same("extent state", state[0], state[1]);
+    same("extent", memcmp(a[0], a[1], sizeof a[0]) == 0 && state[0] == state[1], true);
+    number = sc_rdma_layout_extent(body, len, n, i, &a[0][0], &a[0][1], &handle[0], &a[0][2], &a[0][3], &state[0]);
+    same("RDMA extent number", number, plain_rdma_layout_extent(body, len, n, i, &a[1][0], &a[1][1], &handle[1], &a[1][2], &a[1][3], &state[1]));
+    same("RDMA extent", memcmp(a[0], a[1], sizeof a[0]) == 0 && state[0] == state[1] && handle[0] == handle[1], true);
 }
 
-static void layout(const uint8_t *bytes, size_t len, bool end)
+/* The check of a kind, beside plain C, and extents of the body. */
+typedef uint32_t check_body(const uint8_t *, size_t, uint64_t *);
+
+static void checked(check_body *check, check_body *plain, const uint8_t *bytes, size_t len, bool end)
 {
     uint64_t place = UINT64_MAX, wanted_place;
-    uint32_t wanted = plain_layout_check(bytes, len, &wanted_place);
+    uint32_t wanted = plain(bytes, len, &wanted_place);
     uint8_t *body = lend_input(bytes, len, end);
-    uint32_t number = sc_layout_check(body, len, &place);
+    uint32_t number = check(body, len, &place);
     same("layout number", number, wanted);
     same("layout place", place, wanted_place);
     for (uint64_t i = 0; i < 3; i++)
         extent(body, len, place, number == 0 ? i * (place / 2) : i);
     same("layout body kept", memcmp(body, bytes, len) == 0, true);
+}
+
+static void layout(const uint8_t *bytes, size_t len, bool end)
+{
+    checked(sc_layout_check, plain_layout_check, bytes, len, end);
+    checked(sc_rdma_layout_check, plain_rdma_layout_check, bytes, len, end);
 }
 
 /* ---- Reports ---- */

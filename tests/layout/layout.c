@@ -1,6 +1,6 @@
 /* The layout check, the extents by place and the layout writer through the C exports, and the check and the writer in plain C.
  * Usage: layout FILE: each line of FILE is a body in hex, its refusal (0 accepted) and the place (or how many extents).
- * Every accepted body is also read place by place, written back from its extents, into a buffer with guard bytes, and refused without its last byte. */
+ * Every accepted body is also turned into an RDMA body, which goes the same way, read place by place, written back from its extents, into a buffer with guard bytes, and refused without its last byte. */
 #include "plain.h"
 #include "stellcircle.h"
 #include <stdio.h>
@@ -107,6 +107,40 @@ static void write_back(const uint8_t *body, size_t len, size_t n, size_t room, u
     written++;
 }
 
+/* The same body with a handle in each extent, as an RDMA body: checked, read place by place, written back and compared; and each kind's body is not the other's. */
+static void as_rdma(const uint8_t *body, size_t n, unsigned long line)
+{
+    static uint8_t rdma[MOST], out[MOST], devices[16 * 1024];
+    static uint64_t offsets[1024], lengths[1024], storages[1024];
+    static uint32_t states[1024], handles[1024];
+    size_t len = 4 + 48 * n;
+    uint64_t place = 77, device;
+    memcpy(rdma, body, 4);
+    for (size_t i = 0; i < n; i++) {
+        uint8_t *to = rdma + 4 + 48 * i;
+        memcpy(to, body + 4 + 44 * i, 24);
+        for (int k = 0; k < 4; k++)
+            to[24 + k] = (uint8_t)(i * 37 + (size_t)k * 91 + 5);
+        memcpy(to + 28, body + 28 + 44 * i, 20);
+    }
+    expect(sc_rdma_layout_check(rdma, len, &place) == 0 && place == n, line, "an RDMA body is not accepted");
+    expect(plain_rdma_layout_check(rdma, len, &place) == 0 && place == n, line, "plain C does not accept an RDMA body");
+    for (size_t i = 0; i < n; i++) {
+        const uint8_t *e = rdma + 4 + 48 * i;
+        uint32_t rule = sc_rdma_layout_extent(rdma, len, n, i, &device, offsets + i, handles + i, lengths + i, storages + i, states + i);
+        expect(rule == 0 && rdma + device == e && handles[i] == number(e + 24, 4) && lengths[i] == number(e + 28, 8), line, "an RDMA extent is another");
+        memcpy(devices + 16 * i, e, 16);
+    }
+    expect(sc_rdma_layout_write(devices, 16 * n, offsets, n, handles, n, lengths, n, storages, n, states, n, out, len, &place) == 0 && place == n, line, "an RDMA list is not written");
+    expect(memcmp(out, rdma, len) == 0, line, "an RDMA body is not written back");
+    if (n > 0) {
+        expect(sc_rdma_layout_write(devices, 16 * n, offsets, n, handles, n - 1, lengths, n, storages, n, states, n, out, len, &place) == 1, line, "a handle too few is not refused by 1");
+        expect(sc_rdma_layout_write(devices, 16 * n, offsets, n, handles, n, lengths, n, storages, n, states, n, out, len - 1, &place) == 8, line, "a short buffer is not refused by 8");
+        expect(sc_rdma_layout_check(body, 4 + 44 * n, &place) == 1, line, "a SCSI body passes as an RDMA body");
+        expect(sc_layout_check(rdma, len, &place) == 1, line, "an RDMA body passes as a SCSI body");
+    }
+}
+
 static void check(const uint8_t *body, size_t len, uint32_t rule, uint64_t place, unsigned long line)
 {
     uint64_t at = 77, plain_at = 77;
@@ -117,6 +151,7 @@ static void check(const uint8_t *body, size_t len, uint32_t rule, uint64_t place
     if (rule == 0) {
         accepted++;
         read_places(body, len, place, line);
+        as_rdma(body, (size_t)place, line);
         write_back(body, len, (size_t)place, len + 100, line);
         write_back(body, len, (size_t)place, len, line);
         write_back(body, len, (size_t)place, len - 1, line);

@@ -1,5 +1,5 @@
 #!/usr/bin/env python3
-"""run.py PROGRAM CASES FAULTS: holds list_layout to what it must print: on the stored bodies and on long inputs, in one piece and in chunks; and where a read or
+"""run.py PROGRAM CASES FAULTS: holds list_layout, or list_rdma_layout, to what it must print: on the stored bodies and on long inputs, in one piece and in chunks; and where a read or
 a write is interrupted, is short or fails. FAULTS is the shared object of faults.c. In this order: a run; bodies; long inputs; calls that are made again; faults."""
 import os
 import subprocess
@@ -7,6 +7,8 @@ import sys
 import time
 
 program, cases, faults = sys.argv[1:4]
+NAME = os.path.basename(program)
+RDMA = NAME == 'list_rdma_layout'
 failed = ran = 0
 
 
@@ -39,14 +41,16 @@ def prints(name, data, want, chunk=None, fault=None):
 
 def fails(name, data, after, what, out='', fault=None, **files):
     """Nothing, or nothing more, on standard output, and one line on standard error."""
-    hold(name, run(data, fault=fault, **files), (out, 'list_layout: after %d bytes: %s\n' % (after, what), 0))
+    hold(name, run(data, fault=fault, **files), (out, '%s: after %d bytes: %s\n' % (NAME, after, what), 0))
 
 
 def extents(n):
     number = lambda x, w: x.to_bytes(w, 'big')
-    rows = [(2 ** 63 + 10 * i, 10, 2 ** 62 + i, i % 4) for i in range(n)]
-    body = number(n, 4) + b''.join(bytes(16) + number(o, 8) + number(l, 8) + number(s, 8) + number(t, 4) for o, l, s, t in rows)
-    return body, 'extents %d\n' % n + ''.join('%d %d %d %d\n' % r for r in rows)
+    rows = [(2 ** 63 + 10 * i, 10, 2 ** 62 + i, i % 4, 2 ** 32 - 1 - i) for i in range(n)]
+    handle = lambda h: number(h, 4) if RDMA else b''
+    body = number(n, 4) + b''.join(bytes(16) + number(o, 8) + handle(h) + number(l, 8) + number(s, 8) + number(t, 4) for o, l, s, t, h in rows)
+    columns = 5 if RDMA else 4
+    return body, 'extents %d\n' % n + ''.join(' '.join(str(x) for x in r[:columns]) + '\n' for r in rows)
 
 
 # ---- bodies
@@ -92,5 +96,5 @@ with open('/dev/full', 'wb') as full:
     fails('a full disk as output', body, 0, WRITING + ': No space left on device', stdout=full)
 for after in (1, 11, 1000):
     fails('an output that fails after %d bytes' % after, body, after, WRITING + ': No space left on device', out=text[:after], fault='interrupt short write-after=%d' % after)
-print('list_layout: %d runs: %s' % (ran, '%d FAILED' % failed if failed else 'as they must be'))
+print(NAME + ': %d runs: %s' % (ran, '%d FAILED' % failed if failed else 'as they must be'))
 sys.exit(1 if failed or not ran else 0)

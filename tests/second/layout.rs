@@ -1,8 +1,17 @@
-//! Layout bodies (01, "Layout bodies"): reading a body, and the seven refusals that a reader gives.
+//! Layout bodies (01, "Layout bodies"; 02, Ticket 5): reading and writing a body of either kind, and the refusals.
 
-/// One extent of a body. The device id plays no part in any rule and is not kept.
+/// The kinds of body (02, Ticket 5): in an RDMA body a handle of four bytes stands after the file offset.
+#[derive(Clone, Copy, PartialEq)]
+pub enum Kind {
+    Scsi,
+    Rdma,
+}
+
+/// One extent of a body; the handle of a SCSI one is 0. Neither the device id nor the handle plays a part in any rule.
 pub struct Extent {
+    pub device: u128,
     pub offset: u64,
+    pub handle: u32,
     pub length: u64,
     pub storage: u64,
     pub state: u32,
@@ -21,32 +30,72 @@ fn next_number(bytes: &mut impl Iterator<Item = u8>, width: usize) -> Option<u12
     (0..width).try_fold(0, |value, _| Some(value * 256 + u128::from(bytes.next()?)))
 }
 
-fn next_extent(bytes: &mut impl Iterator<Item = u8>) -> Option<Extent> {
-    let _device = next_number(bytes, 16)?;
+fn next_extent(kind: Kind, bytes: &mut impl Iterator<Item = u8>) -> Option<Extent> {
+    let device = next_number(bytes, 16)?;
     let offset = next_number(bytes, 8)?.try_into().ok()?;
+    let handle = if kind == Kind::Rdma { next_number(bytes, 4)?.try_into().ok()? } else { 0 };
     let length = next_number(bytes, 8)?.try_into().ok()?;
     let storage = next_number(bytes, 8)?.try_into().ok()?;
     let state = next_number(bytes, 4)?.try_into().ok()?;
-    Some(Extent { offset, length, storage, state })
+    Some(Extent { device, offset, handle, length, storage, state })
+}
+
+/// The extents that the bytes hold one after the other, with none left over.
+pub fn list(kind: Kind, bytes: &[u8]) -> Option<Vec<Extent>> {
+    let mut left = bytes.iter().copied().peekable();
+    let mut extents = Vec::new();
+    while left.peek().is_some() {
+        extents.push(next_extent(kind, &mut left)?);
+    }
+    Some(extents)
 }
 
 /// The extents of a body, or its first refusal in the paper's order.
-pub fn read(body: &[u8]) -> Result<Vec<Extent>, Refusal> {
+pub fn read(kind: Kind, body: &[u8]) -> Result<Vec<Extent>, Refusal> {
     let mut bytes = body.iter().copied();
     let n = next_number(&mut bytes, 4).ok_or((1, 0))?;
     if n > MOST_EXTENTS {
         return Err((2, 0));
     }
-    let extents: Vec<Extent> = (0..n).map(|_| next_extent(&mut bytes)).collect::<Option<_>>().ok_or((1, 0))?;
+    let extents: Vec<Extent> = (0..n).map(|_| next_extent(kind, &mut bytes)).collect::<Option<_>>().ok_or((1, 0))?;
     if bytes.next().is_some() {
         return Err((1, 0));
     }
+    judge_all(&extents)?;
+    Ok(extents)
+}
+
+/// The body of a list, if `room` bytes have room for it, or the list's first refusal.
+pub fn write(kind: Kind, room: usize, extents: &[Extent]) -> Result<Vec<u8>, Refusal> {
+    if extents.len() as u128 > MOST_EXTENTS {
+        return Err((2, 0));
+    }
+    judge_all(extents)?;
+    let mut body = (extents.len() as u32).to_be_bytes().to_vec();
+    for e in extents {
+        body.extend(e.device.to_be_bytes());
+        body.extend(e.offset.to_be_bytes());
+        if kind == Kind::Rdma {
+            body.extend(e.handle.to_be_bytes());
+        }
+        body.extend(e.length.to_be_bytes());
+        body.extend(e.storage.to_be_bytes());
+        body.extend(e.state.to_be_bytes());
+    }
+    if body.len() > room {
+        return Err((8, 0));
+    }
+    Ok(body)
+}
+
+/// Extent by extent, from the first.
+fn judge_all(extents: &[Extent]) -> Result<(), Refusal> {
     for place in 0..extents.len() {
         if let Some(number) = judge(&extents[..place], &extents[place]) {
             return Err((number, place));
         }
     }
-    Ok(extents)
+    Ok(())
 }
 
 /// Rules 3 to 7 for one extent, with all that stand before it.

@@ -11,10 +11,11 @@ mod words;
 mod examples;
 
 use epochs::Epochs;
+use layout::{list, Extent, Kind};
 use layoutreturn::Other;
 use ledger::{Edition, Ledger, Totals};
 use std::io::{self, BufRead, Write};
-use words::{bytes, node, number, room, split, MAX_BODY, MAX_LINE, MAX_REQUEST};
+use words::{bytes, node, number, room, split, MAX_BODY, MAX_LINE, MAX_LIST, MAX_REQUEST};
 
 /// A refusal with its number, where it applies.
 pub fn refuse_if(refused: bool, number: u32) -> Result<(), u32> {
@@ -63,7 +64,10 @@ impl Desk {
             ("totals", []) => Some(summed(&self.totals)),
             ("resilver", [f, s]) => Some(listed(self.ledger.resilver(), room(f)?, room(s)?)),
             ("offered", [f, s]) => Some(listed(self.ledger.offered(), room(f)?, room(s)?)),
-            ("layout", [b]) => Some(laid_out(&bytes(b, MAX_BODY)?)),
+            ("layout", [b]) => Some(laid_out(Kind::Scsi, &bytes(b, MAX_BODY)?)),
+            ("rdma", [b]) => Some(laid_out(Kind::Rdma, &bytes(b, MAX_BODY)?)),
+            ("write", [r, e]) => Some(written(Kind::Scsi, room(r)?, &list(Kind::Scsi, &bytes(e, MAX_LIST)?)?)),
+            ("rdmawrite", [r, e]) => Some(written(Kind::Rdma, room(r)?, &list(Kind::Rdma, &bytes(e, MAX_LIST)?)?)),
             ("fresh", []) => {
                 *self = Desk::fresh(Edition::Current);
                 Some("0".to_string())
@@ -136,14 +140,23 @@ fn listed(list: Vec<(u64, u8)>, files: usize, sources: usize) -> String {
     format!("0 {}{entries}", list.len())
 }
 
-/// The line for a layout body.
-fn laid_out(body: &[u8]) -> String {
-    match layout::read(body) {
+/// The line for a layout body of this kind.
+fn laid_out(kind: Kind, body: &[u8]) -> String {
+    match layout::read(kind, body) {
         Err((number, place)) => format!("refused {number} at {place}"),
         Ok(extents) => {
-            let entries: String = extents.iter().map(|e| format!(" {}:{}:{}:{}", e.offset, e.length, e.storage, e.state)).collect();
+            let handle = |e: &Extent| if kind == Kind::Rdma { format!(":{}", e.handle) } else { String::new() };
+            let entries: String = extents.iter().map(|e| format!(" {}:{}:{}:{}{}", e.offset, e.length, e.storage, e.state, handle(e))).collect();
             format!("extents {}{entries}", extents.len())
         }
+    }
+}
+
+/// The line for a list that is written into so many bytes.
+fn written(kind: Kind, room: usize, extents: &[Extent]) -> String {
+    match layout::write(kind, room, extents) {
+        Err((number, place)) => format!("refused {number} at {place}"),
+        Ok(body) => format!("0 {}", body.iter().map(|b| format!("{b:02x}")).collect::<String>()),
     }
 }
 

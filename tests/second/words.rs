@@ -4,8 +4,10 @@
 pub const MAX_REQUEST: usize = 16_384;
 /// Bytes of a layout body.
 pub const MAX_BODY: usize = 65_536;
+/// Bytes of extents to write.
+pub const MAX_LIST: usize = 196_608;
 /// Bytes of a line, the newline not counted.
-pub const MAX_LINE: usize = 262_144;
+pub const MAX_LINE: usize = 524_288;
 /// Places of a lent reply or list.
 const MAX_ROOM: u64 = 65_536;
 

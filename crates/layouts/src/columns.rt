@@ -1,47 +1,77 @@
-// Writing a layout body (RFC 8154) from a list of extents that is lent as columns: 16 bytes a device id, and a number each for offset, length,
-// storage offset and state. Paper 01, "Layout bodies": uneven columns get 1 before all else; then rules 2 to 7, then 8.
+// Writing a layout body of either kind from a list of extents that is lent as columns: 16 bytes a device id, and a number each for offset, handle (in an
+// RDMA list only), length, storage offset and state. Paper 01, "Layout bodies", and Ticket 5: uneven columns get 1 before all else; then rules 2 to 7, then 8.
 // In this order: rule 1; rules 3 to 7; the stores of one extent, and of all; the writer.
 use crate::fields;
+use crate::kinds::Kind;
 use extents::Verdict;
 ghost use mathlib.Core.Path.{_≡_};
 ghost use mathlib.Core.List.{[]};
 ghost use Prim.Native.Nat.{_+_, _*_, _<_, _≤_};
 ghost use lib.ListN.{length};
 ghost use lib.Seq.{sets};
-ghost use Rattle.extents.specs.Extents.{verdict};
-ghost use Rattle.layouts.specs.Layout.{extentBytes, extentsBytes};
-ghost use Rattle.layouts.specs.Columns.{even, Even, rowOf, columnList, writeColumns, writtenBy};
+ghost use lib.Dec.{eqb};
+ghost use Rattle.extents.specs.Extents.{listFrom, verdict};
+ghost use Rattle.layouts.specs.Layout.{handleSize, bodySize, rowBytes, rowsBytes};
+ghost use Rattle.layouts.specs.Columns.{even, Even, handleCount, columnRow, columnList, Wrote};
 
-// Whether the columns hold the same whole number of extents.
-fn same_count(devs: &[u8], offs: &[u64], lens: &[u64], stos: &[u64], sts: &[u32]) -> bool
-    ensures { λ r. ⌜ r ≡ even (now (devs .entry)) (now (offs .entry)) (now (lens .entry)) (now (stos .entry)) (now (sts .entry)) ⌝ }
+// Whether there is a handle for each of n extents, or none in a SCSI list.
+fn handles_count(kind: Kind, handles: &[u32], n: usize) -> bool
+    ensures { λ r. ⌜ r ≡ eqb (length (now (handles .entry))) (handleCount kind n) ⌝ }
 {
-    let n = offs.len();
-    if lens.len() != n {
-        return false;
+    match kind {
+        Kind::Scsi => handles.len() == 0,
+        Kind::Rdma => handles.len() == n,
     }
-    if stos.len() != n {
-        return false;
-    }
-    if sts.len() != n {
-        return false;
-    }
-    devs.len() == 16 * n
 }
 
-// Rules 3 to 7 on the list, in one pass.
-fn scan(devs: &[u8], offs: &[u64], lens: &[u64], stos: &[u64], sts: &[u32]) -> Verdict
-    requires { ⌜ Even (now devs) (now offs) (now lens) (now stos) (now sts) ⌝ }
-    ensures { λ r. ⌜ r ≡ verdict [] 0 (columnList (now (devs .entry)) (now (offs .entry)) (now (lens .entry)) (now (stos .entry)) (now (sts .entry))) ⌝ }
+// Whether the columns hold the same whole number of extents.
+fn same_count(
+    kind: Kind,
+    devices: &[u8],
+    offsets: &[u64],
+    handles: &[u32],
+    lengths: &[u64],
+    storages: &[u64],
+    states: &[u32],
+) -> bool
+    ensures { λ r. ⌜ r ≡ even kind (record { devices = now (devices .entry); offsets = now (offsets .entry); handles = now (handles .entry); lengths = now (lengths .entry); storages = now (storages .entry); states = now (states .entry) }) ⌝ }
 {
-    let n = offs.len();
+    let n = offsets.len();
+    if lengths.len() != n {
+        return false;
+    }
+    if storages.len() != n {
+        return false;
+    }
+    if states.len() != n {
+        return false;
+    }
+    if !handles_count(kind, handles, n) {
+        return false;
+    }
+    devices.len() == 16 * n
+}
+
+// Rules 3 to 7 on the list, in one pass; they look at no device id and at no handle.
+fn scan(
+    devices: &[u8],
+    offsets: &[u64],
+    handles: &[u32],
+    lengths: &[u64],
+    storages: &[u64],
+    states: &[u32],
+) -> Verdict
+    requires { ⌜ (length (now lengths) ≡ length (now offsets)) × (length (now storages) ≡ length (now offsets)) × (length (now states) ≡ length (now offsets)) ⌝ }
+    ensures { λ r. ⌜ r ≡ verdict [] 0 (listFrom (λ i. columnRow (record { devices = now (devices .entry); offsets = now (offsets .entry); handles = now (handles .entry); lengths = now (lengths .entry); storages = now (storages .entry); states = now (states .entry) }) i .extent) (length (now (offsets .entry))) 0) ⌝ }
+{
+    let n = offsets.len();
     let mut passed = extents::start();
     let mut i = 0;
     while i < n {
-        let off = offs[i];
-        let len = lens[i];
-        let st = sts[i];
-        let k = extents::refuse(passed, off, len, stos[i], st);
+        let off = offsets[i];
+        let len = lengths[i];
+        let st = states[i];
+        let k = extents::refuse(passed, off, len, storages[i], st);
         if k != 0 {
             return Verdict::Refused(k, i);
         }
@@ -51,66 +81,115 @@ fn scan(devs: &[u8], offs: &[u64], lens: &[u64], stos: &[u64], sts: &[u32]) -> V
     Verdict::Accepted(n)
 }
 
-// Stores the extent of row i.
+// Stores the extent at place i; `h` is the size of a handle.
 fn put_row(
+    kind: Kind,
+    h: usize,
     d: &mut [u8],
     at: usize,
-    devs: &[u8],
-    offs: &[u64],
-    lens: &[u64],
-    stos: &[u64],
-    sts: &[u32],
+    devices: &[u8],
+    offsets: &[u64],
+    handles: &[u32],
+    lengths: &[u64],
+    storages: &[u64],
+    states: &[u32],
     i: usize,
 )
-    requires { ⌜ (at + 44 ≤ length (now d)) × (i < length (now offs)) ⌝ }
-    requires { ⌜ Even (now devs) (now offs) (now lens) (now stos) (now sts) ⌝ }
-    ensures { λ _. ⌜ now (d .exit) ≡ sets (now (d .entry)) at (extentBytes (rowOf (now (devs .entry)) (now (offs .entry)) (now (lens .entry)) (now (stos .entry)) (now (sts .entry)) i)) ⌝ }
+    requires { ⌜ (at + (44 + handleSize kind) ≤ length (now d)) × (i < length (now offsets)) ⌝ }
+    requires { ⌜ Even kind (record { devices = now devices; offsets = now offsets; handles = now handles; lengths = now lengths; storages = now storages; states = now states }) ⌝ }
+    requires { ⌜ h ≡ handleSize kind ⌝ }
+    ensures { λ _. ⌜ now (d .exit) ≡ sets (now (d .entry)) at (rowBytes kind (columnRow (record { devices = now (devices .entry); offsets = now (offsets .entry); handles = now (handles .entry); lengths = now (lengths .entry); storages = now (storages .entry); states = now (states .entry) }) i)) ⌝ }
 {
-    fields::put_device(d, at, devs, 16 * i);
-    fields::put_numbers(d, at + 16, offs, lens, stos, sts, i);
+    fields::put_device(d, at, devices, 16 * i);
+    fields::put_numbers(
+        kind,
+        h,
+        d,
+        at + 16,
+        offsets,
+        handles,
+        lengths,
+        storages,
+        states,
+        i,
+    );
 }
 
-// Stores the extents of all rows, after the count.
-fn fill(d: &mut [u8], devs: &[u8], offs: &[u64], lens: &[u64], stos: &[u64], sts: &[u32])
-    requires { ⌜ 4 + 44 * length (now offs) ≤ length (now d) ⌝ }
-    requires { ⌜ Even (now devs) (now offs) (now lens) (now stos) (now sts) ⌝ }
-    ensures { λ _. ⌜ now (d .exit) ≡ sets (now (d .entry)) 4 (extentsBytes (columnList (now (devs .entry)) (now (offs .entry)) (now (lens .entry)) (now (stos .entry)) (now (sts .entry)))) ⌝ }
+// Stores all extents, after the count.
+fn fill(
+    kind: Kind,
+    d: &mut [u8],
+    devices: &[u8],
+    offsets: &[u64],
+    handles: &[u32],
+    lengths: &[u64],
+    storages: &[u64],
+    states: &[u32],
+)
+    requires { ⌜ bodySize kind (length (now offsets)) ≤ length (now d) ⌝ }
+    requires { ⌜ Even kind (record { devices = now devices; offsets = now offsets; handles = now handles; lengths = now lengths; storages = now storages; states = now states }) ⌝ }
+    ensures { λ _. ⌜ now (d .exit) ≡ sets (now (d .entry)) 4 (rowsBytes kind (columnList (record { devices = now (devices .entry); offsets = now (offsets .entry); handles = now (handles .entry); lengths = now (lengths .entry); storages = now (storages .entry); states = now (states .entry) }))) ⌝ }
 {
-    let n = offs.len();
+    let n = offsets.len();
+    let h = fields::handle_size(kind);
     let mut i = 0;
+    let mut at = 4;
     while i < n {
-        put_row(d, 4 + 44 * i, devs, offs, lens, stos, sts, i);
+        put_row(
+            kind,
+            h,
+            d,
+            at,
+            devices,
+            offsets,
+            handles,
+            lengths,
+            storages,
+            states,
+            i,
+        );
         i += 1;
+        at += 44 + h;
     }
 }
 
-// Writes the list as a body at the start of `d`; the rest of `d` stays, and all of it where the list is refused.
+// Writes the list as a body of that kind at the start of `d`; the rest of `d` stays, and all of it where the list is refused.
 pub fn write(
-    devs: &[u8],
-    offs: &[u64],
-    lens: &[u64],
-    stos: &[u64],
-    sts: &[u32],
+    kind: Kind,
+    devices: &[u8],
+    offsets: &[u64],
+    handles: &[u32],
+    lengths: &[u64],
+    storages: &[u64],
+    states: &[u32],
     d: &mut [u8],
 ) -> Verdict
-    ensures answered { λ r. ⌜ r ≡ writeColumns (now (devs .entry)) (now (offs .entry)) (now (lens .entry)) (now (stos .entry)) (now (sts .entry)) (length (now (d .entry))) ⌝ }
-    ensures stored { λ r. ⌜ now (d .exit) ≡ writtenBy r (columnList (now (devs .entry)) (now (offs .entry)) (now (lens .entry)) (now (stos .entry)) (now (sts .entry))) (now (d .entry)) ⌝ }
+    ensures { λ r. ⌜ Wrote kind (record { devices = now (devices .entry); offsets = now (offsets .entry); handles = now (handles .entry); lengths = now (lengths .entry); storages = now (storages .entry); states = now (states .entry) }) (now (d .entry)) r (now (d .exit)) ⌝ }
 {
-    if !same_count(devs, offs, lens, stos, sts) {
+    if !same_count(kind, devices, offsets, handles, lengths, storages, states) {
         return Verdict::Refused(1, 0);
     }
-    let n = offs.len();
+    let n = offsets.len();
     if 1024 < n {
         return Verdict::Refused(2, 0);
     }
-    match scan(devs, offs, lens, stos, sts) {
+    match scan(devices, offsets, handles, lengths, storages, states) {
         Verdict::Refused(k, i) => Verdict::Refused(k, i),
         Verdict::Accepted(_) => {
-            if d.len() < 4 + 44 * n {
+            if d.len() < fields::body_size(kind, n) {
                 return Verdict::Refused(8, 0);
             }
             xdr::put32(d, 0, n as u32);
-            fill(d, devs, offs, lens, stos, sts);
+            fill(
+                kind,
+                d,
+                devices,
+                offsets,
+                handles,
+                lengths,
+                storages,
+                states,
+            );
             Verdict::Accepted(n)
         }
     }

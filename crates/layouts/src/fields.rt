@@ -1,13 +1,57 @@
-// Where the fields of an extent lie in its 44 bytes (RFC 8154): nothing else of this crate, and nobody above it, knows.
-// In this order: the numbers of an extent; its device id; the whole extent; the stores of both.
-use extents::Extent;
+// Where the fields of an extent lie in a body of each kind: nothing else of this crate, and nobody above it, knows.
+// In this order: sizes by kind; the numbers of an extent; its handle; its device id; the stores of all.
+use crate::kinds::Kind;
 ghost use mathlib.Core.Path.{_≡_};
-ghost use mathlib.Core.List.{_++_};
-ghost use Prim.Native.Nat.{_+_, _≤_, _<_};
+ghost use Prim.Native.Nat.{_+_, _^_, _≤_, _<_};
 ghost use lib.ListN.{length, take, drop, getD};
 ghost use lib.Seq.{sets};
 ghost use Rattle.xdr.specs.Be.{beBytes};
-ghost use Rattle.layouts.specs.Layout.{extentOf, numbersOf};
+ghost use Rattle.layouts.specs.Layout.{handleSize, bodySize, heldIn, rowOf, numbersOf, numbersBytes};
+ghost use Rattle.layouts.specs.Columns.{handleCount};
+
+// How many bytes a handle takes.
+pub fn handle_size(kind: Kind) -> usize
+    ensures { λ r. ⌜ r ≡ handleSize kind ⌝ }
+{
+    match kind {
+        Kind::Scsi => 0,
+        Kind::Rdma => 4,
+    }
+}
+
+// How many bytes an extent takes.
+pub fn extent_size(kind: Kind) -> usize
+    ensures { λ r. ⌜ r ≡ 44 + handleSize kind ⌝ }
+{
+    match kind {
+        Kind::Scsi => 44,
+        Kind::Rdma => 48,
+    }
+}
+
+// How many bytes the count and n extents take.
+pub fn body_size(kind: Kind, n: usize) -> usize
+    requires { ⌜ bodySize kind n < 2 ^ 64 ⌝ }
+    ensures { λ r. ⌜ r ≡ bodySize kind n ⌝ }
+{
+    match kind {
+        Kind::Scsi => 4 + 44 * n,
+        Kind::Rdma => 4 + 48 * n,
+    }
+}
+
+// How many whole extents have room after a body's count.
+pub fn held(kind: Kind, s: &[u8]) -> usize
+    ensures { λ r. ⌜ r ≡ heldIn kind (now (s .entry)) ⌝ }
+{
+    if s.len() < 4 {
+        return 0;
+    }
+    match kind {
+        Kind::Scsi => (s.len() - 4) / 44,
+        Kind::Rdma => (s.len() - 4) / 48,
+    }
+}
 
 // The numbers of an extent.
 pub struct Numbers {
@@ -18,19 +62,32 @@ pub struct Numbers {
 }
 
 // The numbers of the extent at `at`.
-pub fn numbers_at(s: &[u8], at: usize) -> Numbers
-    requires { ⌜ at + 44 ≤ length (now s) ⌝ }
-    ensures { λ r. ⌜ r ≡ numbersOf (extentOf (drop at (now (s .entry)))) ⌝ }
+pub fn numbers_at(kind: Kind, s: &[u8], at: usize) -> Numbers
+    requires { ⌜ at + (44 + handleSize kind) ≤ length (now s) ⌝ }
+    ensures { λ r. ⌜ r ≡ numbersOf (rowOf kind (drop at (now (s .entry))) .extent) ⌝ }
 {
+    let rest = at + handle_size(kind);
     Numbers {
         offset: xdr::be64(s, at + 16),
-        len: xdr::be64(s, at + 24),
-        storage: xdr::be64(s, at + 32),
-        state: xdr::be32(s, at + 40),
+        len: xdr::be64(s, rest + 24),
+        storage: xdr::be64(s, rest + 32),
+        state: xdr::be32(s, rest + 40),
     }
 }
 
-fn device(s: &[u8], at: usize) -> [u8; 16]
+// The handle of the extent at `at`; 0 in a SCSI body.
+pub fn handle_at(kind: Kind, s: &[u8], at: usize) -> u32
+    requires { ⌜ at + (44 + handleSize kind) ≤ length (now s) ⌝ }
+    ensures { λ r. ⌜ r ≡ rowOf kind (drop at (now (s .entry))) .handle ⌝ }
+{
+    match kind {
+        Kind::Scsi => 0,
+        Kind::Rdma => xdr::be32(s, at + 24),
+    }
+}
+
+// The device id of the extent at `at`.
+pub fn device_at(s: &[u8], at: usize) -> [u8; 16]
     requires { ⌜ at + 16 ≤ length (now s) ⌝ }
     ensures { λ r. ⌜ r ≡ take 16 (drop at (now (s .entry))) ⌝ }
 {
@@ -43,46 +100,48 @@ fn device(s: &[u8], at: usize) -> [u8; 16]
     d
 }
 
-// The extent at `at`.
-pub fn extent(s: &[u8], at: usize) -> Extent
-    requires { ⌜ at + 44 ≤ length (now s) ⌝ }
-    ensures { λ r. ⌜ r ≡ extentOf (drop at (now (s .entry))) ⌝ }
+// Stores a device id, as two numbers of 8 bytes.
+pub fn put_device(d: &mut [u8], at: usize, devices: &[u8], from: usize)
+    requires { ⌜ (at + 16 ≤ length (now d)) × (from + 16 ≤ length (now devices)) ⌝ }
+    ensures { λ _. ⌜ now (d .exit) ≡ sets (now (d .entry)) at (take 16 (drop from (now (devices .entry)))) ⌝ }
 {
-    let device = device(s, at);
-    let n = numbers_at(s, at);
-    Extent {
-        device,
-        offset: n.offset,
-        len: n.len,
-        storage: n.storage,
-        state: n.state,
+    xdr::copy8(d, at, devices, from);
+    xdr::copy8(d, at + 8, devices, from + 8);
+}
+
+fn put_handle(kind: Kind, d: &mut [u8], at: usize, handles: &[u32], i: usize)
+    requires { ⌜ (at + handleSize kind ≤ length (now d)) × (handleCount kind (i + 1) ≤ length (now handles)) ⌝ }
+    ensures { λ _. ⌜ now (d .exit) ≡ sets (now (d .entry)) at (beBytes (handleSize kind) (getD (now (handles .entry)) i 0)) ⌝ }
+{
+    match kind {
+        Kind::Scsi => {}
+        Kind::Rdma => xdr::put32(d, at, handles[i]),
     }
 }
 
-// Stores a device id, as two numbers of 8 bytes.
-pub fn put_device(d: &mut [u8], at: usize, devs: &[u8], from: usize)
-    requires { ⌜ (at + 16 ≤ length (now d)) × (from + 16 ≤ length (now devs)) ⌝ }
-    ensures { λ _. ⌜ now (d .exit) ≡ sets (now (d .entry)) at (take 16 (drop from (now (devs .entry)))) ⌝ }
-{
-    xdr::copy8(d, at, devs, from);
-    xdr::copy8(d, at + 8, devs, from + 8);
-}
-
-// Stores the four numbers of row i. Each is read right before its store: the compiler joins such stores, and not several in a row.
+// Stores the numbers of the extent at place i; `h` is the size of a handle, which a loop works out once. Each number is read right before its store: the
+// compiler joins such stores, and not several in a row.
 pub fn put_numbers(
+    kind: Kind,
+    h: usize,
     d: &mut [u8],
     at: usize,
-    offs: &[u64],
-    lens: &[u64],
-    stos: &[u64],
-    sts: &[u32],
+    offsets: &[u64],
+    handles: &[u32],
+    lengths: &[u64],
+    storages: &[u64],
+    states: &[u32],
     i: usize,
 )
-    requires { ⌜ (at + 28 ≤ length (now d)) × (i < length (now offs)) × (i < length (now lens)) × (i < length (now stos)) × (i < length (now sts)) ⌝ }
-    ensures { λ _. ⌜ now (d .exit) ≡ sets (now (d .entry)) at (beBytes 8 (getD (now (offs .entry)) i 0) ++ (beBytes 8 (getD (now (lens .entry)) i 0) ++ (beBytes 8 (getD (now (stos .entry)) i 0) ++ beBytes 4 (getD (now (sts .entry)) i 0)))) ⌝ }
+    requires { ⌜ (at + (28 + handleSize kind) ≤ length (now d)) × (handleCount kind (i + 1) ≤ length (now handles)) ⌝ }
+    requires { ⌜ (i < length (now offsets)) × (i < length (now lengths)) × (i < length (now storages)) × (i < length (now states)) ⌝ }
+    requires { ⌜ h ≡ handleSize kind ⌝ }
+    ensures { λ _. ⌜ now (d .exit) ≡ sets (now (d .entry)) at (numbersBytes kind (record { offset = getD (now (offsets .entry)) i 0; len = getD (now (lengths .entry)) i 0; storage = getD (now (storages .entry)) i 0; state = getD (now (states .entry)) i 0 }) (getD (now (handles .entry)) i 0)) ⌝ }
 {
-    xdr::put64(d, at, offs[i]);
-    xdr::put64(d, at + 8, lens[i]);
-    xdr::put64(d, at + 16, stos[i]);
-    xdr::put32(d, at + 24, sts[i]);
+    xdr::put64(d, at, offsets[i]);
+    put_handle(kind, d, at + 8, handles, i);
+    let rest = at + h;
+    xdr::put64(d, rest + 8, lengths[i]);
+    xdr::put64(d, rest + 16, storages[i]);
+    xdr::put32(d, rest + 24, states[i]);
 }

@@ -2,7 +2,8 @@
 use mathlib.Core.Path.{refl}
 use Rattle.xdr.specs.Be.{beNat, beBytes}
 use Rattle.extents.specs.Extents.{listFrom, tooFar, outOfOrder, clash, anyOf, refusal, verdict}
-use Rattle.layouts.specs.Layout.{checkBody}
+use Rattle.layouts.specs.declared.kinds.Kind.the-variants.{Scsi}
+use Rattle.layouts.specs.Layout.{handleSize, bodySize, checkBody}
 use Rattle.xdr.specs.Reader.{sameBytes, number, opaque, boolean, bounded, inTurn}
 use Rattle.wire.specs.Reply.{replyBytes, replyIn}
 use Rattle.reports.specs.Report.{deviceError, ioerr, layoutreturn, joined, reportOf, over}
@@ -34,11 +35,11 @@ use Rattle.marked_examples.specs.Table as table
 use Rattle.epochs.specs.History.{finish}
 
 -- ---- bodies
-k1-to-k3 : map checkBody ((0 ∷ 0 ∷ 0 ∷ 0 ∷ []) ∷ (0 ∷ 0 ∷ 0 ∷ []) ∷ beBytes 4 1025 ∷ []) ≡ Accepted 0 ∷ Refused 1 0 ∷ Refused 2 0 ∷ []
-unfolding beNat beBytes listFrom tooFar outOfOrder clash anyOf refusal verdict checkBody
+k1-to-k3 : map (checkBody Scsi) ((0 ∷ 0 ∷ 0 ∷ 0 ∷ []) ∷ (0 ∷ 0 ∷ 0 ∷ []) ∷ beBytes 4 1025 ∷ []) ≡ Accepted 0 ∷ Refused 1 0 ∷ Refused 2 0 ∷ []
+unfolding beNat beBytes listFrom tooFar outOfOrder clash anyOf refusal verdict handleSize bodySize checkBody
 k1-to-k3 = refl
 
-k4-to-k9 : map checkBody (
+k4-to-k9 : map (checkBody Scsi) (
     (beBytes 4 2 ++ readWrite 0 10 ++ readWrite 10 10)
     ∷ (beBytes 4 2 ++ read 0 100 ++ invalid 0 10)
     ∷ (beBytes 4 2 ++ invalid 0 10 ++ read 0 100)
@@ -46,7 +47,7 @@ k4-to-k9 : map checkBody (
     ∷ (beBytes 4 1 ++ table.none (2 ^ 64 - 2) 1)
     ∷ (beBytes 4 1 ++ table.none (2 ^ 64 - 1) 1)
     ∷ []) ≡ Accepted 2 ∷ Accepted 2 ∷ Refused 6 1 ∷ Refused 7 2 ∷ Accepted 1 ∷ Refused 5 0 ∷ []
-unfolding beNat beBytes listFrom tooFar outOfOrder clash anyOf refusal verdict checkBody
+unfolding beNat beBytes listFrom tooFar outOfOrder clash anyOf refusal verdict handleSize bodySize checkBody
 k4-to-k9 = refl
 
 -- ---- histories

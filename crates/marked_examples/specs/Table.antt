@@ -8,6 +8,7 @@ use lib.ListN.{replicate}
 use Rattle.xdr.specs.Be.{beBytes}
 use Rattle.extents.specs.declared.Verdict.{Verdict}
 use Rattle.extents.specs.declared.Verdict.the-variants.{Accepted, Refused}
+use Rattle.layouts.specs.declared.kinds.Kind.the-variants.{Scsi}
 use Rattle.layouts.specs.Layout.{checkBody}
 use Rattle.mirroring.specs.Totals.{noTotals}
 use Rattle.recovery.specs.Calls.{Call, register, opening, reclaim, close, endGrace, restart, layoutReturn, resilver, offered, Answer, said, replied, listed}
@@ -127,23 +128,23 @@ printedIn (a gives b) = b
 unfoldable pub table : List Example
 table =
     -- K1: four zero bytes
-    body (checkBody (0 ∷ 0 ∷ 0 ∷ 0 ∷ [])) gives body (Accepted 0)
+    body (checkBody Scsi (0 ∷ 0 ∷ 0 ∷ 0 ∷ [])) gives body (Accepted 0)
     -- K2: three bytes
-    ∷ body (checkBody (0 ∷ 0 ∷ 0 ∷ [])) gives body (Refused 1 0)
+    ∷ body (checkBody Scsi (0 ∷ 0 ∷ 0 ∷ [])) gives body (Refused 1 0)
     -- K3: count 1,025, nothing more
-    ∷ body (checkBody (beBytes 4 1025)) gives body (Refused 2 0)
+    ∷ body (checkBody Scsi (beBytes 4 1025)) gives body (Refused 2 0)
     -- K4: read-write [0,10), [10,20)
-    ∷ body (checkBody (beBytes 4 2 ++ readWrite 0 10 ++ readWrite 10 10)) gives body (Accepted 2)
+    ∷ body (checkBody Scsi (beBytes 4 2 ++ readWrite 0 10 ++ readWrite 10 10)) gives body (Accepted 2)
     -- K5: read [0,100), invalid [0,10)
-    ∷ body (checkBody (beBytes 4 2 ++ read 0 100 ++ invalid 0 10)) gives body (Accepted 2)
+    ∷ body (checkBody Scsi (beBytes 4 2 ++ read 0 100 ++ invalid 0 10)) gives body (Accepted 2)
     -- K6: invalid [0,10), read [0,100)
-    ∷ body (checkBody (beBytes 4 2 ++ invalid 0 10 ++ read 0 100)) gives body (Refused 6 1)
+    ∷ body (checkBody Scsi (beBytes 4 2 ++ invalid 0 10 ++ read 0 100)) gives body (Refused 6 1)
     -- K7: read [0,100), invalid [0,10), read [50,60)
-    ∷ body (checkBody (beBytes 4 3 ++ read 0 100 ++ invalid 0 10 ++ read 50 10)) gives body (Refused 7 2)
+    ∷ body (checkBody Scsi (beBytes 4 3 ++ read 0 100 ++ invalid 0 10 ++ read 50 10)) gives body (Refused 7 2)
     -- K8: state 3, offset 2^64 - 2, length 1
-    ∷ body (checkBody (beBytes 4 1 ++ none (2 ^ 64 - 2) 1)) gives body (Accepted 1)
+    ∷ body (checkBody Scsi (beBytes 4 1 ++ none (2 ^ 64 - 2) 1)) gives body (Accepted 1)
     -- K9: the same at 2^64 - 1
-    ∷ body (checkBody (beBytes 4 1 ++ none (2 ^ 64 - 1) 1)) gives body (Refused 5 0)
+    ∷ body (checkBody Scsi (beBytes 4 1 ++ none (2 ^ 64 - 1) 1)) gives body (Refused 5 0)
     -- K10: register 7 (devices A, B), client 1 opens, restart, end; list: 7, source 0
     ∷ called (started ++ endGrace ∷ list ∷ [])
     gives both (said 0 ∷ said 0 ∷ said 0 ∷ said 0 ∷ seven 0 ∷ [])

@@ -95,15 +95,37 @@ fn count(r: &mut Random, n: usize) -> u32 {
     r.pick(&[n.wrapping_sub(1), n + 1, 1024, 1025, 0x05d1_745d, 0x0ba2_e8ba, 0x8000_0000, u32::MAX])
 }
 
-pub fn layout_body(r: &mut Random) -> Vec<u8> {
+/// The bytes of extents one after the other; in an RDMA list each has a handle after its offset.
+fn extent_bytes(r: &mut Random, rdma: bool, n: usize) -> Vec<u8> {
+    let device = r.bytes(16);
+    let mut bytes = Vec::new();
+    for e in extents(r, n) {
+        bytes.extend(&device);
+        bytes.extend(e.offset.to_be_bytes());
+        if rdma {
+            bytes.extend(r.bytes(4));
+        }
+        bytes.extend([e.length, e.storage].iter().flat_map(|number| number.to_be_bytes()));
+        bytes.extend(e.state.to_be_bytes());
+    }
+    bytes
+}
+
+/// A list to write, and the room for its body: mostly just enough, or a byte too little; now and then more than 1,024 extents, or not whole ones.
+pub fn list_to_write(r: &mut Random, rdma: bool) -> (usize, Vec<u8>) {
+    let n = r.weighted(&[(30, 0), (200, 1), (250, 2), (250, 3), (150, 6), (60, 12), (3, 1024), (1, 1025)]);
+    let mut bytes = extent_bytes(r, rdma, n);
+    let need = 4 + bytes.len();
+    if r.percent(3) {
+        bytes.extend(r.bytes(4));
+    }
+    (r.pick(&[need, need, need, need - 1, need + 1, 0, 4, 65_536]).min(65_536), bytes)
+}
+
+pub fn layout_body(r: &mut Random, rdma: bool) -> Vec<u8> {
     let n = r.weighted(&[(30, 0), (150, 1), (250, 2), (250, 3), (200, 4), (150, 6), (60, 12), (20, 40), (2, 1023), (3, 1024), (1, 1025)]);
     let mut body = count(r, n).to_be_bytes().to_vec();
-    let device = r.bytes(16);
-    for e in extents(r, n) {
-        body.extend(&device);
-        body.extend([e.offset, e.length, e.storage].iter().flat_map(|number| number.to_be_bytes()));
-        body.extend(e.state.to_be_bytes());
-    }
+    body.extend(extent_bytes(r, rdma, n));
     if r.percent(5) {
         damage(r, &mut body);
     }

@@ -1,7 +1,7 @@
 //! Campaigns: short stories of calls, each aimed at an edge of the record, the epochs, the bodies or the lines.
 //! In this order: the writer of calls; calls on the record; campaigns on the record; campaigns on epochs, bodies and lines; the runs.
 
-use crate::bodies::layout_body;
+use crate::bodies::{layout_body, list_to_write};
 use crate::lines::{at_the_limits, dressed, spoilt};
 use crate::random::{hex, Device, Random};
 use crate::requests::request;
@@ -432,8 +432,12 @@ impl<W: Write> Campaigns<W> {
 
     fn layouts(&mut self) -> Done {
         for _ in 0..120 {
-            let body = hex(&layout_body(&mut self.r));
-            self.call(&format!("layout {body}"))?;
+            let rdma = self.r.percent(50);
+            let body = hex(&layout_body(&mut self.r, rdma));
+            let other = self.r.percent(5);
+            self.call(&format!("{} {body}", if rdma != other { "rdma" } else { "layout" }))?;
+            let (room, extents) = list_to_write(&mut self.r, rdma);
+            self.call(&format!("{} {room} {}", if rdma { "rdmawrite" } else { "write" }, hex(&extents)))?;
         }
         Ok(())
     }

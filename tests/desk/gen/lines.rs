@@ -62,9 +62,15 @@ pub fn at_the_limits() -> Vec<String> {
             format!("request {}", zeros(16_384 + over)),
             format!("register 7 {}", zeros(16_384 + over)),
             format!("layout {}", zeros(65_536 + over)),
-            format!("restart{}", " ".repeat(262_144 - 7 + over)),
-            format!("#{}", "x".repeat(262_143 + over)),
-            " ".repeat(262_144 + over),
+            format!("rdma {}", zeros(65_536 + over)),
+            format!("write 6553{} -", 6 + over),
+            format!("write 0 {}", zeros(44 * (4_468 + over))),
+            format!("rdmawrite 0 {}", zeros(48 * (4_096 + over))),
+            format!("write 48 {}", zeros(44 + over)),
+            format!("rdmawrite 52 {}", zeros(48 + over)),
+            format!("restart{}", " ".repeat(524_288 - 7 + over)),
+            format!("#{}", "x".repeat(524_287 + over)),
+            " ".repeat(524_288 + over),
             format!("layout {}{}", zeros(2), "0".repeat(over)),
         ]
     };

@@ -1,0 +1,24 @@
+-- `view::of_scsi` meets its contract, by the law of a struct that is made of a slice and what a check of it found.
+use contract.Running.{givenOf, tables, tablesOf}
+use denote.Triple.Spec.{tripleOf}
+use denote.Triple.Table.{entered, cited}
+use Rattle.walks.proofs.Made as made
+use Rattle.layouts.specs.declared.kinds.Kind.the-variants.{Scsi}
+use Rattle.layouts.specs.View.{checkedOf}
+use Rattle.layouts.proofs.ViewTypes.{found, view, checked}
+use Rattle.layouts.proofs.view.check_scsi as g
+use Rattle.layouts.proofs.view.check_scsi.Symbol as g-def
+use Rattle.layouts.proofs.view.check_scsi.Met as g-thm
+use Rattle.layouts.proofs.view.of_scsi.Key.{name as #f}
+use Rattle.layouts.proofs.view.of_scsi as f
+use Rattle.layouts.proofs.view.of_scsi.Statement as stated
+use Rattle.layouts.proofs.view.of_scsi.Code as code
+
+pub of-scsi-spec : {M : Type 1} → stated.statement M
+unfolding code.routine tablesOf
+of-scsi-spec 𝓤 H 𝓜 𝓖 𝓡 =
+    entered 𝓤 H (tripleOf 𝓤 H (𝓖 .A) f.signature (f.spec 𝓤 H (𝓖 .A) (𝓜 .mem) (𝓡 .run)))
+    (tables 𝓤 H 𝓜 𝓡 code.env .C) (tables 𝓤 H 𝓜 𝓡 code.env .Λ) #f code.function (code.unfolded 𝓤 H 𝓜 𝓡)
+    (made.meets found view checked (checkedOf Scsi)
+    𝓤 H (𝓖 .A) (givenOf 𝓤 H 𝓜 𝓖) (tablesOf 𝓤 H 𝓜 (tables 𝓤 H 𝓜 𝓡 code.env)) g-def.name
+    (cited 𝓤 H (tripleOf 𝓤 H (𝓖 .A) g.signature (g.spec 𝓤 H (𝓖 .A) (𝓜 .mem) (𝓡 .run))) 𝓜 𝓡 code.env g-def.name g-def.routine code.calls-layouts·view·check-scsi (g-thm.met 𝓤 H 𝓜 𝓖 𝓡)))
