@@ -1,4 +1,4 @@
--- The fields that a walk goes to: the files of a record and its head, both together, and a file's flag and number.
+-- The fields that a walk goes to: the files of a record, with what is known of them as a list, and its head, both together, and a file's flag and number.
 use mathlib.Core.Path.{refl}
 use native.Mathlib.Omega.{arith}
 use denote.Builtin.{u64, bool}
@@ -8,6 +8,7 @@ use borrow.Struct.Inner.{cut-record}
 use borrow.Struct.Items.{cut-records}
 use Rattle.walks.proofs.Changed.{Parts}
 use Rattle.walks.proofs.Element.{Elements, Kept, Inner}
+use Rattle.records.proofs.Lists.{Lists}
 use Rattle.files.specs.File.{noFile}
 use Rattle.files.proofs.file.File as F
 use Rattle.files.proofs.file.File.Laws as F′
@@ -42,6 +43,10 @@ head = record {
   cut = λ M 𝓤 H A W q r h a. cut-record 𝓤 H A q (row T.the-type) B.the-type 15360 r (withHead h r) (r .head) h a
       (put-at 𝓤 H A W q T.the-type T′.the-laws 1 15360 refl refl a r (withHead h r) (T.struct .as-values r) h refl refl);
 }
+
+pub filed : Lists files
+unfolding files
+filed = record { lists = λ r fs. refl; overs = λ r fs gs. refl }
 
 abbrev pub parts : Parts T.the-type
 parts = record { F = file; list = files; small = tt; none = noFile; H = heading; head = head }

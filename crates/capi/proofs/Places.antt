@@ -33,11 +33,11 @@ module _ {A : Type 0} (p : A → Bool) (d : A) (l : List A) (e : ℕ) (o : Found
   last i true t s h q = ap (placeOr e) (hit s d (omega (arith, h)) true t refl)
   last i false t s h q = sym q ∙ ap (placeOr e) (over (miss s d (omega (arith, h)) false t refl) (omega (arith, h)))
 
-  sought : (t i : ℕ) → Searching p l i o → length l ≡ i + suc t → e ≡ i + t → seek p d l t i ≡ placeOr e o
+  pub sought : (t i : ℕ) → Searching p l i o → length l ≡ i + suc t → e ≡ i + t → seek p d l t i ≡ placeOr e o
   sought zero i s h q = last i (p (getD l i d)) refl s (omega (arith, h)) (omega (arith, q))
   sought (suc t) i s h q = turn i (seek p d l t (i + 1)) (p (getD l i d)) refl s (omega (arith, h)) (λ s′. sought t (i + 1) s′ (omega (arith, h)) (omega (arith, q)))
 
-sought-place : (n : ℕ) (r : Record) → length (r .files) ≡ 64 → soughtIn n r ≡ placeIn n r
+pub sought-place : (n : ℕ) (r : Record) → length (r .files) ≡ 64 → soughtIn n r ≡ placeIn n r
 unfolding soughtIn placeIn
 sought-place n r h = sought (isFile n) noFile (r .files) 63 (first (isFile n) (r .files)) 63 0 (searching (isFile n) (r .files)) (omega (arith, h)) (omega arith)
 

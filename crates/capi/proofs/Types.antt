@@ -1,8 +1,8 @@
--- The record, its head, a file, and what a call on a record or a file answers, as the laws of `walks` take them.
+-- The record, its head, a file, and what a call on a record or a file answers, as the laws of `walks` and `records` take them.
 use denote.Struct.Declared.{field}
 use denote.Struct.Laws as LL
 use mathlib.Core.List.{[], _∷_}
-use Rattle.walks.proofs.Types.{Rec, Stepped, Headed, Stored}
+use Rattle.walks.proofs.Types.{Rec, Headed, Stored, stored-as}
 use Rattle.mirroring.proofs.blame.Change as C
 use Rattle.mirroring.proofs.blame.Change.Laws as C′
 use Rattle.mirroring.proofs.totals.Totals as U
@@ -15,10 +15,10 @@ use Rattle.files.proofs.file.File.Laws as F′
 use Rattle.files.proofs.file.FileAnswered as A
 use Rattle.files.proofs.head.Head as B
 use Rattle.files.proofs.head.Head.Laws as B′
-use Rattle.recovery.specs.declared.record.Answered.{Answered}
 use Rattle.recovery.proofs.record.Record as T
 use Rattle.recovery.proofs.record.Record.Laws as T′
-use Rattle.recovery.proofs.record.Answered as S
+use Rattle.capi.specs.declared.Verdict.{Verdict}
+use Rattle.capi.proofs.Verdict as J
 
 abbrev pub whole : Rec
 whole = record { T = T.the-type; laws = T′.the-laws; plain = T′.the-plain; lowers = T′.lowers }
@@ -29,8 +29,6 @@ heading = record { T = B.the-type; laws = B′.the-laws; plain = B′.the-plain;
 abbrev pub file : Rec
 file = record { T = F.the-type; laws = F′.the-laws; plain = F′.the-plain; lowers = F′.lowers }
 
-abbrev pub answered : Stepped whole
-answered = record { name = S.the-type .name; D = Answered; status = λ s. s .status; rec = λ s. s .after; one = S.the-type .to-one }
 
 abbrev pub file-answered : Stored heading file
 file-answered = record { name = A.the-type .name; D = FileAnswered; status = λ s. s .status; head = λ s. s .head; rec = λ s. s .file; one = A.the-type .to-one }
@@ -47,3 +45,9 @@ outcome = record {
   laws = (LL.field-laws C.the-type C′.the-laws C′.lowers, (LL.field-laws U.the-type U′.the-laws U′.lowers, tt));
   plain = (LL.field-plain C.the-type C′.the-plain, (LL.field-plain U.the-type U′.the-plain, tt));
 }
+
+abbrev pub entering : Headed heading
+entering = stored-as heading file file-answered
+
+abbrev pub verdict : Headed heading
+verdict = record { name = J.the-type .name; D = Verdict; others = []; status = λ s. s .status; head = λ s. s .head; rest = λ s. tt; one = J.the-type .to-one; laws = tt; plain = tt }

@@ -1,24 +1,30 @@
 // What a C server calls on a recovery record that it owns (paper 01, "The recovery record"): each call of the record, on the record where it
 // lies, with the promise of the method by value. A call on one file reads that file and what stands beside the files, and
-// changes both in their place; the others go by value.
-// First a file's place, then the functions by value that `recovery` and `files` lack, then the calls in the paper's order.
+// changes both in their place; fresh, register, forget, restart and the end of grace move or change the files where they lie; the two lists go by value.
+// First a file's place, then the functions by value that `recovery` and `files` lack, then what changes more than one file, and the calls in the
+// paper's order.
 mod totals;
 
 use files::file::File;
+use files::file::FileAnswered;
+use files::head::Edition;
 use files::head::Head;
 use layoutreturn::Outcome;
 use recovery::record::Record;
 ghost use mathlib.Core.Path.{_≡_};
-ghost use mathlib.Core.Bool.{true, false};
+ghost use mathlib.Core.Bool.{true, false, not};
 ghost use Rattle.recovery.specs.Calls.{listed};
 ghost use Rattle.recovery.specs.Record.{freshAs, fresh, registerOf, openOf, reclaimOf, closeOf, repairedOf, forgetOf, endOf, restartOf, listingOf};
 ghost use Rattle.recovery.specs.LayoutReturn.{layoutreturnOf, replyAfter};
 ghost use Rattle.layoutreturn.specs.LayoutReturn.{decisionOf, outcomeBy, replyBy};
 ghost use Prim.Native.Nat.{_<_};
 ghost use lib.ListN.{length};
-ghost use Rattle.files.specs.declared.head.Edition.the-variants.{Old};
+ghost use Rattle.files.specs.declared.head.Edition.the-variants.{Current, Old};
+ghost use Rattle.files.specs.File.{restartedFile, endedFile};
+ghost use Rattle.files.specs.Head.{freshHead};
 ghost use Rattle.capi.specs.Place.{isNumbered, soughtIn};
 ghost use Rattle.capi.specs.Lent.{columnOf, maskOf};
+ghost use Rattle.capi.specs.Whole.{restartVerdict, endVerdict, forgetVerdict, emptiedFile, eachFile, refusedWith, admittedOf, isVacantPlace, roomSought, isBelow, enteredFiles, pulledFiles};
 
 // ---- The place of a file.
 // Whether a place with this flag and number is the file's.
@@ -98,13 +104,227 @@ fn wide(n: usize) -> u64
     n as u64
 }
 
+// ---- A call that changes more than one file.
+// What is answered, and what stands beside the files afterwards.
+#[repr(C)]
+pub struct Verdict {
+    pub status: u32,
+    pub head: Head,
+}
+
+// A restart: no refusal.
+fn restarting(head: Head) -> Verdict
+    ensures { λ s. ⌜ s ≡ restartVerdict head ⌝ }
+{
+    Verdict {
+        status: 0,
+        head: Head {
+            grace: true,
+            old: head.old,
+        },
+    }
+}
+
+// The end of grace: 10033 not in grace.
+fn ending(head: Head) -> Verdict
+    ensures { λ s. ⌜ s ≡ endVerdict head ⌝ }
+{
+    if head.grace {
+        Verdict {
+            status: 0,
+            head: Head {
+                grace: false,
+                old: head.old,
+            },
+        }
+    } else {
+        Verdict {
+            status: statuses::NO_GRACE,
+            head: head,
+        }
+    }
+}
+
+// A place that no file has, whatever it held.
+fn emptied(f: File) -> File
+    ensures { λ g. ⌜ g ≡ emptiedFile f ⌝ }
+{
+    File::blank()
+}
+
+fn fresh_head() -> Head
+    ensures { λ h. ⌜ h ≡ freshHead Current ⌝ }
+{
+    Head::fresh(Edition::Current)
+}
+
+fn fresh_old_head() -> Head
+    ensures { λ h. ⌜ h ≡ freshHead Old ⌝ }
+{
+    Head::fresh(Edition::Old)
+}
+
+// Each place free.
+fn empty_each(r: &mut Record)
+    ensures { λ _. ⌜ now (r .exit) ≡ eachFile emptiedFile (now (r .entry)) ⌝ }
+{
+    let mut i: usize = 0;
+    while i < 64 {
+        r.files[i] = emptied(r.files[i]);
+        i = i + 1;
+    }
+}
+
+// Each file after a restart.
+fn restart_each(r: &mut Record)
+    ensures { λ _. ⌜ now (r .exit) ≡ eachFile restartedFile (now (r .entry)) ⌝ }
+{
+    let mut i: usize = 0;
+    while i < 64 {
+        r.files[i] = File::restarted(r.files[i]);
+        i = i + 1;
+    }
+}
+
+// Each file after the end of grace.
+fn end_each(r: &mut Record)
+    ensures { λ _. ⌜ now (r .exit) ≡ eachFile endedFile (now (r .entry)) ⌝ }
+{
+    let mut i: usize = 0;
+    while i < 64 {
+        r.files[i] = File::ended(r.files[i]);
+        i = i + 1;
+    }
+}
+
+// ---- Registering a file.
+// A refusal, with a free place.
+fn refusing(status: u32, head: Head) -> FileAnswered
+    ensures { λ s. ⌜ s ≡ refusedWith status head ⌝ }
+{
+    let x = File::blank();
+    FileAnswered {
+        status: status,
+        head: head,
+        file: x,
+    }
+}
+
+// What is answered, and the file that is to be entered, or a free place. `f` is the file of that number, or the last place if there is none.
+fn admitted(f: File, number: u64, head: Head, mirrors: &[u8]) -> FileAnswered
+    ensures { λ s. ⌜ s ≡ admittedOf number head (now (mirrors .entry)) f ⌝ }
+{
+    if head.grace {
+        return refusing(statuses::GRACE, head);
+    }
+    let e = mirroring::enrol::enrol(mirrors);
+    if !e.good {
+        return refusing(statuses::INVAL, head);
+    }
+    let hit = f.is(number);
+    if hit {
+        return refusing(statuses::EXIST, head);
+    }
+    if f.used {
+        return refusing(statuses::NOSPC, head);
+    }
+    let ms = e.mirrors;
+    let x = File::new(number, ms);
+    FileAnswered {
+        status: 0,
+        head: head,
+        file: x,
+    }
+}
+
+// Whether a place with this flag is free.
+fn free(used: bool) -> bool
+    ensures { λ z. ⌜ z ≡ not used ⌝ }
+{
+    !used
+}
+
+// The same as the test of a look-up, whatever the number.
+fn vacant(used: bool, number: u64, key: u64) -> bool
+    ensures { λ z. ⌜ z ≡ isVacantPlace used number key ⌝ }
+{
+    !used
+}
+
+// The first free place, or the last place.
+fn room(r: &Record, key: u64) -> usize
+    ensures { λ i. ⌜ (i ≡ roomSought key (now (r .entry))) × (i < 64) ⌝ }
+{
+    let mut i: usize = 0;
+    while i < 63 {
+        if vacant(r.files[i].used, r.files[i].number, key) {
+            break;
+        }
+        i = i + 1;
+    }
+    i
+}
+
+// Whether a file of this number stands below that of `s`.
+fn below(number: u64, s: FileAnswered) -> bool
+    ensures { λ z. ⌜ z ≡ isBelow number s ⌝ }
+{
+    let x = s.file;
+    number <= x.number
+}
+
+// The files with that of `s` among them by its number: from the first free place down, each with a greater number moves up one place.
+fn enter(r: &mut Record, at: usize, s: FileAnswered)
+    ensures { λ _. ⌜ now (r .exit) ≡ enteredFiles (now (r .entry)) at s ⌝ }
+{
+    let mut i = room(r, 0);
+    while 0 < i {
+        if below(r.files[i - 1].number, s) {
+            break;
+        }
+        r.files[i] = r.files[i - 1];
+        i = i - 1;
+    }
+    r.files[i] = s.file;
+}
+
+// ---- Forgetting a file.
+// Whether the file at a place may be forgotten.
+fn forgetting(f: File, number: u64, head: Head) -> Verdict
+    ensures { λ s. ⌜ s ≡ forgetVerdict number head f ⌝ }
+{
+    let status = f.forget(number, head);
+    Verdict {
+        status: status,
+        head: head,
+    }
+}
+
+// The files without that at `at`: those after it, up to the first free place, move down one place.
+fn pull(r: &mut Record, at: usize, s: Verdict)
+    ensures { λ _. ⌜ now (r .exit) ≡ pulledFiles (now (r .entry)) at s ⌝ }
+{
+    let mut i = at;
+    while i < 63 {
+        if free(r.files[i + 1].used) {
+            break;
+        }
+        r.files[i] = r.files[i + 1];
+        i = i + 1;
+    }
+    if i < 64 {
+        r.files[i] = File::blank();
+    }
+}
+
 // ---- The calls.
 // Fresh: the record is written whole, whatever it held.
 #[no_mangle]
 pub extern "C" fn sc_record_fresh(r: &mut Record)
     ensures { λ _. ⌜ now (r .exit) ≡ fresh ⌝ }
 {
-    *r = Record::fresh();
+    empty_each(r);
+    r.head = fresh_head();
 }
 
 // The same, set up as old.
@@ -112,15 +332,20 @@ pub extern "C" fn sc_record_fresh(r: &mut Record)
 pub extern "C" fn sc_record_fresh_old(r: &mut Record)
     ensures { λ _. ⌜ now (r .exit) ≡ freshAs Old ⌝ }
 {
-    *r = Record::fresh_old();
+    empty_each(r);
+    r.head = fresh_old_head();
 }
 
 #[no_mangle]
 pub extern "C" fn sc_record_register(r: &mut Record, file: u64, mirrors: &[u8]) -> u32
     ensures { λ s. ⌜ (s ≡ registerOf file (now (mirrors .entry)) (now (r .entry)) .status) × (now (r .exit) ≡ registerOf file (now (mirrors .entry)) (now (r .entry)) .after) ⌝ }
 {
-    let s = Record::register(*r, file, mirrors);
-    *r = s.after;
+    let i = position(r, file);
+    let s = admitted(r.files[i], file, r.head, mirrors);
+    if s.status == 0 {
+        enter(r, i, s);
+    }
+    r.head = s.head;
     s.status
 }
 
@@ -172,8 +397,12 @@ pub extern "C" fn sc_record_repaired(r: &mut Record, file: u64) -> u32
 pub extern "C" fn sc_record_forget(r: &mut Record, file: u64) -> u32
     ensures { λ s. ⌜ (s ≡ forgetOf file (now (r .entry)) .status) × (now (r .exit) ≡ forgetOf file (now (r .entry)) .after) ⌝ }
 {
-    let s = Record::forget(*r, file);
-    *r = s.after;
+    let i = position(r, file);
+    let s = forgetting(r.files[i], file, r.head);
+    if s.status == 0 {
+        pull(r, i, s);
+    }
+    r.head = s.head;
     s.status
 }
 
@@ -181,8 +410,11 @@ pub extern "C" fn sc_record_forget(r: &mut Record, file: u64) -> u32
 pub extern "C" fn sc_record_end_grace(r: &mut Record) -> u32
     ensures { λ s. ⌜ (s ≡ endOf (now (r .entry)) .status) × (now (r .exit) ≡ endOf (now (r .entry)) .after) ⌝ }
 {
-    let s = Record::end_grace(*r);
-    *r = s.after;
+    let s = ending(r.head);
+    if s.status == 0 {
+        end_each(r);
+    }
+    r.head = s.head;
     s.status
 }
 
@@ -190,8 +422,11 @@ pub extern "C" fn sc_record_end_grace(r: &mut Record) -> u32
 pub extern "C" fn sc_record_restart(r: &mut Record) -> u32
     ensures { λ s. ⌜ (s ≡ restartOf (now (r .entry)) .status) × (now (r .exit) ≡ restartOf (now (r .entry)) .after) ⌝ }
 {
-    let s = Record::restart(*r);
-    *r = s.after;
+    let s = restarting(r.head);
+    if s.status == 0 {
+        restart_each(r);
+    }
+    r.head = s.head;
     s.status
 }
 

@@ -1,30 +1,31 @@
 -- Calls on the record: each answers what the ledger says, and leaves a record that goes with the ledger as it is fed. In this order: the file that a call
 -- names; a call on one file, once for all; each such call; forget; register; the end of grace and restart; the lists.
-use mathlib.Core.Path.{_≡_, refl, ap, sym, _∙_}
+use mathlib.Core.Path.{_≡_, refl, ap, sym, _∙_, subst}
 use mathlib.Core.List.{List, [], _∷_, map}
 use mathlib.Core.Bool.{Bool, true, false, not, cond}
-use Prim.Native.Nat.{ℕ, suc, _<_, _≤_}
+use Prim.Native.Nat.{ℕ, zero, suc, _<_, _≤_}
 use native.Mathlib.Omega.{arith}
-use lib.ListN.{getD, length, length-set, length-map}
+use lib.ListN.{getD, set, length, take, drop, length-set, length-map, length-append, take-append-drop}
 use lib.Seq.{set-getD}
 use lib.Dec.{eqb, leb, ltb}
 use borrow.Author.Tests.{eqb-false, le-leb, lt-leb, leb-true, leb-false, ltb-true, ltb-false}
 use Rattle.statuses.specs.Rules.{_⇒_, refused}
 use Rattle.reports.specs.Device.{Device}
 use Rattle.places.specs.Lists.{any, chosen, none, discard, amend, Above, Rising}
-use Rattle.places.specs.Places.{first, placeOr, leftOut}
+use Rattle.places.specs.Places.{first, bump, isFound, placeOr}
 use Rattle.mirroring.specs.Devices.{mirrorsIn, badMirrors}
 use Rattle.mirroring.specs.Mirrors.{placedMirrors, enrolledOf}
 use Rattle.files.specs.File.{noFile, blankFile, isFile, isVacant, fileOf, fileAnswered, openedFile, reclaimedFile, closedFile, repairedFile, forgettable, restartedFile, endedFile, isListed, isReady, sourceOf}
+use Rattle.places.specs.declared.Found.{Found}
 use Rattle.places.specs.declared.Found.the-variants.{At, Nothing}
 use Rattle.files.specs.declared.file.File.{File}
 use Rattle.files.specs.declared.file.FileAnswered.{FileAnswered}
 use Rattle.files.specs.declared.head.Head.{Head}
-use Rattle.places.proofs.Slots.{All, Slots, Focus, Hit, slots-map, slots-chosen, slots-at, focus, pairs-map, leftOut-length, missing, found}
+use Rattle.places.proofs.Slots.{All, Slots, Focus, Hit, slots-map, slots-chosen, slots-at, focus, pairs-map, missing, found}
 use Rattle.places.proofs.Sets.{true-false, first-nothing, none-at, first-no, rest-no}
 use Rattle.mirroring.proofs.Enrolling.{few-mirrors}
 use Rattle.ledger.specs.Ledger.{Row, Ledger, isRow, newRow, registered, rowOf, openRules, intentRules, closeRules, repairedRules, forgetRules, isMarked, isOffered, needRepair, forCopying, listOf, numbers, source, opened, hasReclaimed, closed, mended, restarted, ended, insert, withRows, withGrace, onRow}
-use Rattle.recovery.specs.Record.{withFiles, answered, placeIn, fileAt, putFile, onPlace, openOf, reclaimOf, closeOf, repairedOf, enter, isFull, registerWith, registerOf, forgets, forgetOf, endOf, restartOf, isWanted, numberOf, listingOf}
+use Rattle.recovery.specs.Record.{withFiles, answered, placeIn, fileAt, putFile, onPlace, openOf, reclaimOf, closeOf, repairedOf, raised, roomIn, enter, pulled, withoutFile, isFull, registerWith, registerOf, forgets, forgetOf, endOf, restartOf, isWanted, numberOf, listingOf}
 use Rattle.recovery.specs.declared.record.Record.{Record}
 use Rattle.ledger.proofs.Relation.{FileIs, NoFile, Matches, branch, FileKept, FileAgrees, RecordAgrees}
 use Rattle.ledger.proofs.OneFile.{some-taken, file-opened, file-reclaimed, file-closed, file-repaired, file-restarted, file-ended, file-source, file-new}
@@ -140,6 +141,9 @@ unfolding repairedOf repairedFile
 repaired-agrees {r} m n = on-file n (repairedFile n (r .head)) mended (λ w. refused (repairedRules w)) (λ w. refl) (λ f w i k. rw i (file-repaired (r .head) k)) (λ f i. rw i) m
 
 -- ---- forget
+is-used : (g : Bool) (f : File) (w : Row) → FileIs g f w → isVacant f ≡ false
+is-used g f w h = rw (h .used)
+
 above-discard : (p : Row → Bool) (n : ℕ) (ws : List Row) → Above n (numbers ws) → Above n (numbers (discard p ws))
 unfolding discard
 above-discard p n [] h = tt
@@ -161,6 +165,48 @@ rising-discard p (w ∷ ws) h = by (p w) (rising-discard p ws (h .1))
 abbrev without : ℕ → Ledger → Ledger
 without n l = withRows (discard (isRow n) (l .rows)) l
 
+-- the files after one, up to the first free place, are pulled down over it
+pulled-length : (fs : List File) → length (pulled fs) ≡ length fs
+unfolding pulled
+pulled-length [] = refl
+pulled-length (x ∷ []) = refl
+pulled-length (x ∷ y ∷ ys) = by (isVacant y) (pulled-length (y ∷ ys))
+  where
+    by : (b : Bool) → length (pulled (y ∷ ys)) ≡ suc (length ys) → length (cond b (blankFile ∷ y ∷ ys) (y ∷ pulled (y ∷ ys))) ≡ suc (suc (length ys))
+    by true k = refl
+    by false k = ap suc k
+
+without-length : (i : ℕ) (fs : List File) → length (withoutFile i fs) ≡ length fs
+without-length i fs = simp (length-append, pulled-length) (sym (length-append (take i fs) (drop i fs)) ∙ ap length (take-append-drop i fs))
+
+pulled-slots : {g : Bool} {fs : List File} {ws : List Row} (x : File) → Slots (FileIs g) NoFile fs ws → Slots (FileIs g) NoFile (pulled (x ∷ fs)) ws
+unfolding pulled
+pulled-slots x (Slots.rest All.all-nil) = Slots.rest (All.all-cons refl All.all-nil)
+pulled-slots {g} x (Slots.rest (All.all-cons {x = y} {xs = ys} e f)) = subst (λ (b : Bool). Slots (FileIs g) NoFile (cond (not b) (blankFile ∷ y ∷ ys) (y ∷ pulled (y ∷ ys))) []) (sym e) (Slots.rest (All.all-cons refl (All.all-cons e f)))
+pulled-slots {g} x (Slots.item {x = f} {y = w} e s) = rw (is-used g f w e) (Slots.item e (pulled-slots f s))
+
+no-such-place : {i : ℕ} → Nothing ≡ At i → ⊥
+no-such-place e = true-false (sym (ap isFound e))
+
+none-first : (n : ℕ) {fs : List File} → All NoFile fs → first (isFile n) fs ≡ Nothing
+unfolding first
+none-first n All.all-nil = refl
+none-first n (All.all-cons {x} e f) = rw (is-no-file n x e, none-first n f)
+
+-- the file n, at its place i, is taken out; b is whether it is the first
+taken-out : {g : Bool} {fs : List File} {ws : List Row} (n i : ℕ) → Slots (FileIs g) NoFile fs ws → first (isFile n) fs ≡ At i → Slots (FileIs g) NoFile (withoutFile i fs) (discard (isRow n) ws)
+unfolding first discard
+taken-out n i (Slots.rest e) k = absurd (no-such-place (sym (none-first n e) ∙ k))
+taken-out {g} n i (Slots.item {x = f} {y = w} {xs = fs} {ys = ws} e s) k = rw (← is-file g n f w e) (by (isFile n f) k (λ j q. taken-out n j s q))
+  where
+    later : (o : Found) → first (isFile n) fs ≡ o → bump o ≡ At i → ((j : ℕ) → first (isFile n) fs ≡ At j → Slots (FileIs g) NoFile (withoutFile j fs) (discard (isRow n) ws)) → Slots (FileIs g) NoFile (withoutFile i (f ∷ fs)) (w ∷ discard (isRow n) ws)
+    later Nothing q m t = absurd (no-such-place m)
+    later (At j) q m t = rw (← ap (placeOr 63) m) (Slots.item e (t j q))
+
+    by : (b : Bool) → cond b (At 0) (bump (first (isFile n) fs)) ≡ At i → ((j : ℕ) → first (isFile n) fs ≡ At j → Slots (FileIs g) NoFile (withoutFile j fs) (discard (isRow n) ws)) → Slots (FileIs g) NoFile (withoutFile i (f ∷ fs)) (cond b ws (w ∷ discard (isRow n) ws))
+    by true m t = rw (← ap (placeOr 63) m) (pulled-slots f s)
+    by false m t = later (first (isFile n) fs) refl m t
+
 -- a and b are whether the row is marked and open
 forgets-row : {r : Record} {l : Ledger} (n i : ℕ) (w : Row) → Matches r l → There n r l i w → (a b : Bool)
     → RecordAgrees (forgets (cond a 10008 (cond b 10008 0)) n r) l (without n l) (cond a 10008 (cond b 10008 0))
@@ -171,8 +217,8 @@ forgets-row {r} {l} n i w m z false false = rw (here n r l i w z) (record {
   kept = record {
     old = m .old;
     grace = m .grace;
-    long = leftOut-length blankFile i (r .files) ∙ m .long;
-    rows = z .out blankFile refl;
+    long = without-length i (r .files) ∙ m .long;
+    rows = taken-out n i (m .rows) (z .at);
     rising = rising-discard (isRow n) (l .rows) (m .rising);
   };
 })
@@ -207,56 +253,106 @@ pub forget-agrees : {r : Record} {l : Ledger} → Matches r l → (n : ℕ) → 
 forget-agrees {r} {l} m n = forget-by n m (l .grace) refl
 
 -- ---- register
-is-used : (g : Bool) (f : File) (w : Row) → FileIs g f w → isVacant f ≡ false
-is-used g f w h = rw (h .used)
-
-cond-length : (b c : Bool) (x y : File) (u v ys : List File) → length u ≡ length ys → length v ≡ length ys → length (cond b (x ∷ ys) (cond c (y ∷ u) (x ∷ v))) ≡ suc (length ys)
-cond-length true c x y u v ys h k = refl
-cond-length false true x y u v ys h k = ap suc h
-cond-length false false x y u v ys h k = ap suc k
+raised-length : (x : File) (i : ℕ) (fs : List File) → length (raised x i fs) ≡ length fs
+unfolding raised
+raised-length x zero fs = length-set fs 0 x
+raised-length x (suc i) fs = by (leb (getD fs i noFile .number) (x .number)) (raised-length x i (set fs (suc i) (getD fs i noFile)) ∙ length-set fs (suc i) (getD fs i noFile))
+  where
+    by : (b : Bool) → length (raised x i (set fs (suc i) (getD fs i noFile))) ≡ length fs → length (cond b (set fs (suc i) x) (raised x i (set fs (suc i) (getD fs i noFile)))) ≡ length fs
+    by true k = length-set fs (suc i) x
+    by false k = k
 
 enter-length : (x : File) (fs : List File) → length (enter x fs) ≡ length fs
 unfolding enter
-enter-length x [] = refl
-enter-length x (y ∷ ys) = cond-length (isVacant y) (leb (y .number) (x .number)) x y _ _ ys (enter-length x ys) (enter-length y ys)
+enter-length x fs = raised-length x (roomIn fs) fs
+
+first-free : {g : Bool} {fs : List File} {ws : List Row} → Slots (FileIs g) NoFile fs ws → length ws < length fs → first isVacant fs ≡ At (length ws)
+unfolding first
+first-free (Slots.rest All.all-nil) k = absurd (omega arith)
+first-free (Slots.rest (All.all-cons e f)) k = rw e
+first-free {g} (Slots.item {x = f} {y = w} e s) k = rw (is-used g f w e, first-free s (omega arith))
 
 -- the code compares the numbers of files, and the ledger those of rows
 order : {g : Bool} {x f : File} {w v : Row} (b : Bool) → leb (v .number) (w .number) ≡ b → FileIs g x w → FileIs g f v → leb (f .number) (x .number) ≡ b
 order b q h e = rw (e .number, h .number) q
 
--- what stands after a file moves up
-entered-rest : {g : Bool} {x : File} {w : Row} {fs : List File} → FileIs g x w → All NoFile fs → 0 < length fs → Slots (FileIs g) NoFile (enter x fs) (w ∷ [])
-unfolding enter
-entered-rest h All.all-nil k = absurd (omega arith)
-entered-rest h (All.all-cons e f) k = rw e (Slots.item h (Slots.rest f))
+-- a file that is not greater stays
+raised-below : (x y : File) (i : ℕ) (fs : List File) → leb (y .number) (x .number) ≡ true → raised x (suc i) (y ∷ fs) ≡ y ∷ raised x i fs
+unfolding raised
+raised-below x y zero fs e = rw e
+raised-below x y (suc i) fs e = by (leb (getD fs i noFile .number) (x .number)) (raised-below x y i (set fs (suc i) (getD fs i noFile)) e)
+  where
+    by : (b : Bool) → raised x (suc i) (y ∷ set fs (suc i) (getD fs i noFile)) ≡ y ∷ raised x i (set fs (suc i) (getD fs i noFile)) → cond b (set (y ∷ fs) (suc (suc i)) x) (raised x (suc i) (set (y ∷ fs) (suc (suc i)) (getD fs i noFile))) ≡ y ∷ cond b (set fs (suc i) x) (raised x i (set fs (suc i) (getD fs i noFile)))
+    by true k = refl
+    by false k = k
 
-moved-item : {g : Bool} {f f₂ : File} {v v₂ : Row} {vs : List Row} (fs : List File) → FileIs g f v → FileIs g f₂ v₂ → v .number < v₂ .number
-    → Slots (FileIs g) NoFile (enter f₂ fs) (v₂ ∷ vs) → Slots (FileIs g) NoFile (enter f (f₂ ∷ fs)) (v ∷ v₂ ∷ vs)
-unfolding enter
-moved-item {g} {f} {f₂} {v} {v₂} fs h e q s = rw (is-used g f₂ v₂ e, order false (lt-leb (v₂ .number) (v .number) q) h e) (Slots.item h s)
+-- greater files, the first i of a list, all move up: x is before them, and the place i is gone
+abbrev Greater : File → ℕ → List File → Type 0
+Greater x zero fs = Unit {0}
+Greater x (suc i) [] = ⊥
+Greater x (suc i) (y ∷ ys) = (leb (y .number) (x .number) ≡ false) × Greater x i ys
 
-moved-up : {g : Bool} {f : File} {v : Row} {fs : List File} {vs : List Row} → FileIs g f v → Slots (FileIs g) NoFile fs vs → length vs < length fs → Above (v .number) (numbers vs) → Rising (numbers vs)
-    → Slots (FileIs g) NoFile (enter f fs) (v ∷ vs)
-moved-up h (Slots.rest e) k a r = entered-rest h e k
-moved-up h (Slots.item {xs = fs} e s) k a r = moved-item fs h e (a .0) (moved-up e s (omega arith) (r .0) (r .1))
+last-greater : (x : File) (i : ℕ) (fs : List File) → Greater x (suc i) fs → leb (getD fs i noFile .number) (x .number) ≡ false
+last-greater x i [] g = absurd g
+last-greater x zero (y ∷ ys) g = g .0
+last-greater x (suc i) (y ∷ ys) g = last-greater x i ys (g .1)
 
-entered-item : {g : Bool} {x f : File} {w v : Row} (fs : List File) (vs : List Row) (b : Bool) → leb (v .number) (w .number) ≡ b → FileIs g x w → FileIs g f v
-    → Slots (FileIs g) NoFile (enter x fs) (insert w vs) → Slots (FileIs g) NoFile (enter f fs) (v ∷ vs)
-    → Slots (FileIs g) NoFile (enter x (f ∷ fs)) (insert w (v ∷ vs))
-unfolding enter insert
-entered-item {g} {x} {f} {w} {v} fs vs true q h e s t = rw (is-used g f v e, order true q h e, q) (Slots.item e s)
-entered-item {g} {x} {f} {w} {v} fs vs false q h e s t = rw (is-used g f v e, order false q h e, q) (Slots.item h t)
+set-greater : (x z : File) (i : ℕ) (fs : List File) → Greater x (suc i) fs → Greater x i (set fs (suc i) z)
+set-greater x z i [] g = absurd g
+set-greater x z zero (y ∷ ys) g = tt
+set-greater x z (suc i) (y ∷ ys) g = (g .0, set-greater x z i ys (g .1))
 
-entered : {g : Bool} {x : File} {w : Row} {fs : List File} {ws : List Row} → FileIs g x w → Slots (FileIs g) NoFile fs ws → length ws < length fs → Rising (numbers ws)
-    → Slots (FileIs g) NoFile (enter x fs) (insert w ws)
-unfolding insert
-entered h (Slots.rest e) k r = entered-rest h e k
-entered {w} h (Slots.item {y = v} {xs = fs} {ys = vs} e s) k r =
-    entered-item fs vs (leb (v .number) (w .number)) refl h e (entered h s (omega arith) (r .1)) (moved-up e s (omega arith) (r .0) (r .1))
+abbrev up : File → ℕ → List File → List File
+up x i [] = []
+up x zero (y ∷ ys) = x ∷ ys
+up x (suc i) (y ∷ ys) = x ∷ up y i ys
+
+up-set : (x : File) (i : ℕ) (fs : List File) → suc i < length fs → up x i (set fs (suc i) (getD fs i noFile)) ≡ up x (suc i) fs
+up-set x i [] h = absurd (omega arith)
+up-set x zero (y ∷ []) h = absurd (omega arith)
+up-set x zero (y ∷ z ∷ zs) h = refl
+up-set x (suc i) (y ∷ ys) h = ap (_∷_ x) (up-set y i ys (omega arith))
+
+raised-up : (x : File) (i : ℕ) (fs : List File) → i < length fs → Greater x i fs → raised x i fs ≡ up x i fs
+unfolding raised
+raised-up x zero [] h g = absurd (omega arith)
+raised-up x zero (y ∷ ys) h g = refl
+raised-up x (suc i) fs h g =
+    let l : i < length (set fs (suc i) (getD fs i noFile)) = rw (length-set fs (suc i) (getD fs i noFile)) (omega (arith, h)) in
+    rw (last-greater x i fs g) (raised-up x i (set fs (suc i) (getD fs i noFile)) l (set-greater x (getD fs i noFile) i fs g) ∙ up-set x i fs h)
+
+up-slots : {g : Bool} {x : File} {w : Row} {fs : List File} {vs : List Row} → FileIs g x w → Slots (FileIs g) NoFile fs vs → length vs < length fs → Slots (FileIs g) NoFile (up x (length vs) fs) (w ∷ vs)
+up-slots h (Slots.rest All.all-nil) k = absurd (omega arith)
+up-slots h (Slots.rest (All.all-cons e f)) k = Slots.item h (Slots.rest f)
+up-slots h (Slots.item e s) k = Slots.item h (up-slots e s (omega arith))
+
+slots-greater : {g : Bool} {x : File} {w : Row} {fs : List File} {vs : List Row} → FileIs g x w → Slots (FileIs g) NoFile fs vs → Above (w .number) (numbers vs) → Greater x (length vs) fs
+slots-greater h (Slots.rest e) a = tt
+slots-greater {w} h (Slots.item {y = v} e s) a = (order false (lt-leb (v .number) (w .number) (a .0)) h e, slots-greater h s (a .1))
 
 above-less : (m n : ℕ) (ns : List ℕ) → m < n → Above n ns → Above m ns
 above-less m n [] h a = tt
 above-less m n (k ∷ ks) h a = (omega (arith, a .0), above-less m n ks h (a .1))
+
+entered-item : {g : Bool} {x f : File} {w v : Row} (fs : List File) (vs : List Row) (b : Bool) → leb (v .number) (w .number) ≡ b → FileIs g x w → FileIs g f v → Slots (FileIs g) NoFile fs vs → length vs < length fs
+    → Above (v .number) (numbers vs) → Slots (FileIs g) NoFile (raised x (length vs) fs) (insert w vs) → Slots (FileIs g) NoFile (raised x (suc (length vs)) (f ∷ fs)) (insert w (v ∷ vs))
+unfolding insert
+entered-item {g} {x} {f} {w} {v} fs vs true q h e s k a t = rw (raised-below x f (length vs) fs (order true q h e), q) (Slots.item e t)
+entered-item {g} {x} {f} {w} {v} fs vs false q h e s k a t =
+    let m : w .number < v .number = leb-false (v .number) (w .number) q in
+    rw (raised-up x (suc (length vs)) (f ∷ fs) (omega (arith, k)) (slots-greater h (Slots.item e s) (m, above-less (w .number) (v .number) (numbers vs) m a)), q) (up-slots h (Slots.item e s) (omega (arith, k)))
+
+raised-slots : {g : Bool} {x : File} {w : Row} {fs : List File} {ws : List Row} → FileIs g x w → Slots (FileIs g) NoFile fs ws → length ws < length fs → Rising (numbers ws)
+    → Slots (FileIs g) NoFile (raised x (length ws) fs) (insert w ws)
+unfolding raised insert
+raised-slots h (Slots.rest All.all-nil) k r = absurd (omega arith)
+raised-slots h (Slots.rest (All.all-cons e f)) k r = Slots.item h (Slots.rest f)
+raised-slots {w} h (Slots.item {y = v} {xs = fs} {ys = vs} e s) k r = entered-item fs vs (leb (v .number) (w .number)) refl h e s (omega arith) (r .0) (raised-slots h s (omega arith) (r .1))
+
+entered : {g : Bool} {x : File} {w : Row} {fs : List File} {ws : List Row} → FileIs g x w → Slots (FileIs g) NoFile fs ws → length ws < length fs → Rising (numbers ws)
+    → Slots (FileIs g) NoFile (enter x fs) (insert w ws)
+unfolding enter roomIn
+entered h s k r = rw (first-free s k) (raised-slots h s k r)
 
 above-item : (n : ℕ) (w v : Row) (us vs : List Row) (b : Bool) → n < w .number → n < v .number → Above n (numbers us) → Above n (numbers vs) → Above n (numbers (cond b (v ∷ us) (w ∷ v ∷ vs)))
 above-item n w v us vs true p q a b = (q, a)

@@ -1,4 +1,4 @@
-mod Entering
+pub mod Moving
 mod Listings
 -- LAYOUTRETURN at a place of the record.
 pub mod Returning

@@ -1,12 +1,12 @@
 -- MODEL. What each method answers, and the record afterwards. Nothing here need be believed: proofs/History.antt shows that it is what the ledger
 -- says. In this order: the record; calls on one file; register and forget; restart and the end of grace; the lists.
-use mathlib.Core.List.{List, [], _∷_, map}
+use mathlib.Core.List.{List, [], _∷_, _++_, map}
 use mathlib.Core.Bool.{Bool, true, false, not, cond}
-use Prim.Native.Nat.{ℕ}
-use lib.ListN.{getD, set, replicate}
+use Prim.Native.Nat.{ℕ, zero, suc}
+use lib.ListN.{getD, set, take, drop, replicate}
 use lib.Dec.{eqb, leb}
 use Rattle.places.specs.Lists.{chosen}
-use Rattle.places.specs.Places.{first, placeOr, leftOut}
+use Rattle.places.specs.Places.{first, placeOr}
 use Rattle.mirroring.specs.Mirrors.{enrolledOf}
 use Rattle.files.specs.File.{noFile, blankFile, fileOf, isFile, isVacant, openedFile, reclaimedFile, closedFile, repairedFile, forgettable, restartedFile, endedFile, isListed, isReady, sourceOf}
 use Rattle.files.specs.Head.{freshHead}
@@ -68,10 +68,16 @@ unfoldable pub repairedOf : ℕ → Record → Answered
 repairedOf n r = onPlace n (repairedFile n (r .head)) r
 
 -- ---- register and forget
--- a file is entered by its number: the first that is greater, and those after it up to the first free place, move up one place
+-- a file is entered by its number: from the first free place down, each file with a greater number moves up one place
+unfoldable pub raised : File → ℕ → List File → List File
+raised x zero fs = set fs 0 x
+raised x (suc i) fs = cond (leb (getD fs i noFile .number) (x .number)) (set fs (suc i) x) (raised x i (set fs (suc i) (getD fs i noFile)))
+
+unfoldable pub roomIn : List File → ℕ
+roomIn fs = placeOr 63 (first isVacant fs)
+
 unfoldable pub enter : File → List File → List File
-enter x [] = []
-enter x (y ∷ ys) = cond (isVacant y) (x ∷ ys) (cond (leb (y .number) (x .number)) (y ∷ enter x ys) (x ∷ enter y ys))
+enter x fs = raised x (roomIn fs) fs
 
 -- the free places are last
 abbrev pub isFull : Record → Bool
@@ -87,9 +93,17 @@ registerWith n e r =
 unfoldable pub registerOf : ℕ → List ℕ → Record → Answered
 registerOf n s r = cond (r .head .grace) (answered 10013 r) (registerWith n (enrolledOf s) r)
 
--- the files after the one that goes are pulled down over it
+-- the files after the one that goes, up to the first free place, are pulled down over it
+unfoldable pub pulled : List File → List File
+pulled [] = []
+pulled (x ∷ []) = blankFile ∷ []
+pulled (x ∷ y ∷ ys) = cond (isVacant y) (blankFile ∷ y ∷ ys) (y ∷ pulled (y ∷ ys))
+
+abbrev pub withoutFile : ℕ → List File → List File
+withoutFile i fs = take i fs ++ pulled (drop i fs)
+
 abbrev pub forgets : ℕ → ℕ → Record → Answered
-forgets s n r = cond (eqb s 0) (answered 0 (withFiles (leftOut blankFile (placeIn n r) (r .files)) r)) (answered s r)
+forgets s n r = cond (eqb s 0) (answered 0 (withFiles (withoutFile (placeIn n r) (r .files)) r)) (answered s r)
 
 unfoldable pub forgetOf : ℕ → Record → Answered
 forgetOf n r = forgets (forgettable n (r .head) (fileAt n r)) n r

@@ -7,11 +7,10 @@ use files::head::Head;
 ghost use mathlib.Core.Path.{_≡_};
 ghost use mathlib.Core.List.{map};
 ghost use Prim.Native.Nat.{_<_};
-ghost use Rattle.places.specs.Places.{leftOut};
-ghost use Rattle.files.specs.File.{blankFile, restartedFile, endedFile};
+ghost use Rattle.files.specs.File.{restartedFile, endedFile};
 ghost use Rattle.files.specs.Head.{editionOf};
 ghost use Rattle.files.specs.declared.head.Edition.the-variants.{Old};
-ghost use Rattle.recovery.specs.Record.{freshAs, fresh, answered, placeIn, putFile, enter, registerOf, openOf, reclaimOf, closeOf, repairedOf, forgetOf, endOf, restartOf};
+ghost use Rattle.recovery.specs.Record.{freshAs, fresh, answered, placeIn, putFile, roomIn, enter, withoutFile, registerOf, openOf, reclaimOf, closeOf, repairedOf, forgetOf, endOf, restartOf};
 
 #[repr(C)]
 pub struct Record {
@@ -26,45 +25,60 @@ pub struct Answered {
     pub after: Record,
 }
 
-// The files with `x` among them by its number: those after it move up one place, up to the first free place.
+// The first free place, or the last place.
+fn room(files: [File; 64]) -> usize
+    ensures { λ r. ⌜ (r ≡ roomIn files) × (r < 64) ⌝ }
+{
+    let mut k: usize = 0;
+    while k < 64 {
+        let f = files[k];
+        let free = f.free();
+        if free {
+            return k;
+        }
+        k = k + 1;
+    }
+    63
+}
+
+// The files with `x` among them by its number: from the first free place down, each with a greater number moves up one place.
 fn entered(files: [File; 64], x: File) -> [File; 64]
     ensures { λ r. ⌜ r ≡ enter x files ⌝ }
 {
     let mut fs = files;
-    let mut x = x;
-    let mut i: usize = 0;
-    while i < 64 {
-        let y = fs[i];
-        let free = y.free();
-        if free {
+    let mut i = room(files);
+    while 0 < i {
+        let y = fs[i - 1];
+        if y.number <= x.number {
             fs[i] = x;
             return fs;
         }
-        if y.number <= x.number {
-            i = i + 1;
-            continue;
-        }
-        fs[i] = x;
-        x = y;
-        i = i + 1;
+        fs[i] = y;
+        i = i - 1;
     }
+    fs[0] = x;
     fs
 }
 
-// The files without that at `at`: those after it move down one place.
+// The files without that at `at`: those after it, up to the first free place, move down one place.
 fn left_out(files: [File; 64], at: usize) -> [File; 64]
     requires { ⌜ at < 64 ⌝ }
-    ensures { λ r. ⌜ r ≡ leftOut blankFile at files ⌝ }
+    ensures { λ r. ⌜ r ≡ withoutFile at files ⌝ }
 {
     let mut fs = files;
+    let blank = File::blank();
     let mut i = at;
     while i < 63 {
         let y = fs[i + 1];
+        let free = y.free();
+        if free {
+            fs[i] = blank;
+            return fs;
+        }
         fs[i] = y;
         i = i + 1;
     }
-    let last = File::blank();
-    fs[63] = last;
+    fs[63] = blank;
     fs
 }
 

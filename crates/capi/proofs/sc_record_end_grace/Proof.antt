@@ -1,15 +1,23 @@
--- `sc_record_end_grace` meets its contract, by the law of a record in place over `Record::end_grace`.
-use mathlib.Core.List.{[]}
-use Rattle.walks.proofs.InPlace as in-place
+-- `sc_record_end_grace` meets its contract, by the law of a record that is changed whole where its head says so, over `ending` and `end_each`.
+use mathlib.Core.Path.{_≡_}
+use Rattle.records.proofs.Headed as headed
+use Rattle.files.specs.File.{endedFile}
 use Rattle.recovery.specs.Record.{endOf}
-use Rattle.recovery.proofs.record.Record.end_grace.Symbol as g
-use Rattle.recovery.proofs.record.Record.end_grace.Met as g-thm
-use Rattle.capi.proofs.Types.{whole, answered}
+use Rattle.capi.specs.Whole.{endVerdict, eachFile}
+use Rattle.capi.proofs.Types.{verdict}
+use Rattle.capi.proofs.Fields.{files, head, parts}
+use Rattle.capi.proofs.Whole.{ended-so}
+use Rattle.capi.proofs.ending.Symbol as g
+use Rattle.capi.proofs.ending.Met as g-thm
+use Rattle.capi.proofs.end_each.Symbol as h
+use Rattle.capi.proofs.end_each.Met as h-thm
 use Rattle.capi.proofs.sc_record_end_grace.Key.{name as #f}
 use Rattle.capi.proofs.sc_record_end_grace.Statement as stated
 use Rattle.capi.proofs.sc_record_end_grace.Code as code
 
 pub sc-record-end-grace-spec : {M : Type 1} → stated.statement M
-unfolding code.routine
+unfolding code.routine files head eachFile
 sc-record-end-grace-spec 𝓤 H 𝓜 𝓖 𝓡 =
-    in-place.of whole answered [] (λ h i. endOf h) 𝓤 H 𝓜 𝓖 𝓡 code.env #f g.name g.routine code.calls-recovery·record·Record·end-grace (code.unfolded 𝓤 H 𝓜 𝓡) (g-thm.met 𝓤 H 𝓜 𝓖 𝓡)
+    headed.spec parts verdict endVerdict (eachFile endedFile) (λ r s r′. (s ≡ endOf r .status) × (r′ ≡ endOf r .after)) ended-so
+    𝓤 H 𝓜 𝓖 𝓡 code.env #f (g.name, (h.name, tt)) (g.routine, (h.routine, tt)) (code.calls-capi·ending, (code.calls-capi·end-each, tt)) (code.unfolded 𝓤 H 𝓜 𝓡)
+    (g-thm.met 𝓤 H 𝓜 𝓖 𝓡, (h-thm.met 𝓤 H 𝓜 𝓖 𝓡, tt))

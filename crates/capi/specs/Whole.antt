@@ -1,0 +1,66 @@
+-- MODEL. Calls that change more than one file, as the code in place makes them: what such a call answers, and what becomes of the files. In this order: restart,
+-- the end of grace and a fresh record; register; forget. proofs/Whole.antt proves them equal to the definitions of crate recovery.
+use mathlib.Core.List.{List, map}
+use mathlib.Core.Bool.{Bool, true, false, not, cond}
+use Prim.Native.Nat.{ℕ}
+use lib.Dec.{leb}
+use Rattle.walks.specs.Seek.{seek}
+use Rattle.mirroring.specs.Mirrors.{enrolledOf}
+use Rattle.mirroring.specs.declared.enrol.Enrolled.{Enrolled}
+use Rattle.files.specs.File.{noFile, blankFile, fileOf, isFile, isVacant, fileAnswered, forgettable}
+use Rattle.files.specs.declared.file.File.{File}
+use Rattle.files.specs.declared.file.FileAnswered.{FileAnswered}
+use Rattle.files.specs.declared.head.Head.{Head}
+use Rattle.recovery.specs.Record.{withFiles, enter, withoutFile}
+use Rattle.recovery.specs.declared.record.Record.{Record}
+use Rattle.capi.specs.declared.Verdict.{Verdict}
+
+-- ---- all files
+abbrev pub verdict : ℕ → Head → Verdict
+verdict s h = record { status = s; head = h }
+
+abbrev pub inPhase : Bool → Head → Head
+inPhase g h = record { grace = g; old = h .old }
+
+abbrev pub restartVerdict : Head → Verdict
+restartVerdict h = verdict 0 (inPhase true h)
+
+abbrev pub endVerdict : Head → Verdict
+endVerdict h = cond (h .grace) (verdict 0 (inPhase false h)) (verdict 10033 h)
+
+abbrev pub emptiedFile : File → File
+emptiedFile f = blankFile
+
+unfoldable pub eachFile : (File → File) → Record → Record
+eachFile g r = withFiles (map g (r .files)) r
+
+-- ---- register
+abbrev pub refusedWith : ℕ → Head → FileAnswered
+refusedWith s h = fileAnswered s h blankFile
+
+-- f is the file n, or the last place
+abbrev pub admittedBy : ℕ → Head → Enrolled → File → FileAnswered
+admittedBy n h e f =
+    cond (e .good) (cond (isFile n f) (refusedWith 17 h) (cond (f .used) (refusedWith 28 h) (fileAnswered 0 h (fileOf n (e .mirrors))))) (refusedWith 22 h)
+
+unfoldable pub admittedOf : ℕ → Head → List ℕ → File → FileAnswered
+admittedOf n h s f = cond (h .grace) (refusedWith 10013 h) (admittedBy n h (enrolledOf s) f)
+
+abbrev pub isVacantPlace : Bool → ℕ → ℕ → Bool
+isVacantPlace used number key = not used
+
+unfoldable pub roomSought : ℕ → Record → ℕ
+roomSought key r = seek isVacant noFile (r .files) 63 0
+
+abbrev pub isBelow : ℕ → FileAnswered → Bool
+isBelow n s = leb n (s .file .number)
+
+unfoldable pub enteredFiles : Record → ℕ → FileAnswered → Record
+enteredFiles r at s = withFiles (enter (s .file) (r .files)) r
+
+-- ---- forget
+abbrev pub forgetVerdict : ℕ → Head → File → Verdict
+forgetVerdict n h f = verdict (forgettable n h f) h
+
+unfoldable pub pulledFiles : Record → ℕ → Verdict → Record
+pulledFiles r at s = withFiles (withoutFile at (r .files)) r

@@ -1,0 +1,21 @@
+-- Laws for functions over a record behind a reference that holds an array of structs and a head beside it, which the borrow checker does not cover, each form once. No function copies more of the record than one element at a time.
+-- A use is one proof file of about 20 to 35 lines, which names the law, the types and what the generated modules have.
+-- Loops over the array:
+--     Each             f(r: &mut T)  { for each i:  r.list[i] = g(r.list[i]) }
+--     Pulled           f(r: &mut T, at, s)  { what stands after a place is pulled down over it, up to a place that a test says }
+--     Raised           f(r: &mut T, at, s)  { those before a free place that a test says move up one place, and s.rec is entered }
+-- Calls that lend the record to such a function:
+--     Headed           f(r: &mut T) -> u32  { let s = g(r.head);  if s.status == 0 { h(r); }  r.head = s.head;  s.status }
+--     Passed           a CHANGE of crate walks' `Changed`:  if s.status == 0 { h(r, i, s); }
+--     Cleared          f(r: &mut T)  { h(r);  r.head = e(); }
+-- What these rest on, beside crate walks:
+--     Within           the call of a function that is handed the record where it lies
+--     Lists            a field that is an array as a list; tests that are known
+pub mod Cleared
+pub mod Each
+pub mod Headed
+pub mod Lists
+pub mod Passed
+pub mod Pulled
+pub mod Raised
+pub mod Within

@@ -1,0 +1,34 @@
+-- What the laws of this crate share: tests that are known, and a field that is an array, of which `Element.antt` of crate walks knows where it lies.
+--     holds, fails, no-less, not-less      a test that is known
+--     Lists El         the list of a record with another list there is that list, and the last list that is put there stays
+-- Assumes nothing.
+use mathlib.Core.Path.{_≡_, refl}
+use mathlib.Core.Bool.{Bool, true, false, not}
+use mathlib.Core.List.{List}
+use Prim.Native.Nat.{ℕ, _<_, _≤_}
+use native.Mathlib.Omega.{arith}
+use lib.Dec.{T as Tᵇ, ltb, ltb→lt}
+use denote.Struct.Declared.{Declared}
+use Rattle.walks.proofs.Element.{Elements}
+
+pub holds : (t : Bool) → Tᵇ t → t ≡ true
+holds true _ = refl
+holds false a = absurd a
+
+pub fails : (t : Bool) → Tᵇ (not t) → t ≡ false
+fails true a = absurd a
+fails false _ = refl
+
+pub not-less : (i n : ℕ) → n ≤ i → ltb i n ≡ false
+not-less i n l = by-test (ltb i n) (λ a. omega (arith, l, ltb→lt i n a))
+  where
+    by-test : (t : Bool) → (Tᵇ t → ⊥) → t ≡ false
+    by-test true f = absurd (f tt)
+    by-test false f = refl
+
+pub no-less : (n : ℕ) → ltb n n ≡ false
+no-less n = not-less n n (omega arith)
+
+pub record Lists {T F : Declared} (El : Elements T F) : Type 0 where
+  pub lists : (h : T .D) (ys : List (F .D)) → El .list (El .over h ys) ≡ ys
+  pub overs : (h : T .D) (ys zs : List (F .D)) → El .over (El .over h ys) zs ≡ El .over h zs

@@ -1,0 +1,113 @@
+/* The stack that each call on a record uses: the call runs on a painted stack of its own, once with each of two colours, and the lowest byte that is no
+ * longer paint says how deep it went. The record has 62 or 63 files, one of them with 7 or 8 intents; each call is answered as written beside it.
+ * Ends with 1 where a call takes more than LIMIT bytes or is answered otherwise. */
+#define _XOPEN_SOURCE 700
+#include "stellcircle.h"
+#include <stdio.h>
+#include <string.h>
+#include <ucontext.h>
+
+enum { STACK = 256 * 1024, FILES = 64, LIMIT = 2048 };
+static _Alignas(64) unsigned char stack[STACK];
+static ucontext_t here, there;
+static struct sc_record record, before;
+static uint8_t mirrors[64], request[52 + 4 + 60 + 4], bulk[16], reply[24], sources[FILES];
+static uint64_t files[FILES], count, read_bytes[4], written_bytes[4];
+static uint32_t read_over, written_over;
+static volatile uint32_t answer;
+
+static uint32_t layoutreturn(const uint8_t *s, size_t len)
+{
+    return sc_record_layoutreturn(&record, 7, 1, s, len, reply, sizeof reply, read_bytes, 4, written_bytes, 4, &read_over, &written_over);
+}
+
+static void nothing(void) { answer = 0; }
+static void fresh(void) { sc_record_fresh(&record); answer = 0; }
+static void fresh_old(void) { sc_record_fresh_old(&record); answer = 0; }
+static void enter(void) { answer = sc_record_register(&record, 5, mirrors, sizeof mirrors); }
+static void open_file(void) { answer = sc_record_open(&record, 7, 9); }
+static void close_file(void) { answer = sc_record_close(&record, 7, 9); }
+static void forget(void) { answer = sc_record_forget(&record, 5); }
+static void restart(void) { answer = sc_record_restart(&record); }
+static void reclaim(void) { answer = sc_record_reclaim(&record, 7, 1); }
+static void reports(void) { answer = layoutreturn(request, sizeof request); }
+static void handed_on(void) { answer = layoutreturn(bulk, sizeof bulk); }
+static void end_grace(void) { answer = sc_record_end_grace(&record); }
+static void repaired(void) { answer = sc_record_repaired(&record, 10); }
+static void resilver(void) { answer = sc_record_resilver(&record, files, FILES, sources, FILES, &count); }
+static void offered(void) { answer = sc_record_offered(&record, files, FILES, sources, FILES, &count); }
+
+/* in the order of a history */
+static const struct { const char *what; void (*call)(void); uint32_t answer; } calls[] = {
+    {"register", enter, 0}, {"open", open_file, 0}, {"close", close_file, 0}, {"forget", forget, 0}, {"restart", restart, 0}, {"reclaim", reclaim, 0},
+    {"LAYOUTRETURN", reports, 0}, {"LAYOUTRETURN, handed on", handed_on, SC_HANDED_ON}, {"end of grace", end_grace, 0}, {"resilver list", resilver, 0},
+    {"offered for copying", offered, 0}, {"repaired", repaired, 0}, {"fresh", fresh, 0}, {"fresh, old", fresh_old, 0},
+};
+
+static size_t painted(void (*call)(void), unsigned char paint)
+{
+    memset(stack, paint, STACK);
+    getcontext(&there);
+    there.uc_stack.ss_sp = stack;
+    there.uc_stack.ss_size = STACK;
+    there.uc_link = &here;
+    makecontext(&there, call, 0);
+    swapcontext(&here, &there);
+    size_t i = 0;
+    while (i < STACK && stack[i] == paint)
+        i++;
+    return STACK - i;
+}
+
+/* the deeper of two runs on the same record */
+static size_t used(void (*call)(void))
+{
+    before = record;
+    size_t first = painted(call, 0xa5);
+    record = before;
+    size_t second = painted(call, 0x5a);
+    return first > second ? first : second;
+}
+
+static void put32(uint8_t *p, uint32_t x)
+{
+    for (int i = 0; i < 4; i++)
+        p[i] = (uint8_t)(x >> (24 - 8 * i));
+}
+
+/* files 7, 10, 13 .. with four mirrors each; seven clients have opened 7, one of them 10; a request with an error of mirror 1, and one for all files */
+static void prepare(void)
+{
+    for (int i = 0; i < 4; i++)
+        memset(mirrors + 16 * i, 0xaa + 0x11 * i, 16);
+    sc_record_fresh(&record);
+    for (uint64_t k = 0; k < 62; k++)
+        sc_record_register(&record, 7 + 3 * k, mirrors, sizeof mirrors);
+    for (uint64_t c = 1; c < 8; c++)
+        sc_record_open(&record, 7, c);
+    sc_record_open(&record, 10, 1);
+    put32(request + 4, 4);
+    put32(request + 8, 2);
+    put32(request + 12, 1);
+    put32(request + 48, sizeof request - 52);
+    put32(request + 52, 1);
+    put32(request + 56 + 32, 1);
+    memcpy(request + 56 + 36, mirrors + 16, 16);
+    put32(request + 56 + 52, 5);
+    memcpy(bulk, request, sizeof bulk);
+    put32(bulk + 12, 2);
+}
+
+int main(void)
+{
+    int bad = 0;
+    prepare();
+    size_t none = used(nothing);
+    for (size_t k = 0; k < sizeof calls / sizeof calls[0]; k++) {
+        size_t n = used(calls[k].call) - none;
+        int otherwise = answer != calls[k].answer;
+        printf("%-24s %6zu bytes of stack%s%s\n", calls[k].what, n, n > LIMIT ? ", more than the limit" : "", otherwise ? ", answered otherwise" : "");
+        bad |= n > LIMIT || otherwise;
+    }
+    return bad;
+}
