@@ -8,6 +8,7 @@ use mirroring::mirrors::Mirror;
 use mirroring::mirrors::PLACES;
 use places::Found;
 ghost use mathlib.Core.Path.{_≡_};
+ghost use mathlib.Core.Bool.{true, cond};
 ghost use Rattle.files.specs.File.{noFile, blankFile, fileOf, isFile, isVacant, openedFile, reclaimedFile, closedFile, repairedFile, forgettable, restartedFile, endedFile, isListed, isReady, sourceOf, unreclaimedBar, changedFile};
 
 // The wide fields stand first. A place of the record is a file's if `used`.
@@ -277,29 +278,38 @@ impl File {
         self
     }
 
-    // The file after a restart: nobody has reclaimed.
-    pub fn restarted(mut self) -> File
+    // The file after a restart: nobody has reclaimed. By its fields, so that the compiler copies nothing that stays.
+    pub fn restarted(self) -> File
         ensures { λ r. ⌜ r ≡ restartedFile self ⌝ }
     {
         let old = self.intents;
         let xs = intents::unreclaimed(old);
-        self.intents = xs;
-        self
+        let ms = self.mirrors;
+        File {
+            number: self.number,
+            mirrors: ms,
+            intents: xs,
+            used: self.used,
+            marked: self.marked,
+        }
     }
 
-    // The file after the end of grace: marked if it has an intent that was not reclaimed; such intents are dropped.
-    pub fn ended(mut self) -> File
+    // The file after the end of grace: marked if it has an intent that was not reclaimed; such intents are dropped. By its fields, as after a restart.
+    pub fn ended(self) -> File
         ensures { λ r. ⌜ r ≡ endedFile self ⌝ }
     {
         let old = self.intents;
         let lost = intents::lost(old);
         let xs = intents::staying(old);
-        self.intents = xs;
-        if lost {
-            self.marked = true;
-            return self;
+        let ms = self.mirrors;
+        let marked = marked_if(lost, self.marked);
+        File {
+            number: self.number,
+            mirrors: ms,
+            intents: xs,
+            used: self.used,
+            marked: marked,
         }
-        self
     }
 
     // Whether the file is on the resilver list.
@@ -329,6 +339,13 @@ impl File {
         let ms = self.mirrors;
         mirroring::mirrors::source(ms)
     }
+}
+
+// The mark of a file that has lost an intent, or that it had.
+fn marked_if(lost: bool, marked: bool) -> bool
+    ensures { λ r. ⌜ r ≡ cond lost true marked ⌝ }
+{
+    if lost { true } else { marked }
 }
 
 // Whether something holds and nothing was reclaimed.

@@ -102,12 +102,15 @@ impl Intent {
         self
     }
 
-    // The place after a restart.
-    pub(crate) fn forget_reclaim(mut self) -> Intent
+    // The place after a restart; by its fields, so that the compiler stores one flag alone.
+    pub(crate) fn forget_reclaim(self) -> Intent
         ensures { λ r. ⌜ r ≡ unreclaimedIntent self ⌝ }
     {
-        self.reclaimed = false;
-        self
+        Intent {
+            client: self.client,
+            taken: self.taken,
+            reclaimed: false,
+        }
     }
 }
 

@@ -9,7 +9,7 @@ unreclaimed-requires c κs = search needs
 
 returns : tie.Need-returns
 unfolding restartedFile
-returns c = rw (c .unreclaimed .ensures)
+returns c = rw (c .before .unreclaimed .ensures)
 
 pub restarted-spec : {M : Type 1} → statement M
 restarted-spec = tie.close (tie.spec unreclaimed-requires returns)
