@@ -2,6 +2,7 @@
 // In order: the kinds of stateid; what a request asks for; step 1; step 2; the test of the stateid; `read`, the answer of the three steps; the same for C.
 use xdr::fields::pad;
 use xdr::fields::same;
+use xdr::fields::same_words;
 ghost use mathlib.Core.Path.{_≡_};
 ghost use Prim.Native.Nat.{_≤_};
 ghost use lib.ListN.{length};
@@ -117,31 +118,31 @@ fn kind_of(stateid: &[u8]) -> Kind
     requires { ⌜ length (now stateid) ≡ 16 ⌝ }
     ensures { λ r. ⌜ r ≡ stateidKind (now (stateid .entry)) ⌝ }
 {
-    if same(
+    if same_words(
         stateid,
         b"\x00\x00\x00\x00\x00\x00\x00\x00\x00\x00\x00\x00\x00\x00\x00\x00",
     ) {
         return Kind::Anonymous;
     }
-    if same(
+    if same_words(
         stateid,
         b"\xff\xff\xff\xff\xff\xff\xff\xff\xff\xff\xff\xff\xff\xff\xff\xff",
     ) {
         return Kind::Bypass;
     }
-    if same(
+    if same_words(
         stateid,
         b"\x00\x00\x00\x01\x00\x00\x00\x00\x00\x00\x00\x00\x00\x00\x00\x00",
     ) {
         return Kind::Current;
     }
-    if same(
+    if same_words(
         &stateid[4..16],
         b"\x00\x00\x00\x00\x00\x00\x00\x00\x00\x00\x00\x00",
     ) {
         return Kind::Invalid;
     }
-    if same(
+    if same_words(
         &stateid[4..16],
         b"\xff\xff\xff\xff\xff\xff\xff\xff\xff\xff\xff\xff",
     ) {

@@ -5,74 +5,74 @@ use borrow.Author.Needs.{needs}
 use Rattle.wire.proofs.request.kind_of.Statement.{statement}
 use Rattle.wire.proofs.request.kind_of.Tie as tie
 
-slice-aggregate-same : tie.Need-slice-aggregate-same
-slice-aggregate-same c = search needs
+slice-aggregate-same-words : tie.Need-slice-aggregate-same-words
+slice-aggregate-same-words c = search needs
 
-same-requires : tie.Need-same-requires
-same-requires c κs = search needs
+same-words-requires : tie.Need-same-words-requires
+same-words-requires c κs = search needs
 
 returns : tie.Need-returns
-returns c = is-anonymous (c .before .before .before .before .args .stateid .now) (omega arith) (c .before .same .ensures) (c .if1 .taken)
+returns c = is-anonymous (c .before .before .before .before .args .stateid .now) (omega arith) (c .before .same-words .ensures) (c .if1 .taken)
 
-slice-aggregate-same-2 : tie.Need-slice-aggregate-same-2
-slice-aggregate-same-2 c = search needs
+slice-aggregate-same-words-2 : tie.Need-slice-aggregate-same-words-2
+slice-aggregate-same-words-2 c = search needs
 
-same-requires-2 : tie.Need-same-requires-2
-same-requires-2 c κs = search needs
+same-words-requires-2 : tie.Need-same-words-requires-2
+same-words-requires-2 c κs = search needs
 
 returns-2 : tie.Need-returns-2
 returns-2 c =
     let e1 = c .before .before .before in
-    is-bypass (e1 .before .before .before .before .args .stateid .now) (omega arith) (e1 .before .same .ensures) (e1 .if1 .left) (c .before .same2 .ensures) (c .if2 .taken)
+    is-bypass (e1 .before .before .before .before .args .stateid .now) (omega arith) (e1 .before .same-words .ensures) (e1 .if1 .left) (c .before .same-words2 .ensures) (c .if2 .taken)
 
-slice-aggregate-same-3 : tie.Need-slice-aggregate-same-3
-slice-aggregate-same-3 c = search needs
+slice-aggregate-same-words-3 : tie.Need-slice-aggregate-same-words-3
+slice-aggregate-same-words-3 c = search needs
 
-same-requires-3 : tie.Need-same-requires-3
-same-requires-3 c κs = search needs
+same-words-requires-3 : tie.Need-same-words-requires-3
+same-words-requires-3 c κs = search needs
 
 returns-3 : tie.Need-returns-3
 returns-3 c =
     let e2 = c .before .before .before in
     let e1 = e2 .before .before .before in
-    is-current (e1 .before .before .before .before .args .stateid .now) (omega arith) (e1 .before .same .ensures) (e1 .if1 .left) (e2 .before .same2 .ensures) (e2 .if2 .left) (c .before .same3 .ensures) (c .if3 .taken)
+    is-current (e1 .before .before .before .before .args .stateid .now) (omega arith) (e1 .before .same-words .ensures) (e1 .if1 .left) (e2 .before .same-words2 .ensures) (e2 .if2 .left) (c .before .same-words3 .ensures) (c .if3 .taken)
 
-sub-same : tie.Need-sub-same
-sub-same c = search needs
+sub-same-words : tie.Need-sub-same-words
+sub-same-words c = search needs
 
-part-same-start : tie.Need-part-same-start
-part-same-start c = search needs
+part-same-words-start : tie.Need-part-same-words-start
+part-same-words-start c = search needs
 
-part-same-end : tie.Need-part-same-end
-part-same-end c = search needs
+part-same-words-end : tie.Need-part-same-words-end
+part-same-words-end c = search needs
 
-slice-aggregate-same-4 : tie.Need-slice-aggregate-same-4
-slice-aggregate-same-4 c = search needs
+slice-aggregate-same-words-4 : tie.Need-slice-aggregate-same-words-4
+slice-aggregate-same-words-4 c = search needs
 
-same-requires-4 : tie.Need-same-requires-4
-same-requires-4 c κs = search needs
+same-words-requires-4 : tie.Need-same-words-requires-4
+same-words-requires-4 c κs = search needs
 
 returns-4 : tie.Need-returns-4
 returns-4 c =
     let e3 = c .before .before .before .before in
     let e2 = e3 .before .before .before in
     let e1 = e2 .before .before .before in
-    is-of-zeros (e1 .before .before .before .before .args .stateid .now) (omega arith) (e1 .before .same .ensures) (e1 .if1 .left) (e2 .before .same2 .ensures) (e2 .if2 .left) (e3 .before .same3 .ensures) (e3 .if3 .left) (c .before .same4 .ensures) (c .if4 .taken)
+    is-of-zeros (e1 .before .before .before .before .args .stateid .now) (omega arith) (e1 .before .same-words .ensures) (e1 .if1 .left) (e2 .before .same-words2 .ensures) (e2 .if2 .left) (e3 .before .same-words3 .ensures) (e3 .if3 .left) (c .before .same-words4 .ensures) (c .if4 .taken)
 
-sub-same-2 : tie.Need-sub-same-2
-sub-same-2 c = search needs
+sub-same-words-2 : tie.Need-sub-same-words-2
+sub-same-words-2 c = search needs
 
-part-same-start-2 : tie.Need-part-same-start-2
-part-same-start-2 c = search needs
+part-same-words-start-2 : tie.Need-part-same-words-start-2
+part-same-words-start-2 c = search needs
 
-part-same-end-2 : tie.Need-part-same-end-2
-part-same-end-2 c = search needs
+part-same-words-end-2 : tie.Need-part-same-words-end-2
+part-same-words-end-2 c = search needs
 
-slice-aggregate-same-5 : tie.Need-slice-aggregate-same-5
-slice-aggregate-same-5 c = search needs
+slice-aggregate-same-words-5 : tie.Need-slice-aggregate-same-words-5
+slice-aggregate-same-words-5 c = search needs
 
-same-requires-5 : tie.Need-same-requires-5
-same-requires-5 c κs = search needs
+same-words-requires-5 : tie.Need-same-words-requires-5
+same-words-requires-5 c κs = search needs
 
 returns-5 : tie.Need-returns-5
 returns-5 c =
@@ -80,7 +80,7 @@ returns-5 c =
     let e3 = e4 .before .before .before .before in
     let e2 = e3 .before .before .before in
     let e1 = e2 .before .before .before in
-    is-of-ones (e1 .before .before .before .before .args .stateid .now) (omega arith) (e1 .before .same .ensures) (e1 .if1 .left) (e2 .before .same2 .ensures) (e2 .if2 .left) (e3 .before .same3 .ensures) (e3 .if3 .left) (e4 .before .same4 .ensures) (e4 .if4 .left) (c .before .same5 .ensures) (c .if5 .taken)
+    is-of-ones (e1 .before .before .before .before .args .stateid .now) (omega arith) (e1 .before .same-words .ensures) (e1 .if1 .left) (e2 .before .same-words2 .ensures) (e2 .if2 .left) (e3 .before .same-words3 .ensures) (e3 .if3 .left) (e4 .before .same-words4 .ensures) (e4 .if4 .left) (c .before .same-words5 .ensures) (c .if5 .taken)
 
 returns-6 : tie.Need-returns-6
 returns-6 c =
@@ -88,31 +88,31 @@ returns-6 c =
     let e3 = e4 .before .before .before .before in
     let e2 = e3 .before .before .before in
     let e1 = e2 .before .before .before in
-    is-ordinary (e1 .before .before .before .before .args .stateid .now) (omega arith) (e1 .before .same .ensures) (e1 .if1 .left) (e2 .before .same2 .ensures) (e2 .if2 .left) (e3 .before .same3 .ensures) (e3 .if3 .left) (e4 .before .same4 .ensures) (e4 .if4 .left) (c .before .same5 .ensures) (c .if5 .left)
+    is-ordinary (e1 .before .before .before .before .args .stateid .now) (omega arith) (e1 .before .same-words .ensures) (e1 .if1 .left) (e2 .before .same-words2 .ensures) (e2 .if2 .left) (e3 .before .same-words3 .ensures) (e3 .if3 .left) (e4 .before .same-words4 .ensures) (e4 .if4 .left) (c .before .same-words5 .ensures) (c .if5 .left)
 
 pub kind-of-spec : {M : Type 1} → statement M
 kind-of-spec =
     tie.close
     (tie.spec
-    slice-aggregate-same
-    same-requires
+    slice-aggregate-same-words
+    same-words-requires
     returns
-    slice-aggregate-same-2
-    same-requires-2
+    slice-aggregate-same-words-2
+    same-words-requires-2
     returns-2
-    slice-aggregate-same-3
-    same-requires-3
+    slice-aggregate-same-words-3
+    same-words-requires-3
     returns-3
-    sub-same
-    part-same-start
-    part-same-end
-    slice-aggregate-same-4
-    same-requires-4
+    sub-same-words
+    part-same-words-start
+    part-same-words-end
+    slice-aggregate-same-words-4
+    same-words-requires-4
     returns-4
-    sub-same-2
-    part-same-start-2
-    part-same-end-2
-    slice-aggregate-same-5
-    same-requires-5
+    sub-same-words-2
+    part-same-words-start-2
+    part-same-words-end-2
+    slice-aggregate-same-words-5
+    same-words-requires-5
     returns-5
     returns-6)
