@@ -29,7 +29,6 @@ heading = record { T = B.the-type; laws = B′.the-laws; plain = B′.the-plain;
 abbrev pub file : Rec
 file = record { T = F.the-type; laws = F′.the-laws; plain = F′.the-plain; lowers = F′.lowers }
 
-
 abbrev pub file-answered : Stored heading file
 file-answered = record { name = A.the-type .name; D = FileAnswered; status = λ s. s .status; head = λ s. s .head; rec = λ s. s .file; one = A.the-type .to-one }
 

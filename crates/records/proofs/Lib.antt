@@ -3,6 +3,7 @@
 -- Loops over the array:
 --     Each             f(r: &mut T)  { for each i:  r.list[i] = g(r.list[i]) }
 --     Pulled           f(r: &mut T, at, s)  { what stands after a place is pulled down over it, up to a place that a test says }
+--     Listed           f(r: &T, a, b, count) -> u32  { for each i, several times over:  c = g(r.list[i % N], i, c, a, b), with two slices that are lent again at each turn }
 --     Raised           f(r: &mut T, at, s)  { those before a free place that a test says move up one place, and s.rec is entered }
 -- Calls that lend the record to such a function:
 --     Headed           f(r: &mut T) -> u32  { let s = g(r.head);  if s.status == 0 { h(r); }  r.head = s.head;  s.status }
@@ -10,10 +11,13 @@
 --     Cleared          f(r: &mut T)  { h(r);  r.head = e(); }
 -- What these rest on, beside crate walks:
 --     Within           the call of a function that is handed the record where it lies
+--     Again            a slice that is lent again for a call, and comes back
 --     Lists            a field that is an array as a list; tests that are known
+pub mod Again
 pub mod Cleared
 pub mod Each
 pub mod Headed
+pub mod Listed
 pub mod Lists
 pub mod Passed
 pub mod Pulled
