@@ -552,6 +552,15 @@ static uint32_t rdma_write(const struct columns *c, struct lent out, uint64_t *p
 static const struct kind scsi = {44, false, sc_layout_check, scsi_extent, scsi_write};
 static const struct kind rdma = {48, true, sc_rdma_layout_check, rdma_extent, rdma_write};
 
+/* SCSI lists that are merged before they are written. */
+static uint32_t scsi_merge(const struct columns *c, struct lent out, uint64_t *place)
+{
+    return sc_layout_merge(bytes_of(c->devices), c->devices.len, numbers_of(c->offsets), c->n, numbers_of(c->lengths), c->n, numbers_of(c->storages), c->n,
+                           small_numbers_of(c->states), c->n, bytes_of(out), out.len, place);
+}
+
+static const struct kind merged = {44, false, sc_layout_check, scsi_extent, scsi_merge};
+
 /* Prints the n extents of an accepted body, as the library hands them out. */
 static void print_body(const struct kind *k, struct lent body, uint64_t n)
 {
@@ -630,7 +639,7 @@ static bool run_write(const struct command *c, const struct word *argument)
     struct columns list = columns_of(k, extents);
     struct lent out = lend((size_t)room);
     uint32_t answer = k->write(&list, out, &place);
-    size_t written = answer == 0 ? 4 + k->extent_size * list.n : 0;
+    size_t written = answer == 0 ? 4 + k->extent_size * (size_t)place : 0;
     check_lent(out, written, "bytes past the written body changed");
     check_held();
     if (answer == 0) {
@@ -733,6 +742,7 @@ static const struct command commands[] = {
     {"rdma", 1, run_layout, {.kind = &rdma}},
     {"write", 2, run_write, {.kind = &scsi}},
     {"rdmawrite", 2, run_write, {.kind = &rdma}},
+    {"merge", 2, run_write, {.kind = &merged}},
     {"join", 1, run_on_node, {.node = sc_epochs_join}},
     {"leave", 1, run_on_node, {.node = sc_epochs_leave}},
     {"start", 1, run_on_node, {.node = sc_epochs_start}},

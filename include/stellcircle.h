@@ -91,6 +91,17 @@ uint32_t sc_rdma_layout_write(const uint8_t *devices, size_t devices_len, const 
                               const uint64_t *storages, size_t storages_len, const uint32_t *states, size_t states_len,
                               uint8_t *out, size_t out_len, uint64_t *place);
 
+/* Merges a list of up to 4,096 extents, lent as columns like the writer's, and writes the result as a body at the start of out. Extents of the same
+ * state and device are joined where one begins, in the file and in storage, just where the other ends, also where others stand between them in the
+ * list; for holes (state 3) only the file counts, and every hole that is written has device and storage offset 0. Each byte of the file keeps its
+ * state, device and storage byte, and no list of that meaning is shorter.
+ * 0: written, and *place is how many extents are left; the first 4 + 44n bytes of out are the body, and the rest is as it was.
+ * Else the refusal, and out is as it was: 1 for uneven columns, 2 above 4,096, then 3 to 7 with the extent's place in the list; 28 (NOSPC) if more
+ * than 1,024 extents are left, then 8, all of 1, 2, 28 and 8 with *place 0. */
+uint32_t sc_layout_merge(const uint8_t *devices, size_t devices_len, const uint64_t *offsets, size_t offsets_len,
+                         const uint64_t *lengths, size_t lengths_len, const uint64_t *storages, size_t storages_len,
+                         const uint32_t *states, size_t states_len, uint8_t *out, size_t out_len, uint64_t *place);
+
 /* ---- LAYOUTRETURN requests (RFC 8881) and their bodies, error and statistics records (RFC 8435) ----
  *
  * Pure checks: any bytes are good input. Every number that is lent is written on every call, unless said otherwise.

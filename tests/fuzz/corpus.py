@@ -5,7 +5,7 @@ import os
 import sys
 
 CAPTURES = os.path.join(os.path.dirname(os.path.abspath(__file__)), "..", "captures")
-LAYOUT = 0
+LAYOUT, MERGE = 0, 2
 LAYOUTRETURN, GRACE, REGISTERED, INTENT, TWO_MIRRORS, FOUR_MIRRORS, OLD, ROOM_40 = 1, 2, 4, 8, 1 << 4, 3 << 4, 1 << 6, 2 << 6
 CHOICES = [
     LAYOUTRETURN | GRACE | REGISTERED | INTENT | FOUR_MIRRORS,
@@ -68,9 +68,24 @@ def at_the_edge(request):
             yield request[:48] + len(body).to_bytes(4, "big") + body
 
 
+def touching():
+    """Extents in a row, of one state or read beside invalid, the last of which joins the first, or is kept from it by its device, storage or offset."""
+    def extent(state, offset, storage, device=7):
+        return bytes([device] * 16) + b"".join(number.to_bytes(8, "big") for number in (offset, 4, storage)) + state.to_bytes(4, "big")
+
+    for state in range(4):
+        for last in (extent(state, 8, 108), extent(state, 8, 108, 8), extent(state, 8, 109), extent(state, 9, 109)):
+            yield extent(state, 0, 100) + extent(state, 4, 104) + last
+    yield extent(1, 0, 100) + extent(2, 0, 500) + extent(1, 4, 104) + extent(2, 4, 504)
+    yield b"".join(extent(0, 5 * i, 5 * i) for i in range(1025))
+
+
 def seeds():
     for body in hex_words("layout-bodies.txt"):
         yield bytes([LAYOUT]) + body
+        yield bytes([MERGE]) + body[4:]
+    for extents in touching():
+        yield bytes([MERGE]) + extents
     for name in ("layoutreturn-damaged.txt", "linux-layoutreturn.txt"):
         for request in hex_words(name):
             for choice in CHOICES:

@@ -1,9 +1,10 @@
-/* The fuzz target for the wire checks: layout bodies, and LAYOUTRETURN on a record of one file. Any difference from plain C (tests/plain) aborts.
-   The first byte chooses: bit 0 layout body or LAYOUTRETURN; for the latter bit 1 grace, 2 registered, 3 intent, 4 and 5 how many mirrors, 6 and 7
+/* The fuzz target for the wire checks: layout bodies, lists of extents to be merged, and LAYOUTRETURN on a record of one file. Any difference from plain C (tests/plain) aborts.
+   The first byte chooses: bit 0 layout body or LAYOUTRETURN; for the former bit 1 a list to be merged; for the latter bit 1 grace, 2 registered, 3 intent, 4 and 5 how many mirrors, 6 and 7
    the edition and the reply's room. The other bytes are the body or the request, whose length also chooses how many totals are lent. The libraries are
    not instrumented (plain C is, and steers towards new cases), so every body, request, reply and total lent to them lies against a page that can't be touched, once at its start and once at its
-   end. In this order: pages; layout bodies; reports; LAYOUTRETURN; the target. */
+   end. In this order: pages; layout bodies; merging; reports; LAYOUTRETURN; the target. */
 #define _DEFAULT_SOURCE
+#include "bytes.h"
 #include "plain.h"
 #include "stellcircle.h"
 
@@ -49,7 +50,7 @@ static uint8_t *at_edge(uint8_t *region, size_t len, bool end)
 }
 
 /* A region for each thing that is lent. */
-enum { INPUT, REPLY, READ, WRITTEN, READ_OVER, WRITTEN_OVER, REGIONS };
+enum { INPUT, REPLY, READ, WRITTEN, READ_OVER, WRITTEN_OVER, WANTED, STORAGES, STATES, REGIONS };
 
 static uint8_t *regions[REGIONS];
 
@@ -96,6 +97,35 @@ static void layout(const uint8_t *bytes, size_t len, bool end)
 {
     checked(sc_layout_check, plain_layout_check, bytes, len, end);
     checked(sc_rdma_layout_check, plain_rdma_layout_check, bytes, len, end);
+}
+
+/* ---- Merging ---- */
+
+/* The columns of a list, lent at an edge each. */
+enum { LONGEST = 1400 };
+
+static void merge(const uint8_t *bytes, size_t len, bool end)
+{
+    size_t n = len / 44 < LONGEST ? len / 44 : LONGEST, room = len % 44 < 2 ? 4 + 44 * n : 4 + 44 * (len % 44 - 2);
+    uint8_t *devs = at_edge(regions[INPUT], 16 * n, end), *out = at_edge(regions[REPLY], room, end), *wanted_out = at_edge(regions[WANTED], room, end);
+    uint64_t *offs = (uint64_t *)(void *)at_edge(regions[READ], 8 * n, end), *lens = (uint64_t *)(void *)at_edge(regions[WRITTEN], 8 * n, end);
+    uint64_t *stos = (uint64_t *)(void *)at_edge(regions[STORAGES], 8 * n, end), place = UINT64_MAX, wanted_place = UINT64_MAX;
+    uint32_t *sts = (uint32_t *)(void *)at_edge(regions[STATES], 4 * n, end);
+    for (size_t i = 0; i < n; i++) {
+        memcpy(devs + 16 * i, bytes + 44 * i, 16);
+        offs[i] = be64(bytes + 44 * i + 16);
+        lens[i] = be64(bytes + 44 * i + 24);
+        stos[i] = be64(bytes + 44 * i + 32);
+        sts[i] = be32(bytes + 44 * i + 40);
+    }
+    memset(out, FILL, room);
+    memset(wanted_out, FILL, room);
+    uint32_t wanted = plain_layout_merge(devs, 16 * n, offs, n, lens, n, stos, n, sts, n, wanted_out, room, &wanted_place);
+    same("merge number", sc_layout_merge(devs, 16 * n, offs, n, lens, n, stos, n, sts, n, out, room, &place), wanted);
+    same("merge place", place, wanted_place);
+    same("merge bytes", memcmp(out, wanted_out, room) == 0, true);
+    if (wanted == 0)
+        same("merged body", sc_layout_check(out, 4 + 44 * (size_t)place, &wanted_place), 0);
 }
 
 /* ---- Reports ---- */
@@ -248,7 +278,7 @@ int LLVMFuzzerTestOneInput(const uint8_t *data, size_t size)
         if (data[0] & 1)
             layoutreturn(data[0], data + 1, size - 1, end);
         else
-            layout(data + 1, size - 1, end);
+            (data[0] & 2 ? merge : layout)(data + 1, size - 1, end);
     }
     return 0;
 }

@@ -89,7 +89,7 @@ pub fn write(kind: Kind, room: usize, extents: &[Extent]) -> Result<Vec<u8>, Ref
 }
 
 /// Extent by extent, from the first.
-fn judge_all(extents: &[Extent]) -> Result<(), Refusal> {
+pub fn judge_all(extents: &[Extent]) -> Result<(), Refusal> {
     for place in 0..extents.len() {
         if let Some(number) = judge(&extents[..place], &extents[place]) {
             return Err((number, place));

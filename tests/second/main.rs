@@ -1,10 +1,11 @@
 //! The second program: speaks the lines of replay (man/stellcircle-replay.1) and prints the same, but is written from the paper alone, over maps and sets.
-//! In this order: refusals; the commands; what they print; one line; main. `words` reads words, `layout`, `layoutreturn`, `ledger` and `epochs` hold the rules, `examples` the marked ones.
+//! In this order: refusals; the commands; what they print; one line; main. `words` reads words, `layout`, `merge`, `layoutreturn`, `ledger` and `epochs` hold the rules, `examples` the marked ones.
 
 mod epochs;
 mod layout;
 mod layoutreturn;
 mod ledger;
+mod merge;
 mod words;
 
 #[cfg(test)]
@@ -67,6 +68,7 @@ impl Desk {
             ("layout", [b]) => Some(laid_out(Kind::Scsi, &bytes(b, MAX_BODY)?)),
             ("rdma", [b]) => Some(laid_out(Kind::Rdma, &bytes(b, MAX_BODY)?)),
             ("write", [r, e]) => Some(written(Kind::Scsi, room(r)?, &list(Kind::Scsi, &bytes(e, MAX_LIST)?)?)),
+            ("merge", [r, e]) => Some(put(merge::merge(&list(Kind::Scsi, &bytes(e, MAX_LIST)?)?, room(r)?))),
             ("rdmawrite", [r, e]) => Some(written(Kind::Rdma, room(r)?, &list(Kind::Rdma, &bytes(e, MAX_LIST)?)?)),
             ("fresh", []) => {
                 *self = Desk::fresh(Edition::Current);
@@ -154,7 +156,12 @@ fn laid_out(kind: Kind, body: &[u8]) -> String {
 
 /// The line for a list that is written into so many bytes.
 fn written(kind: Kind, room: usize, extents: &[Extent]) -> String {
-    match layout::write(kind, room, extents) {
+    put(layout::write(kind, room, extents))
+}
+
+/// The line for a body that is written, or refused.
+fn put(body: Result<Vec<u8>, layout::Refusal>) -> String {
+    match body {
         Err((number, place)) => format!("refused {number} at {place}"),
         Ok(body) => format!("0 {}", body.iter().map(|b| format!("{b:02x}")).collect::<String>()),
     }

@@ -25,7 +25,7 @@ fn handles_count(kind: Kind, handles: &[u32], n: usize) -> bool
 }
 
 // Whether the columns hold the same whole number of extents.
-fn same_count(
+pub fn same_count(
     kind: Kind,
     devices: &[u8],
     offsets: &[u64],
@@ -82,7 +82,7 @@ fn scan(
 }
 
 // Stores the extent at place i; `h` is the size of a handle.
-fn put_row(
+pub fn put_row(
     kind: Kind,
     h: usize,
     d: &mut [u8],

@@ -1,4 +1,4 @@
--- LAYOUTRETURN. Requests, RequestModel: the request. Handed, Walk: C's walks of a report. Replies: the reply. RequestExamples: computed examples. Layouts: layout bodies for C.
+-- LAYOUTRETURN. Requests, RequestModel: the request. Handed, Walk: C's walks of a report. Replies: the reply. RequestExamples: computed examples. Layouts, Merged: layout bodies for C.
 pub mod Requests
 pub mod Stateids
 pub mod RequestModel
@@ -7,3 +7,4 @@ pub mod Handed
 pub mod Walk
 pub mod Replies
 pub mod Layouts
+pub mod Merged

@@ -10,7 +10,7 @@ ghost use Rattle.layouts.specs.Layout.{checkBody, extentIn, GaveC};
 ghost use Rattle.layouts.specs.Columns.{WroteC};
 
 // 0, or the number of the rule that refuses; through `place` how many extents there are, or the place of the refused one.
-fn numbers(v: Verdict, place: &mut u64) -> u32
+pub fn numbers(v: Verdict, place: &mut u64) -> u32
     ensures { λ r. ⌜ (r ≡ numberOf v) × (now (place .exit) ≡ placeOf v) ⌝ }
 {
     match v {

@@ -3,6 +3,7 @@
 
 use crate::bodies::{layout_body, list_to_write};
 use crate::lines::{at_the_limits, dressed, spoilt};
+use crate::merges::{merge_list, merge_size};
 use crate::random::{hex, Device, Random};
 use crate::requests::request;
 use std::io::{self, Write};
@@ -442,6 +443,19 @@ impl<W: Write> Campaigns<W> {
         Ok(())
     }
 
+    /// Lists to be merged, into a buffer that has room for them all, for some or for none.
+    fn merges(&mut self) -> Done {
+        for _ in 0..40 {
+            let n = merge_size(&mut self.r);
+            let list = merge_list(&mut self.r, n);
+            let all = 4 + 44 * n as u64;
+            let some = 4 + 44 * self.r.below(n as u64 + 1);
+            let room = self.r.pick(&[45_060, 45_060, 65_536, all.min(65_536), some.min(65_536), some.saturating_sub(1).min(65_536), 0]);
+            self.call(&format!("merge {room} {}", hex(&list)))?;
+        }
+        Ok(())
+    }
+
     /// Lines spoilt and dressed, comments and empty lines among calls whose answers would show a change.
     fn lines(&mut self) -> Done {
         let pool = self.pool(2, 2, 3);
@@ -495,7 +509,7 @@ impl<W: Write> Campaigns<W> {
     }
 
     pub fn run(mut self, calls: u64) -> Done {
-        const KINDS: [(u64, u32); 11] = [(30, 0), (12, 1), (10, 2), (6, 3), (50, 4), (10, 5), (18, 6), (10, 7), (24, 8), (60, 9), (12, 10)];
+        const KINDS: [(u64, u32); 12] = [(30, 0), (12, 1), (10, 2), (6, 3), (50, 4), (10, 5), (18, 6), (10, 7), (24, 8), (60, 9), (12, 10), (18, 11)];
         self.limits()?;
         while self.calls < calls {
             match self.r.weighted(&KINDS) {
@@ -509,7 +523,8 @@ impl<W: Write> Campaigns<W> {
                 7 => self.lines()?,
                 8 => self.returning()?,
                 9 => self.counts()?,
-                _ => self.requests()?,
+                10 => self.requests()?,
+                _ => self.merges()?,
             }
         }
         self.out.flush()

@@ -68,6 +68,8 @@ pub fn at_the_limits() -> Vec<String> {
             format!("rdmawrite 0 {}", zeros(48 * (4_096 + over))),
             format!("write 48 {}", zeros(44 + over)),
             format!("rdmawrite 52 {}", zeros(48 + over)),
+            format!("merge 6553{} -", 6 + over),
+            format!("merge 65536 {}", zeros(44 + over)),
             format!("restart{}", " ".repeat(524_288 - 7 + over)),
             format!("#{}", "x".repeat(524_287 + over)),
             " ".repeat(524_288 + over),

@@ -1,0 +1,1 @@
+// Extents that belong together (Ticket 9): definitions in specs/, the theorems in proofs/; no code. Crate `joining` merges by them.
