@@ -1,6 +1,6 @@
 /* The calls on a full record (64 files, 8 intents each): first with files and clients in random order, which no branch predictor learns, then the calls
  * that have a limit with both in rising order, which it does. A call on one file may take 1.5 times gcc's time in either order, a LAYOUTRETURN with statistics
- * 1.2 times, register and restart 2.0 times, and forget 2.6 times, which copies file by file where plain C moves them at once; the others have no limit. */
+ * 1.2 times, register, forget, restart, the end of grace and the lists 2.0 times. */
 #include "bench.h"
 #include "bytes.h"
 #include "plain.h"
@@ -74,13 +74,13 @@ static const struct bench_job jobs[] = {
     {"LAYOUTRETURN, 1 statistics record", MANY, 1.2, BOTH(grace_4, statistics_1)},
     {"LAYOUTRETURN, 20 error records, 4 statistics", MANY, 1.2, BOTH(grace_4, statistics_4)},
     {"LAYOUTRETURN, 17 error records, 8 statistics", MANY, 1.2, BOTH(grace_4, statistics_8)},
-    {"LAYOUTRETURN, handed on", MANY, 0, BOTH(grace, handed_on)},
+    {"LAYOUTRETURN, handed on", MANY, 1.5, BOTH(grace, handed_on)},
     {"register", FILES, 2.0, BOTH(empty, enter)},
-    {"forget", FILES, 2.6, BOTH(idle, forget)},
+    {"forget", FILES, 2.0, BOTH(idle, forget)},
     {"restart", FILES, 2.0, BOTH(half, restart)},
-    {"end of grace", 1, 0, BOTH(half, end)},
-    {"resilver list, 64 files", FILES, 0, BOTH(lost, resilver)},
-    {"offered for copying, 64 files", FILES, 0, BOTH(lost, offered)},
+    {"end of grace", 1, 2.0, BOTH(half, end)},
+    {"resilver list, 64 files", FILES, 2.0, BOTH(lost, resilver)},
+    {"offered for copying, 64 files", FILES, 2.0, BOTH(lost, offered)},
 };
 
 /* an opaque field */

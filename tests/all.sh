@@ -9,7 +9,7 @@ tests/layoutreturn/run.sh
 tests/epochs/run.sh
 tests/capi/run.sh
 tests/stack/run.sh
-bench/copies.sh target/staticlib/libcapi.a
+bench/copies.sh build/libstellcircle.a
 tests/install.sh
 rustc -O --edition 2021 -o target/tests/second tests/second/main.rs
 rustc -O --edition 2021 --test -o target/tests/examples tests/second/main.rs

@@ -1,4 +1,4 @@
-/* The stack that each call on a record uses: the call runs on a painted stack of its own, once with each of two colours, and the lowest byte that is no
+/* The stack that each call uses: those on a record, on layout bodies and requests, on epochs. The call runs on a painted stack of its own, once with each of two colours, and the lowest byte that is no
  * longer paint says how deep it went. The record has 62 or 63 files, one of them with 7 or 8 intents; each call is answered as written beside it.
  * Ends with 1 where a call in place takes more than LIMIT bytes, or any is answered otherwise; the two lists still go by value. */
 #define _XOPEN_SOURCE 700
@@ -15,6 +15,11 @@ static uint8_t mirrors[64], request[52 + 4 + 60 + 4], bulk[16], reply[24], sourc
 static uint64_t files[FILES], count, read_bytes[4], written_bytes[4];
 static uint32_t read_over, written_over;
 static volatile uint32_t answer;
+enum { EXTENTS = 1024, EXTENT = 48 };
+static uint8_t devices[16 * EXTENTS], body[4 + EXTENT * EXTENTS];
+static uint64_t offsets[EXTENTS], lengths[EXTENTS], storages[EXTENTS], place, at, left, device, offset, length, storage;
+static uint32_t handles[EXTENTS], states[EXTENTS], kind, records, errors, position, status;
+static struct sc_epochs epochs;
 
 static uint32_t layoutreturn(const uint8_t *s, size_t len)
 {
@@ -37,12 +42,49 @@ static void repaired(void) { answer = sc_record_repaired(&record, 10); }
 static void resilver(void) { answer = sc_record_resilver(&record, files, FILES, sources, FILES, &count); }
 static void offered(void) { answer = sc_record_offered(&record, files, FILES, sources, FILES, &count); }
 
+static void write_layout(void)
+{
+    answer = sc_layout_write(devices, sizeof devices, offsets, EXTENTS, lengths, EXTENTS, storages, EXTENTS, states, EXTENTS, body, sizeof body, &place);
+}
+static void check_layout(void) { answer = sc_layout_check(body, 4 + 44 * EXTENTS, &place); }
+static void extent(void) { answer = sc_layout_extent(body, 4 + 44 * EXTENTS, EXTENTS, 7, &device, &offset, &length, &storage, &status); }
+static void merge(void)
+{
+    answer = sc_layout_merge(devices, sizeof devices, offsets, EXTENTS, lengths, EXTENTS, storages, EXTENTS, states, EXTENTS, body, sizeof body, &place);
+}
+static void write_rdma(void)
+{
+    answer = sc_rdma_layout_write(devices, sizeof devices, offsets, EXTENTS, handles, EXTENTS, lengths, EXTENTS, storages, EXTENTS, states, EXTENTS, body,
+                                  sizeof body, &place);
+}
+static void check_rdma(void) { answer = sc_rdma_layout_check(body, sizeof body, &place); }
+static void check_request(void) { answer = sc_layoutreturn_check(request, sizeof request, &kind, &at, &left); }
+static void check_report(void) { answer = sc_report_check(request + 52, sizeof request - 52); }
+static void next_error(void)
+{
+    at = 0;
+    answer = sc_report_next(request + 52, sizeof request - 52, &at, &records, &errors, &position, &device, &status);
+}
+static void next_statistic(void)
+{
+    at = 0;
+    answer = sc_statistics_next(request + 52, sizeof request - 52, &at, &records, &device, &offset, &length);
+}
+static void write_reply(void) { answer = sc_layoutreturn_reply(reply, sizeof reply, 0); }
+static void fresh_epochs(void) { sc_epochs_fresh(&epochs); answer = 0; }
+static void join(void) { sc_epochs_fresh(&epochs); answer = sc_epochs_join(&epochs, 3); }
+static void start(void) { sc_epochs_fresh(&epochs); sc_epochs_join(&epochs, 3); answer = sc_epochs_start(&epochs, 3); }
+
 /* in the order of a history */
 static const struct { const char *what; void (*call)(void); uint32_t answer; int by_value; } calls[] = {
     {"register", enter, 0, 0}, {"open", open_file, 0, 0}, {"close", close_file, 0, 0}, {"forget", forget, 0, 0}, {"restart", restart, 0, 0},
     {"reclaim", reclaim, 0, 0}, {"LAYOUTRETURN", reports, 0, 0}, {"LAYOUTRETURN, handed on", handed_on, SC_HANDED_ON, 0},
     {"end of grace", end_grace, 0, 0}, {"resilver list", resilver, 0, 1}, {"offered for copying", offered, 0, 1}, {"repaired", repaired, 0, 0},
     {"fresh", fresh, 0, 0}, {"fresh, old", fresh_old, 0, 0},
+    {"layout write", write_layout, 0, 0}, {"layout check", check_layout, 0, 0}, {"layout extent", extent, 0, 0}, {"layout merge", merge, 0, 0},
+    {"RDMA layout write", write_rdma, 0, 0}, {"RDMA layout check", check_rdma, 0, 0}, {"request check", check_request, 0, 0},
+    {"report check", check_report, 0, 0}, {"report next", next_error, 1, 0}, {"statistics next", next_statistic, 0, 0}, {"reply", write_reply, 0, 0},
+    {"epochs fresh", fresh_epochs, 0, 0}, {"epochs join", join, 0, 0}, {"epochs start", start, 0, 0},
 };
 
 static size_t painted(void (*call)(void), unsigned char paint)
@@ -99,10 +141,20 @@ static void prepare(void)
     put32(bulk + 12, 2);
 }
 
+/* extents of 4,096 bytes that touch, of one device, each as far in storage as in the file */
+static void prepare_extents(void)
+{
+    for (uint64_t i = 0; i < EXTENTS; i++) {
+        offsets[i] = storages[i] = 4096 * i;
+        lengths[i] = 4096;
+    }
+}
+
 int main(void)
 {
     int bad = 0;
     prepare();
+    prepare_extents();
     size_t none = used(nothing);
     for (size_t k = 0; k < sizeof calls / sizeof calls[0]; k++) {
         size_t n = used(calls[k].call) - none;

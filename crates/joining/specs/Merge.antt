@@ -1,4 +1,4 @@
--- DEFINITION. The answer of merging a SCSI list that is lent as columns (Ticket 9): the refusals of the list, in paper 01's order, with 4,096 in place of 1,024;
+-- DEFINITION. The answer of merging a SCSI list that is lent as columns (Rules 2.15): the refusals of the list, in paper 01's order, with 4,096 in place of 1,024;
 -- then 28 if the result has over 1,024 extents; then 8; both at place 0. In this order: the columns, and the list that they hold; the answer; the lent bytes
 -- afterwards, which are those of the writer of crate `layouts`, of the merged list; what C is handed.
 use Prim.Native.Nat.{ℕ}

@@ -1,4 +1,4 @@
--- DEFINITION. What a list of extents says of a byte of the file (Ticket 9). In this order: some of a list, and all of it; what one extent says of
+-- DEFINITION. What a list of extents says of a byte of the file (Rules 2.12). In this order: some of a list, and all of it; what one extent says of
 -- a byte; what a list says; two lists that say the same.
 use Prim.Native.Nat.{ℕ, _+_, _-_}
 use mathlib.Core.Path.{_≡_}

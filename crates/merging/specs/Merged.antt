@@ -1,4 +1,4 @@
--- DEFINITION. Extents that belong together (Ticket 9). In this order: a hole without device and storage; when one extent begins just where another
+-- DEFINITION. Extents that belong together (Rules 2.13). In this order: a hole without device and storage; when one extent begins just where another
 -- ends; the two as one; one more extent among the runs, wherever in the list the one that it follows stands; the merged list.
 use Prim.Native.Nat.{ℕ, _+_}
 use mathlib.Core.List.{List, [], _∷_, map}

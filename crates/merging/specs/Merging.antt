@@ -1,4 +1,4 @@
--- DEFINITION. What Ticket 9 asks of the merged list, for every list that passes the checks. In this order: a list that passes rules 3 to 7; one that no
+-- DEFINITION. What is asked of the merged list (Rules 2.14; Ticket 9), for every list that passes the checks. In this order: a list that passes rules 3 to 7; one that no
 -- list of its meaning is shorter than, whatever that list's length; the four sentences; the claim. The limits on a list's length are the call's.
 use mathlib.Core.Path.{_≡_}
 use mathlib.Core.List.{List, []}

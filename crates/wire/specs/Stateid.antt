@@ -1,4 +1,4 @@
--- DEFINITION. The kinds of stateid (stateid4, RFC 8881, 8.2.3; Ticket 6): sixteen bytes, a seqid of 4 and an `other` of 12. In this order:
+-- DEFINITION. The kinds of stateid (stateid4, RFC 8881, 8.2.3; Rules 3.13): sixteen bytes, a seqid of 4 and an `other` of 12. In this order:
 --     seqid, other, ones, current     the two fields; bytes that are all ones; the string of the current stateid
 --     stateidKind            which kind a stateid is: the first of the fixed strings that its bytes, or those of its `other`, are
 --     kindNumber             the number of a kind in C
