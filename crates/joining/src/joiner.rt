@@ -11,7 +11,7 @@ ghost use Rattle.xdr.specs.Reader.{sameBytes};
 ghost use Rattle.joining.specs.Joiner.{noRun, kindOf, kindPlace, touchingOf, nextRun, nextCount};
 
 // An extent, or a part of one, whose device stays where it lies: 16 bytes in row `row` of a column of devices.
-pub struct Piece {
+pub(crate) struct Piece {
     pub row: usize,
     pub offset: u64,
     pub len: u64,
@@ -20,7 +20,7 @@ pub struct Piece {
 }
 
 // A run that the next piece of its kind may lengthen: its place in the result, and the run as one piece. State 4: there is none.
-pub struct Run {
+pub(crate) struct Run {
     pub slot: usize,
     pub row: usize,
     pub offset: u64,
@@ -29,7 +29,7 @@ pub struct Run {
     pub state: u32,
 }
 
-pub fn no_run() -> Run
+pub(crate) fn no_run() -> Run
     ensures { λ x. ⌜ x ≡ noRun ⌝ }
 {
     Run {
@@ -43,13 +43,13 @@ pub fn no_run() -> Run
 }
 
 // The place of the latest run of a state's kind: read-write and hole 0, read 1, invalid 2.
-pub fn kind_place(st: u32) -> usize
+pub(crate) fn kind_place(st: u32) -> usize
     ensures { λ x. ⌜ (x ≡ kindPlace (kindOf st)) × (x < 3) ⌝ }
 {
     match st {
         1 => 1,
         2 => 2,
-        _ => 0,
+        0 | 3..=4294967295 => 0,
     }
 }
 
@@ -75,7 +75,7 @@ fn same_device(devs: &[u8], p: usize, i: usize) -> bool
 }
 
 // Whether p begins, in the file and in storage, just where the run ends, and is of its state; of holes only the file counts.
-pub fn touching(o: Run, p: Piece) -> bool
+pub(crate) fn touching(o: Run, p: Piece) -> bool
     ensures { λ x. ⌜ x ≡ touchingOf o p ⌝ }
 {
     let st = p.state;
@@ -93,7 +93,7 @@ pub fn touching(o: Run, p: Piece) -> bool
 
 // Whether a piece of this state in row i, which touches a run of row p or not, follows it: it has the same device, or is a hole.
 // It is a call by itself, of numbers alone, so that the compiler keeps the loops that ask it small.
-pub fn follows_on(devs: &[u8], p: usize, i: usize, touching: bool, st: u32) -> bool
+pub(crate) fn follows_on(devs: &[u8], p: usize, i: usize, touching: bool, st: u32) -> bool
     requires { ⌜ (16 * p + 16 ≤ length (now devs)) × (16 * i + 16 ≤ length (now devs)) ⌝ }
     ensures { λ x. ⌜ x ≡ (touching && (eqb st 3 || sameBytes (take 16 (drop (16 * p) (now (devs .entry)))) (take 16 (drop (16 * i) (now (devs .entry)))))) ⌝ }
 {
@@ -107,7 +107,7 @@ pub fn follows_on(devs: &[u8], p: usize, i: usize, touching: bool, st: u32) -> b
 }
 
 // The run with p: longer by p, or a new one in place n that p starts.
-pub fn next_run(o: Run, p: Piece, n: usize, more: bool) -> Run
+pub(crate) fn next_run(o: Run, p: Piece, n: usize, more: bool) -> Run
     requires { ⌜ (more ≡ true → o .len + p .len < 2 ^ 64) ⌝ }
     ensures { λ x. ⌜ x ≡ nextRun o p n more ⌝ }
 {
@@ -132,7 +132,7 @@ pub fn next_run(o: Run, p: Piece, n: usize, more: bool) -> Run
 }
 
 // How many runs there are then.
-pub fn next_count(n: usize, more: bool) -> usize
+pub(crate) fn next_count(n: usize, more: bool) -> usize
     requires { ⌜ n < 2 ^ 32 ⌝ }
     ensures { λ x. ⌜ x ≡ nextCount n more ⌝ }
 {

@@ -11,7 +11,10 @@ returns-2 : tie.Need-returns-2
 returns-2 c = let a = c .before .args in (simp (ne-eqb (a .st) 1 (omega arith), eq-eqb (a .st) 2 (c .match .keys2)), omega arith)
 
 returns-3 : tie.Need-returns-3
-returns-3 c = let a = c .before .args in (simp (ne-eqb (a .st) 1 (c .match .rest .0 .1), ne-eqb (a .st) 2 (c .match .rest .1)), omega arith)
+returns-3 c = let a = c .before .args in (simp (ne-eqb (a .st) 1 (omega arith), ne-eqb (a .st) 2 (omega arith)), omega arith)
+
+returns-4 : tie.Need-returns-4
+returns-4 c = let a = c .before .args in (simp (ne-eqb (a .st) 1 (omega arith), ne-eqb (a .st) 2 (omega arith)), omega arith)
 
 pub kind-place-spec : {M : Type 1} → statement M
-kind-place-spec = tie.close (tie.spec returns returns-2 returns-3)
+kind-place-spec = tie.close (tie.spec returns returns-2 returns-3 returns-4)
