@@ -1,8 +1,8 @@
 -- sc_rdma_layout_write hands out the two numbers of the answer.
 use Rattle.wire.proofs.Layouts.{handed}
 use borrow.Author.Needs.{needs}
-use Rattle.wire.proofs.layout.sc_rdma_layout_write.Statement.{statement}
-use Rattle.wire.proofs.layout.sc_rdma_layout_write.Tie as tie
+use Rattle.rdma.proofs.sc_rdma_layout_write.Statement.{statement}
+use Rattle.rdma.proofs.sc_rdma_layout_write.Tie as tie
 
 write-requires : tie.Need-write-requires
 write-requires c κs = search needs

@@ -1,9 +1,9 @@
 -- sc_rdma_layout_extent hands out what the place gives.
 use mathlib.Core.Path.{ap}
 use Rattle.wire.proofs.Layouts.{gave}
 use borrow.Author.Needs.{needs}
-use Rattle.wire.proofs.layout.sc_rdma_layout_extent.Statement.{statement}
-use Rattle.wire.proofs.layout.sc_rdma_layout_extent.Tie as tie
+use Rattle.rdma.proofs.sc_rdma_layout_extent.Statement.{statement}
+use Rattle.rdma.proofs.sc_rdma_layout_extent.Tie as tie
 
 extent-in-requires : tie.Need-extent-in-requires
 extent-in-requires c κs = search needs
