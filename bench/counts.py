@@ -1,7 +1,7 @@
 #!/usr/bin/env python3
 """counts.py: the instructions of each job of the benchmark, counted by valgrind's callgrind: proved code, plain C by gcc -O2 and by clang -O2, and the ratios.
 
-    counts.py [PROGRAM ..]     of target/bench; all four if none is named
+    counts.py [PROGRAM ..]     of target/bench; all if none is named
 
 A count is of one call, on average over a run; it is the same each time, however busy the machine is. The files and clients of the record are in random order.
 """
