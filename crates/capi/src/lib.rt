@@ -10,12 +10,14 @@ use files::file::FileAnswered;
 use files::head::Edition;
 use files::head::Head;
 use layoutreturn::Outcome;
+use recovery::listing::Listing;
 use recovery::record::Record;
 ghost use mathlib.Core.Path.{_≡_};
-ghost use mathlib.Core.Bool.{true, false, not};
+ghost use mathlib.Core.Bool.{not};
 ghost use Rattle.recovery.specs.Calls.{listed};
 ghost use Rattle.recovery.specs.Record.{freshAs, fresh, registerOf, openOf, reclaimOf, closeOf, repairedOf, forgetOf, endOf, restartOf, listingOf};
 ghost use Rattle.recovery.specs.LayoutReturn.{layoutreturnOf, replyAfter};
+ghost use Rattle.recovery.specs.declared.listing.Listing.the-variants.{Resilver, Offered};
 ghost use Rattle.layoutreturn.specs.LayoutReturn.{decisionOf, outcomeBy, replyBy};
 ghost use Prim.Native.Nat.{_<_};
 ghost use lib.ListN.{length};
@@ -81,18 +83,18 @@ fn answered(
 
 // The resilver list, with its count through a pointer.
 fn resilver(r: Record, files: &mut [u64], sources: &mut [u8], count: &mut u64) -> u32
-    ensures { λ s. ⌜ listed s (now (count .exit)) (now (files .exit)) (now (sources .exit)) ≡ listingOf false r (now (files .entry)) (now (sources .entry)) ⌝ }
+    ensures { λ s. ⌜ listed s (now (count .exit)) (now (files .exit)) (now (sources .exit)) ≡ listingOf Resilver r (now (files .entry)) (now (sources .entry)) ⌝ }
 {
-    let l = r.resilver(files, sources);
+    let l = r.list(Listing::Resilver, files, sources);
     *count = wide(l.count);
     l.status
 }
 
 // The files offered for copying, with their count through a pointer.
 fn offered(r: Record, files: &mut [u64], sources: &mut [u8], count: &mut u64) -> u32
-    ensures { λ s. ⌜ listed s (now (count .exit)) (now (files .exit)) (now (sources .exit)) ≡ listingOf true r (now (files .entry)) (now (sources .entry)) ⌝ }
+    ensures { λ s. ⌜ listed s (now (count .exit)) (now (files .exit)) (now (sources .exit)) ≡ listingOf Offered r (now (files .entry)) (now (sources .entry)) ⌝ }
 {
-    let l = r.offered(files, sources);
+    let l = r.list(Listing::Offered, files, sources);
     *count = wide(l.count);
     l.status
 }
@@ -477,7 +479,7 @@ pub extern "C" fn sc_record_resilver(
     sources: &mut [u8],
     count: &mut u64,
 ) -> u32
-    ensures { λ s. ⌜ listed s (now (count .exit)) (now (files .exit)) (now (sources .exit)) ≡ listingOf false (now (r .entry)) (now (files .entry)) (now (sources .entry)) ⌝ }
+    ensures { λ s. ⌜ listed s (now (count .exit)) (now (files .exit)) (now (sources .exit)) ≡ listingOf Resilver (now (r .entry)) (now (files .entry)) (now (sources .entry)) ⌝ }
 {
     resilver(*r, files, sources, count)
 }
@@ -489,7 +491,7 @@ pub extern "C" fn sc_record_offered(
     sources: &mut [u8],
     count: &mut u64,
 ) -> u32
-    ensures { λ s. ⌜ listed s (now (count .exit)) (now (files .exit)) (now (sources .exit)) ≡ listingOf true (now (r .entry)) (now (files .entry)) (now (sources .entry)) ⌝ }
+    ensures { λ s. ⌜ listed s (now (count .exit)) (now (files .exit)) (now (sources .exit)) ≡ listingOf Offered (now (r .entry)) (now (files .entry)) (now (sources .entry)) ⌝ }
 {
     offered(*r, files, sources, count)
 }

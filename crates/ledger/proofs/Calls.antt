@@ -24,8 +24,10 @@ use Rattle.files.specs.declared.head.Head.{Head}
 use Rattle.places.proofs.Slots.{All, Slots, Focus, Hit, slots-map, slots-chosen, slots-at, focus, pairs-map, missing, found}
 use Rattle.places.proofs.Sets.{true-false, first-nothing, none-at, first-no, rest-no}
 use Rattle.mirroring.proofs.Enrolling.{few-mirrors}
-use Rattle.ledger.specs.Ledger.{Row, Ledger, isRow, newRow, registered, rowOf, openRules, intentRules, closeRules, repairedRules, forgetRules, isMarked, isOffered, needRepair, forCopying, listOf, numbers, source, opened, hasReclaimed, closed, mended, restarted, ended, insert, withRows, withGrace, onRow}
+use Rattle.ledger.specs.Ledger.{Row, Ledger, isRow, newRow, registered, rowOf, openRules, intentRules, closeRules, repairedRules, forgetRules, isOn, rowsOn, listOf, numbers, source, opened, hasReclaimed, closed, mended, restarted, ended, insert, withRows, withGrace, onRow}
 use Rattle.recovery.specs.Record.{withFiles, answered, placeIn, fileAt, putFile, onPlace, openOf, reclaimOf, closeOf, repairedOf, raised, roomIn, enter, pulled, withoutFile, isFull, registerWith, registerOf, forgets, forgetOf, endOf, restartOf, isWanted, numberOf, listingOf}
+use Rattle.recovery.specs.declared.listing.Listing.{Listing}
+use Rattle.recovery.specs.declared.listing.Listing.the-variants.{Resilver, Offered}
 use Rattle.recovery.specs.declared.record.Record.{Record}
 use Rattle.ledger.proofs.Relation.{FileIs, NoFile, Matches, branch, FileKept, FileAgrees, RecordAgrees}
 use Rattle.ledger.proofs.OneFile.{some-taken, file-opened, file-reclaimed, file-closed, file-repaired, file-restarted, file-ended, file-source, file-new}
@@ -465,15 +467,18 @@ restart-agrees {r} {l} m = record {
 
 -- ---- the lists
 module _ {r : Record} {l : Ledger} (m : Matches r l) where
-  list-agrees : (idle : Bool) (q : Row → Bool) → ((f : File) (w : Row) → FileIs (l .grace) f w → isWanted idle f ≡ q w) → ((f : File) → NoFile f → isWanted idle f ≡ false) → (a b : List ℕ)
-      → listingOf idle r a b ≡ listOf (chosen q (l .rows)) a b
+  same-test : (k : Listing) (f : File) (w : Row) → FileIs (l .grace) f w → isWanted k f ≡ isOn k w
+  unfolding isWanted
+  same-test Resilver f w h = rw (h .used) (h .marked)
+  same-test Offered f w h = rw (h .used, h .marked, some-taken h)
+
+  free-not-on : (k : Listing) (f : File) → NoFile f → isWanted k f ≡ false
+  unfolding isWanted
+  free-not-on Resilver f h = rw h
+  free-not-on Offered f h = rw h
+
+  pub list-agrees : (k : Listing) (a b : List ℕ) → listingOf k r a b ≡ listOf (rowsOn k l) a b
   unfolding listingOf
-  list-agrees idle q e k a b =
-      let s = slots-chosen (isWanted idle) q e k (m .rows) in
+  list-agrees k a b =
+      let s = slots-chosen (isWanted k) (isOn k) (same-test k) (free-not-on k) (m .rows) in
       rw (pairs-map numberOf (λ (w : Row). w .number) (λ f w h. h .number) s, pairs-map sourceOf source (file-source (l .grace)) s)
-
-  pub resilver-agrees : (a b : List ℕ) → listingOf false r a b ≡ listOf (needRepair l) a b
-  resilver-agrees a b = list-agrees false isMarked (λ f w h. rw (h .used) (h .marked)) (λ f h. rw h) a b
-
-  pub offered-agrees : (a b : List ℕ) → listingOf true r a b ≡ listOf (forCopying l) a b
-  offered-agrees a b = list-agrees true isOffered (λ f w h. rw (h .used, h .marked, some-taken h)) (λ f h. rw h) a b

@@ -11,7 +11,7 @@ use Rattle.places.proofs.Sets.{true-false}
 use Rattle.mirroring.specs.Devices.{mirrorsIn}
 use Rattle.files.specs.declared.head.Edition.{Edition}
 use Rattle.files.specs.Head.{isOld}
-use Rattle.recovery.specs.Calls.{Call, register, opening, reclaim, close, repaired, forget, endGrace, restart, layoutReturn, resilver, offered}
+use Rattle.recovery.specs.Calls.{Call, register, opening, reclaim, close, repaired, forget, endGrace, restart, layoutReturn, listing}
 use Rattle.recovery.specs.Record.{freshAs}
 use Rattle.recovery.specs.declared.record.Record.{Record}
 use Rattle.ledger.specs.Ledger.{Row, Ledger, noRows, isRow, newRow, insert, lost, restarted, ended, isFault, isStranger, blame, reported, errorsOf, withMark, withBlame, judge, apply, accepted, feed}
@@ -102,8 +102,7 @@ sound-apply l (forget n) h = all-discard (isRow n) h
 sound-apply l endGrace h = all-map ended sound-ended h
 sound-apply l restart h = all-map restarted (λ w k. as-was refl refl k) h
 sound-apply l (layoutReturn n c s d) h = all-amend (isRow n) _ (sound-reported (l .edition) (errorsOf (reportOf (bodyOf s)))) h
-sound-apply l (resilver a b) h = h
-sound-apply l (offered a b) h = h
+sound-apply l (listing k a b) h = h
 
 pub sound-fed : (calls : List Call) (l : Ledger) → All Sound (l .rows) → All Sound (fed l calls .rows)
 unfolding fed feed

@@ -11,15 +11,15 @@ use Rattle.places.proofs.Slots.{Slots, all-replicate}
 use Rattle.files.specs.declared.head.Edition.{Edition}
 use Rattle.files.specs.declared.head.Edition.the-variants.{Current, Old}
 use Rattle.files.specs.Head.{isOld}
-use Rattle.recovery.specs.Calls.{Call, register, opening, reclaim, close, repaired, forget, endGrace, restart, layoutReturn, resilver, offered, Answer, said, listed, lend}
-use Rattle.ledger.specs.Ledger.{Ledger, noRows, judge, apply, accepted, feed, isMarked, isOffered}
+use Rattle.recovery.specs.Calls.{Call, register, opening, reclaim, close, repaired, forget, endGrace, restart, layoutReturn, listing, Answer, said, listed, lend}
+use Rattle.ledger.specs.Ledger.{Ledger, noRows, judge, apply, accepted, feed, isOn}
 use Rattle.recovery.specs.Record.{freshAs}
 use Rattle.ledger.specs.History.{Step, stepOf, step, answers, verdicts, recordAfter, ledgerAfter}
 use Rattle.ledger.specs.Demand3.{ledgerOf, Holds, Demand3}
 use Rattle.recovery.specs.declared.record.Record.{Record}
 use Rattle.recovery.specs.declared.record.Answered.{Answered}
 use Rattle.ledger.proofs.Relation.{Matches, RecordAgrees}
-use Rattle.ledger.proofs.Calls.{open-agrees, reclaim-agrees, close-agrees, repaired-agrees, forget-agrees, register-agrees, end-agrees, restart-agrees, resilver-agrees, offered-agrees}
+use Rattle.ledger.proofs.Calls.{open-agrees, reclaim-agrees, close-agrees, repaired-agrees, forget-agrees, register-agrees, end-agrees, restart-agrees, list-agrees}
 use Rattle.ledger.proofs.Returns.{StepIs, return-agrees}
 use Rattle.ledger.proofs.Sentences.{one-list}
 
@@ -57,8 +57,7 @@ step-agrees r l (forget n) m = by-status _ l (forget n) _ (forget-agrees m n)
 step-agrees r l endGrace m = by-status _ l endGrace _ (end-agrees m)
 step-agrees r l restart m = by-status _ l restart _ (restart-agrees m)
 step-agrees r l (layoutReturn n c s d) m = return-agrees m n c s d
-step-agrees r l (resilver a b) m = by-list _ r l (resilver a b) _ _ a b (resilver-agrees m a b) m
-step-agrees r l (offered a b) m = by-list _ r l (offered a b) _ _ a b (offered-agrees m a b) m
+step-agrees r l (listing k a b) m = by-list _ r l (listing k a b) _ _ a b (list-agrees m k a b) m
 
 -- ---- any list of calls
 same-edition : (l : Ledger) (x : Call) → apply l x .edition ≡ l .edition
@@ -72,8 +71,7 @@ same-edition l (forget n) = refl
 same-edition l endGrace = refl
 same-edition l restart = refl
 same-edition l (layoutReturn n c s d) = refl
-same-edition l (resilver a b) = refl
-same-edition l (offered a b) = refl
+same-edition l (listing k a b) = refl
 
 all-answered : (calls : List Call) (r : Record) (l : Ledger) → Matches r l → answers r calls ≡ verdicts l calls (answers r calls)
 unfolding answers verdicts
@@ -111,9 +109,7 @@ history ed calls =
     let m = after-all calls (freshAs ed) (noRows ed) (fresh-matches ed) in
     record {
       answered = all-answered calls (freshAs ed) (noRows ed) (fresh-matches ed);
-      resilvers = λ a b. resilver-agrees m a b;
-      offers = λ a b. offered-agrees m a b;
-      marked = one-list isMarked (ledgerOf ed calls) (m .rising);
+      listings = λ k a b. list-agrees m k a b;
+      lists = λ k. one-list (isOn k) (ledgerOf ed calls) (m .rising);
       edition = ap (λ b. cond b Old Current) (m .old ∙ ap isOld (kept-edition calls (noRows ed) (answers (freshAs ed) calls))) ∙ named ed;
-      idle = one-list isOffered (ledgerOf ed calls) (m .rising);
     }

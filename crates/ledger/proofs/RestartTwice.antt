@@ -25,10 +25,11 @@ use Rattle.mirroring.specs.declared.mirrors.Mirror.{Mirror}
 use Rattle.files.specs.File.{noFile}
 use Rattle.files.specs.declared.head.Edition.{Edition}
 use Rattle.files.specs.declared.head.Edition.the-variants.{Current, Old}
-use Rattle.recovery.specs.Calls.{Call, register, opening, reclaim, close, repaired, forget, endGrace, restart, layoutReturn, resilver, offered, replied, lend}
+use Rattle.recovery.specs.Calls.{Call, register, opening, reclaim, close, repaired, forget, endGrace, restart, layoutReturn, listing, replied, lend}
+use Rattle.recovery.specs.declared.listing.Listing.the-variants.{Resilver}
 use Rattle.recovery.specs.Record.{freshAs, endOf}
 use Rattle.recovery.specs.declared.record.Record.{Record}
-use Rattle.ledger.specs.Ledger.{Row, Ledger, noRows, isRow, newRow, registered, rowOf, isOpen, numbers, isMarked, needRepair, intentRules, reportRules, closeRules, repairedRules, lost, hasReclaimed, closed, mended, restarted, ended, reported, errorsOf, onRow, judge, judgeRequest, apply, accepted, feed}
+use Rattle.ledger.specs.Ledger.{Row, Ledger, noRows, isRow, newRow, registered, rowOf, isOpen, numbers, isOn, rowsOn, intentRules, reportRules, closeRules, repairedRules, lost, hasReclaimed, closed, mended, restarted, ended, reported, errorsOf, onRow, judge, judgeRequest, apply, accepted, feed}
 use Rattle.ledger.specs.Lists.{rowPasses}
 use Rattle.ledger.specs.History.{step, recordAfter}
 use Rattle.ledger.specs.Demand3.{ledgerOf}
@@ -135,8 +136,7 @@ step-side o (layoutReturn n c s d) {ws} {vs} k h = by (ltb (length d) 24)
     by : (b : Bool) → Side (feed (inGrace o ws) (layoutReturn n c s d) (cond b (replied 28 noTotals d) (judgeRequest (inGrace o ws) n c s d (requestOf s)))) (feed (inGrace o vs) (layoutReturn n c s d) (cond b (replied 28 noTotals d) (judgeRequest (inGrace o vs) n c s d (requestOf s))))
     by true = side h
     by false = return-side o n c s d (requestOf s) refl h
-step-side o (resilver a b) {ws} {vs} k h = rw (lend-changes-nothing _ _ a b, lend-changes-nothing _ _ a b) (side h)
-step-side o (offered a b) {ws} {vs} k h = rw (lend-changes-nothing _ _ a b, lend-changes-nothing _ _ a b) (side h)
+step-side o (listing which a b) {ws} {vs} k h = rw (lend-changes-nothing _ _ a b, lend-changes-nothing _ _ a b) (side h)
 
 -- ---- the calls up to the end
 ledger-is : (l : Ledger) {o : Edition} → l .edition ≡ o → l .grace ≡ true → l ≡ inGrace o (l .rows)
@@ -271,28 +271,28 @@ take-fill [] a h = refl
 take-fill (n ∷ ns) [] h = absurd (omega arith)
 take-fill (n ∷ ns) (x ∷ xs) h = ap {B = List ℕ} (λ s. n ∷ s) (take-fill ns xs (omega arith))
 
-few-files : (ed : Edition) (calls : List Call) → length (numbers (needRepair (ledgerOf ed calls))) ≤ 64
+few-files : (ed : Edition) (calls : List Call) → length (numbers (rowsOn Resilver (ledgerOf ed calls))) ≤ 64
 few-files ed calls =
     let m = after-all calls (freshAs ed) (noRows ed) (fresh-matches ed) in
     let l = ledgerOf ed calls in
-    omega (arith, length-map (needRepair l) (λ (w : Row). w .number), chosen-length isMarked (l .rows), slots-length (m .rows), m .long)
+    omega (arith, length-map (rowsOn Resilver l) (λ (w : Row). w .number), chosen-length (isOn Resilver) (l .rows), slots-length (m .rows), m .long)
 
 listed-files : (ns ss a b : List ℕ) → length ns ≤ length a → length ns ≤ length b → filesOf (lend ns ss a b) ≡ ns
 unfolding lend
 listed-files ns ss a b h k = rw (le-leb (length ns) (length a) h, le-leb (length ns) (length b) k) (take-fill ns a h)
 
-resilver-files : (ed : Edition) (calls : List Call) → resilverFiles ed calls ≡ numbers (needRepair (ledgerOf ed calls))
+resilver-files : (ed : Edition) (calls : List Call) → resilverFiles ed calls ≡ numbers (rowsOn Resilver (ledgerOf ed calls))
 unfolding judge
-resilver-files ed calls = ap filesOf (history ed calls .resilvers (replicate 64 0) (replicate 64 0)) ∙ listed-files (numbers (needRepair (ledgerOf ed calls))) _ (replicate 64 0) (replicate 64 0) (few-files ed calls) (few-files ed calls)
+resilver-files ed calls = ap filesOf (history ed calls .listings Resilver (replicate 64 0) (replicate 64 0)) ∙ listed-files (numbers (rowsOn Resilver (ledgerOf ed calls))) _ (replicate 64 0) (replicate 64 0) (few-files ed calls) (few-files ed calls)
 
-is-listed : (ed : Edition) (calls : List Call) (n : ℕ) → has n (resilverFiles ed calls) ≡ rowPasses isMarked n (ledgerOf ed calls)
-is-listed ed calls n = ap (has n) (resilver-files ed calls) ∙ history ed calls .marked .is .exactly n
+is-listed : (ed : Edition) (calls : List Call) (n : ℕ) → has n (resilverFiles ed calls) ≡ rowPasses (isOn Resilver) n (ledgerOf ed calls)
+is-listed ed calls n = ap (has n) (resilver-files ed calls) ∙ history ed calls .lists Resilver .is .exactly n
 
 both-true : (b : Bool) {p q : Bool} → (p ≡ true → q ≡ true) → cond b p false ≡ true → cond b q false ≡ true
 both-true true f e = f e
 both-true false f e = e
 
-passes-too : (n : ℕ) (l l′ : Ledger) → SameFile n l l′ → rowPasses isMarked n l ≡ true → rowPasses isMarked n l′ ≡ true
+passes-too : (n : ℕ) (l l′ : Ledger) → SameFile n l l′ → rowPasses (isOn Resilver) n l ≡ true → rowPasses (isOn Resilver) n l′ ≡ true
 passes-too n l l′ h e = rw (h .there) (both-true (registered n l) (h .row .marked) e)
 
 -- ---- the record's blame is the row's
@@ -352,12 +352,12 @@ forgotten n (w ∷ ws) e = by (isRow n w) e (forgotten n ws)
     by true k f = rw (no-reclaim (w .intents) k)
     by false k f = f k
 
-restarted-and-ended : (n : ℕ) (l : Ledger) → isOpen (rowOf n l) ≡ true → rowPasses isMarked n (fed l (restart ∷ endGrace ∷ [])) ≡ true
+restarted-and-ended : (n : ℕ) (l : Ledger) → isOpen (rowOf n l) ≡ true → rowPasses (isOn Resilver) n (fed l (restart ∷ endGrace ∷ [])) ≡ true
 unfolding fed feed judge apply registered rowOf
 restarted-and-ended n l e = forgotten n (l .rows) e
 
 pub reclaim-again : ReclaimAgain
 reclaim-again ed before n e =
     let calls = before ++ restart ∷ endGrace ∷ [] in
-    is-listed ed calls n ∙ ap (rowPasses isMarked n) (fed-ledger ed calls ∙ fed-append before (restart ∷ endGrace ∷ []) (noRows ed))
+    is-listed ed calls n ∙ ap (rowPasses (isOn Resilver) n) (fed-ledger ed calls ∙ fed-append before (restart ∷ endGrace ∷ []) (noRows ed))
     ∙ restarted-and-ended n (fed (noRows ed) before) (rw (fed-ledger ed before) at e)

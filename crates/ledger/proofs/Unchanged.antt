@@ -28,7 +28,7 @@ use Rattle.layoutreturn.specs.declared.Decision.the-variants as decision
 use Rattle.files.specs.declared.head.Head.{Head}
 use Rattle.files.specs.declared.file.File.{File}
 use Rattle.files.specs.declared.file.FileAnswered.{FileAnswered}
-use Rattle.recovery.specs.Calls.{register, opening, reclaim, close, repaired, forget, endGrace, restart, layoutReturn, resilver, offered, replied, handedOn}
+use Rattle.recovery.specs.Calls.{register, opening, reclaim, close, repaired, forget, endGrace, restart, layoutReturn, listing, replied, handedOn}
 use Rattle.recovery.specs.Record.{answered, fileAt, onPlace, openOf, reclaimOf, closeOf, repairedOf, isFull, registerWith, registerOf, forgets, forgetOf, endOf, restartOf}
 use Rattle.recovery.specs.LayoutReturn.{reportedOf, returnedBy, layoutreturnOf, replyAfter}
 use Rattle.recovery.specs.declared.record.Record.{Record}
@@ -162,8 +162,7 @@ refused-unchanged r (forget n) h = as-before r _ (forgetting (forgettable n (r .
 refused-unchanged r endGrace h = as-before r _ (either (r .head .grace) (accepts-all r _) (refuses-all r 10033)) h
 refused-unchanged r restart h = true-false h
 refused-unchanged r (layoutReturn n c s d) h = return-by n c s (replyAfter n c s d r) r (decisionOf (r .head) s (length d)) h
-refused-unchanged r (resilver a b) h = refl
-refused-unchanged r (offered a b) h = refl
+refused-unchanged r (listing k a b) h = refl
 
 -- ---- open where the intent is held
 both : (a b : Bool) → cond a b false ≡ true → (a ≡ true) × (b ≡ true)

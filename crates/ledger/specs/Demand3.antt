@@ -1,12 +1,12 @@
 -- DEFINITION. Demand 3 (Rules 5.9), of any list of calls from a fresh record of either edition (Rules 4.3): one claim about the whole list, proved in proofs/History.antt.
 use mathlib.Core.Path.{_≡_}
 use mathlib.Core.List.{List}
-use mathlib.Core.Bool.{Bool, true, false}
 use Prim.Native.Nat.{ℕ}
 use Rattle.files.specs.declared.head.Edition.{Edition}
 use Rattle.files.specs.Head.{editionOf}
-use Rattle.recovery.specs.Calls.{Call, resilver, offered}
-use Rattle.ledger.specs.Ledger.{Ledger, noRows, judge, isMarked, isOffered, needRepair, forCopying}
+use Rattle.recovery.specs.Calls.{Call, listing}
+use Rattle.recovery.specs.declared.listing.Listing.{Listing}
+use Rattle.ledger.specs.Ledger.{Ledger, noRows, judge, isOn, rowsOn}
 use Rattle.ledger.specs.Lists.{OneList}
 use Rattle.recovery.specs.Record.{freshAs, listingOf}
 use Rattle.ledger.specs.History.{answers, recordAfter, verdicts, ledgerAfter}
@@ -20,11 +20,9 @@ ledgerOf e calls = ledgerAfter (noRows e) calls (answers (freshAs e) calls)
 -- set up with
 pub record Holds (e : Edition) (calls : List Call) : Type 0 where
   pub answered : answers (freshAs e) calls ≡ verdicts (noRows e) calls (answers (freshAs e) calls)
-  pub resilvers : (a b : List ℕ) → listingOf false (recordAfter (freshAs e) calls) a b ≡ judge (ledgerOf e calls) (resilver a b)
-  pub offers : (a b : List ℕ) → listingOf true (recordAfter (freshAs e) calls) a b ≡ judge (ledgerOf e calls) (offered a b)
-  pub marked : OneList isMarked (ledgerOf e calls) (needRepair (ledgerOf e calls))
+  pub listings : (which : Listing) (a b : List ℕ) → listingOf which (recordAfter (freshAs e) calls) a b ≡ judge (ledgerOf e calls) (listing which a b)
+  pub lists : (which : Listing) → OneList (isOn which) (ledgerOf e calls) (rowsOn which (ledgerOf e calls))
   pub edition : editionOf (recordAfter (freshAs e) calls .head) ≡ e
-  pub idle : OneList isOffered (ledgerOf e calls) (forCopying (ledgerOf e calls))
 
 abbrev pub Demand3 : Type 0
 Demand3 = (e : Edition) (calls : List Call) → Holds e calls

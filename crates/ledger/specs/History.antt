@@ -3,7 +3,7 @@
 use mathlib.Core.List.{List, [], _∷_}
 use mathlib.Core.Bool.{Bool, true, false, cond}
 use Prim.Native.Nat.{ℕ}
-use Rattle.recovery.specs.Calls.{Call, register, opening, reclaim, close, repaired, forget, endGrace, restart, layoutReturn, resilver, offered, Answer, said, replied, handedOn}
+use Rattle.recovery.specs.Calls.{Call, register, opening, reclaim, close, repaired, forget, endGrace, restart, layoutReturn, listing, Answer, said, replied, handedOn}
 use Rattle.ledger.specs.Ledger.{Ledger, judge, feed}
 use Rattle.recovery.specs.Record.{registerOf, openOf, reclaimOf, closeOf, repairedOf, forgetOf, endOf, restartOf, listingOf}
 use Rattle.recovery.specs.LayoutReturn.{layoutreturnOf, replyAfter}
@@ -33,8 +33,7 @@ step r (forget n) = stepOf (forgetOf n r)
 step r endGrace = stepOf (endOf r)
 step r restart = stepOf (restartOf r)
 step r (layoutReturn n c s d) = returnStep (layoutreturnOf n c s d r) (replyAfter n c s d r)
-step r (resilver a b) = record { answer = listingOf false r a b; after = r }
-step r (offered a b) = record { answer = listingOf true r a b; after = r }
+step r (listing k a b) = record { answer = listingOf k r a b; after = r }
 
 -- ---- a history
 -- the record's answers, in order, and the record after all calls

@@ -20,7 +20,9 @@ use Rattle.mirroring.specs.Totals.{totalsOf, noTotals}
 use Rattle.mirroring.specs.declared.totals.Totals.{Totals}
 use Rattle.files.specs.Head.{isOld}
 use Rattle.files.specs.declared.head.Edition.{Edition}
-use Rattle.recovery.specs.Calls.{Call, register, opening, reclaim, close, repaired, forget, endGrace, restart, layoutReturn, resilver, offered, Answer, said, replied, handedOn, listed, lend}
+use Rattle.recovery.specs.Calls.{Call, register, opening, reclaim, close, repaired, forget, endGrace, restart, layoutReturn, listing, Answer, said, replied, handedOn, listed, lend}
+use Rattle.recovery.specs.declared.listing.Listing.{Listing}
+use Rattle.recovery.specs.declared.listing.Listing.the-variants.{Resilver, Offered}
 
 -- ---- rows
 -- a file's number, mirrors by place from 0, clients with an intent, clients that reclaimed, mark and blamed places
@@ -125,19 +127,13 @@ abbrev pub forgetRules : Row → List (Rule ℕ)
 forgetRules w = w .marked ⇒ 10008 ∷ isOpen w ⇒ 10008 ∷ []
 
 -- ---- the two lists, by rising number
--- a file needs repair while its row has the mark
-abbrev pub isMarked : Row → Bool
-isMarked w = w .marked
+-- whether a file is on a list: it needs repair while its row has the mark; offered for copying are those of them with no intent
+abbrev pub isOn : Listing → Row → Bool
+isOn Resilver w = w .marked
+isOn Offered w = cond (w .marked) (not (isOpen w)) false
 
--- offered for copying are those of them with no intent
-abbrev pub isOffered : Row → Bool
-isOffered w = cond (isMarked w) (not (isOpen w)) false
-
-abbrev pub needRepair : Ledger → List Row
-needRepair l = chosen isMarked (l .rows)
-
-abbrev pub forCopying : Ledger → List Row
-forCopying l = chosen isOffered (l .rows)
+abbrev pub rowsOn : Listing → Ledger → List Row
+rowsOn k l = chosen (isOn k) (l .rows)
 
 abbrev pub numbers : List Row → List ℕ
 numbers ws = map (λ w. w .number) ws
@@ -194,8 +190,7 @@ judge l (forget n) = said (refused (l .grace ⇒ 10013 ∷ not (registered n l) 
 judge l endGrace = said (refused (not (l .grace) ⇒ 10033 ∷ []))
 judge l restart = said 0
 judge l (layoutReturn n c s d) = firstOf (ltb (length d) 24 ⇒ replied 28 noTotals d ∷ []) (judgeRequest l n c s d (requestOf s))
-judge l (resilver a b) = listOf (needRepair l) a b
-judge l (offered a b) = listOf (forCopying l) a b
+judge l (listing k a b) = listOf (rowsOn k l) a b
 
 -- ---- rows as calls change them
 abbrev pub opened : ℕ → Row → Row
@@ -256,8 +251,7 @@ apply l (forget n) = withRows (discard (isRow n) (l .rows)) l
 apply l endGrace = withGrace false (withRows (map ended (l .rows)) l)
 apply l restart = withGrace true (withRows (map restarted (l .rows)) l)
 apply l (layoutReturn n c s d) = onRow l n (reported (l .edition) (errorsOf (reportOf (bodyOf s))))
-apply l (resilver a b) = l
-apply l (offered a b) = l
+apply l (listing k a b) = l
 
 -- a call that is refused or handed on, and a listing, change nothing
 abbrev pub accepted : Answer → Bool

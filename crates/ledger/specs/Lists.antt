@@ -6,7 +6,7 @@ use mathlib.Core.Bool.{Bool, true, false, cond}
 use Prim.Native.Nat.{ℕ, _<_}
 use lib.ListN.{length}
 use Rattle.places.specs.Lists.{has, Rising}
-use Rattle.ledger.specs.Ledger.{Row, Ledger, registered, rowOf, isMarked, isOffered, needRepair, forCopying, numbers, sources}
+use Rattle.ledger.specs.Ledger.{Row, Ledger, registered, rowOf, numbers, sources}
 
 -- s is the source of a row: the lowest mirror place not blamed, or 255 if there is none
 pub data IsSource (w : Row) (s : ℕ) : Type 0 where

@@ -11,6 +11,7 @@ use Rattle.recovery.specs.Calls.{Call, endGrace, restart, Answer, said, replied
 use Rattle.mirroring.specs.Mirrors.{noMirror}
 use Rattle.files.specs.File.{isFile}
 use Rattle.recovery.specs.Record.{freshAs, fileAt, listingOf}
+use Rattle.recovery.specs.declared.listing.Listing.the-variants.{Resilver}
 use Rattle.recovery.specs.declared.record.Record.{Record}
 use Rattle.ledger.specs.Ledger.{Row, rowOf, isOpen}
 use Rattle.ledger.specs.History.{step, recordAfter}
@@ -30,7 +31,7 @@ filesOf (listed s count a b) = take count a
 
 -- the files that the record's resilver list gives after some calls; it is lent room for 64, and a record has no more
 abbrev pub resilverFiles : Edition → List Call → List ℕ
-resilverFiles e calls = filesOf (listingOf false (recordAfter (freshAs e) calls) (replicate 64 0) (replicate 64 0))
+resilverFiles e calls = filesOf (listingOf Resilver (recordAfter (freshAs e) calls) (replicate 64 0) (replicate 64 0))
 
 -- the row of a file after some calls
 abbrev pub rowAfter : Edition → ℕ → List Call → Row

@@ -1,7 +1,6 @@
 -- What a listing leaves: too short a slice, and both long enough.
 use mathlib.Core.Path.{_≡_, refl, sym, _∙_}
 use mathlib.Core.List.{List, map}
-use mathlib.Core.Bool.{Bool}
 use Prim.Native.Nat.{ℕ, _<_, _≤_}
 use lib.ListN.{length, length-map}
 use borrow.Author.Tests.{le-leb, lt-leb}
@@ -9,21 +8,22 @@ use Rattle.places.specs.Lists.{chosen, fill}
 use Rattle.files.specs.File.{sourceOf}
 use Rattle.recovery.specs.Calls.{listed, lend}
 use Rattle.recovery.specs.Record.{isWanted, numberOf, listingOf}
+use Rattle.recovery.specs.declared.listing.Listing.{Listing}
 use Rattle.recovery.specs.declared.record.Record.{Record}
 
-module _ (idle : Bool) (r : Record) {n : ℕ} (e : n ≡ length (chosen (isWanted idle) (r .files))) where
-  many : length (map numberOf (chosen (isWanted idle) (r .files))) ≡ n
-  many = length-map (chosen (isWanted idle) (r .files)) numberOf ∙ sym e
+module _ (k : Listing) (r : Record) {n : ℕ} (e : n ≡ length (chosen (isWanted k) (r .files))) where
+  many : length (map numberOf (chosen (isWanted k) (r .files))) ≡ n
+  many = length-map (chosen (isWanted k) (r .files)) numberOf ∙ sym e
 
-  pub short-numbers : {a b : List ℕ} → length a < n → listed 28 0 a b ≡ listingOf idle r a b
+  pub short-numbers : {a b : List ℕ} → length a < n → listed 28 0 a b ≡ listingOf k r a b
   unfolding listingOf lend
   short-numbers {a} {b} h = rw (many, lt-leb n (length a) h)
 
-  pub short-sources : {a b : List ℕ} → n ≤ length a → length b < n → listed 28 0 a b ≡ listingOf idle r a b
+  pub short-sources : {a b : List ℕ} → n ≤ length a → length b < n → listed 28 0 a b ≡ listingOf k r a b
   unfolding listingOf lend
   short-sources {a} {b} g h = rw (many, le-leb n (length a) g, lt-leb n (length b) h)
 
-  pub both-filled : (a b : List ℕ) → n ≤ length a → n ≤ length b → {a′ b′ : List ℕ} → a′ ≡ fill (map numberOf (chosen (isWanted idle) (r .files))) a
-      → b′ ≡ fill (map sourceOf (chosen (isWanted idle) (r .files))) b → listed 0 n a′ b′ ≡ listingOf idle r a b
+  pub both-filled : (a b : List ℕ) → n ≤ length a → n ≤ length b → {a′ b′ : List ℕ} → a′ ≡ fill (map numberOf (chosen (isWanted k) (r .files))) a
+      → b′ ≡ fill (map sourceOf (chosen (isWanted k) (r .files))) b → listed 0 n a′ b′ ≡ listingOf k r a b
   unfolding listingOf lend
   both-filled a b g h x y = rw (many, le-leb n (length a) g, le-leb n (length b) h, x, y)

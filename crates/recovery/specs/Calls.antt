@@ -7,15 +7,16 @@ use lib.ListN.{length}
 use lib.Dec.{leb}
 use Rattle.places.specs.Lists.{fill}
 use Rattle.mirroring.specs.declared.totals.Totals.{Totals}
+use Rattle.recovery.specs.declared.listing.Listing.{Listing}
 
--- mirrors, request and reply are bytes, 16 a device; a listing is lent a slice of file numbers and a slice of sources
+-- mirrors, request and reply are bytes, 16 a device; a listing is told which list is meant, and lent a slice of file numbers and a slice of sources
 pub data Call : Type 0 where
   register : (file : ℕ) (mirrors : List ℕ) → Call
   opening reclaim close : (file client : ℕ) → Call
   repaired forget : (file : ℕ) → Call
   endGrace restart : Call
   layoutReturn : (file client : ℕ) (request reply : List ℕ) → Call
-  resilver offered : (numbers sources : List ℕ) → Call
+  listing : (which : Listing) (numbers sources : List ℕ) → Call
 
 -- a LAYOUTRETURN answers a status, or is handed on, with its report's totals by mirror (Rules 3.11) and the reply buffer afterwards; a listing its status, its
 -- count and both slices afterwards

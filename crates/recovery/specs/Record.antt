@@ -17,6 +17,8 @@ use Rattle.files.specs.declared.file.FileAnswered.{FileAnswered}
 use Rattle.files.specs.declared.head.Head.{Head}
 use Rattle.mirroring.specs.declared.enrol.Enrolled.{Enrolled}
 use Rattle.recovery.specs.Calls.{Answer, lend}
+use Rattle.recovery.specs.declared.listing.Listing.{Listing}
+use Rattle.recovery.specs.declared.listing.Listing.the-variants.{Resilver, Offered}
 use Rattle.recovery.specs.declared.record.Record.{Record}
 use Rattle.recovery.specs.declared.record.Answered.{Answered}
 
@@ -116,11 +118,12 @@ unfoldable pub restartOf : Record → Answered
 restartOf r = answered 0 (withGrace true (withFiles (map restartedFile (r .files)) r))
 
 -- ---- the lists
-abbrev pub isWanted : Bool → File → Bool
-isWanted idle f = cond idle (isReady f) (isListed f)
+unfoldable pub isWanted : Listing → File → Bool
+isWanted Resilver f = isListed f
+isWanted Offered f = isReady f
 
 abbrev pub numberOf : File → ℕ
 numberOf f = f .number
 
-unfoldable pub listingOf : Bool → Record → List ℕ → List ℕ → Answer
-listingOf idle r a b = lend (map numberOf (chosen (isWanted idle) (r .files))) (map sourceOf (chosen (isWanted idle) (r .files))) a b
+unfoldable pub listingOf : Listing → Record → List ℕ → List ℕ → Answer
+listingOf k r a b = lend (map numberOf (chosen (isWanted k) (r .files))) (map sourceOf (chosen (isWanted k) (r .files))) a b

@@ -1,9 +1,8 @@
-// The two lists (paper 01, "The ledger"): the resilver list, and the files offered for copying. Each fills two lent slices and answers how many
+// The two lists (paper 01, "The ledger"): the resilver list, and the files offered for copying. A listing fills two lent slices and answers how many
 // places it filled; the record stays.
 use crate::record::Record;
 use files::file::File;
 ghost use mathlib.Core.Path.{_≡_};
-ghost use mathlib.Core.Bool.{true, false};
 ghost use lib.ListN.{length};
 ghost use Rattle.places.specs.Lists.{chosen};
 ghost use Rattle.recovery.specs.Calls.{listed};
@@ -16,22 +15,33 @@ pub struct Listed {
     pub count: usize,
 }
 
-// Whether a file is on the list: of those that need repair, all, or those that are idle.
-fn wanted(f: File, idle: bool) -> bool
-    ensures { λ r. ⌜ r ≡ isWanted idle f ⌝ }
-{
-    if idle { f.offered() } else { f.listed() }
+// Which list is meant: of the files that need repair, all, or those with no intent.
+pub enum Listing {
+    Resilver,
+    Offered,
+}
+
+impl Listing {
+    // Whether a file is on the list.
+    pub fn has(self, f: File) -> bool
+        ensures { λ r. ⌜ r ≡ isWanted self f ⌝ }
+    {
+        match self {
+            Listing::Resilver => f.listed(),
+            Listing::Offered => f.offered(),
+        }
+    }
 }
 
 // How many files are on the list.
-fn counted(files: [File; 64], idle: bool) -> usize
-    ensures { λ r. ⌜ r ≡ length (chosen (isWanted idle) files) ⌝ }
+fn counted(files: [File; 64], which: Listing) -> usize
+    ensures { λ r. ⌜ r ≡ length (chosen (isWanted which) files) ⌝ }
 {
     let mut n: usize = 0;
     let mut i: usize = 0;
     while i < 64 {
         let f = files[i];
-        let hit = wanted(f, idle);
+        let hit = which.has(f);
         i = i + 1;
         if !hit {
             continue;
@@ -42,12 +52,12 @@ fn counted(files: [File; 64], idle: bool) -> usize
 }
 
 impl Record {
-    // The list: 28, count 0 and both slices unchanged if either is too short.
-    fn list(self, idle: bool, numbers: &mut [u64], sources: &mut [u8]) -> Listed
-        ensures { λ r. ⌜ listed (r .status) (r .count) (now (numbers .exit)) (now (sources .exit)) ≡ listingOf idle self (now (numbers .entry)) (now (sources .entry)) ⌝ }
+    // The files of a list, by rising number, with their sources: 28, count 0 and both slices unchanged if either is too short.
+    pub fn list(self, which: Listing, numbers: &mut [u64], sources: &mut [u8]) -> Listed
+        ensures { λ r. ⌜ listed (r .status) (r .count) (now (numbers .exit)) (now (sources .exit)) ≡ listingOf which self (now (numbers .entry)) (now (sources .entry)) ⌝ }
     {
         let fs = self.files;
-        let n = counted(fs, idle);
+        let n = counted(fs, which);
         if numbers.len() < n {
             return Listed {
                 status: statuses::NOSPC,
@@ -64,7 +74,7 @@ impl Record {
         let mut i: usize = 0;
         while i < 64 {
             let f = fs[i];
-            let hit = wanted(f, idle);
+            let hit = which.has(f);
             i = i + 1;
             if !hit {
                 continue;
@@ -77,19 +87,5 @@ impl Record {
             status: 0,
             count: n,
         }
-    }
-
-    // The files that need repair, by rising number, with their sources.
-    pub fn resilver(self, numbers: &mut [u64], sources: &mut [u8]) -> Listed
-        ensures { λ r. ⌜ listed (r .status) (r .count) (now (numbers .exit)) (now (sources .exit)) ≡ listingOf false self (now (numbers .entry)) (now (sources .entry)) ⌝ }
-    {
-        self.list(false, numbers, sources)
-    }
-
-    // Those of them that have no intent.
-    pub fn offered(self, numbers: &mut [u64], sources: &mut [u8]) -> Listed
-        ensures { λ r. ⌜ listed (r .status) (r .count) (now (numbers .exit)) (now (sources .exit)) ≡ listingOf true self (now (numbers .entry)) (now (sources .entry)) ⌝ }
-    {
-        self.list(true, numbers, sources)
     }
 }

@@ -1,10 +1,10 @@
--- The list is what `Record::offered` promises; its count is copied.
+-- The list is what `Record::list` promises; its count is copied.
 use borrow.Author.Needs.{needs}
 use Rattle.capi.proofs.offered.Statement.{statement}
 use Rattle.capi.proofs.offered.Tie as tie
 
-offered-requires : tie.Need-offered-requires
-offered-requires c κs = search needs
+list-requires : tie.Need-list-requires
+list-requires c κs = search needs
 
 wide-requires : tie.Need-wide-requires
 wide-requires c κs = search needs
@@ -16,7 +16,7 @@ same-length-2 : tie.Need-same-length-2
 same-length-2 c = search needs
 
 returns : tie.Need-returns
-returns c = rw (c .wide .ensures) (c .before .before .before .before .before .offered .ensures)
+returns c = rw (c .wide .ensures) (c .before .before .before .before .before .list .ensures)
 
 pub offered-spec : {M : Type 1} → statement M
-offered-spec = tie.close (tie.spec offered-requires wide-requires same-length same-length-2 returns)
+offered-spec = tie.close (tie.spec list-requires wide-requires same-length same-length-2 returns)

@@ -12,10 +12,10 @@ use Rattle.recovery.proofs.listing.counted.Statement.{statement}
 use Rattle.recovery.proofs.listing.counted.Tie as tie
 
 abbrev Inv-loop : tie.InvT-loop
-Inv-loop idle files n₀ i₀ n i = (n ≤ i) × Counting (isWanted idle) files i n
+Inv-loop which files n₀ i₀ n i = (n ≤ i) × Counting (isWanted which) files i n
 
 abbrev μ-loop : tie.MeasureT-loop
-μ-loop idle files n₀ i₀ n i = 64 - i
+μ-loop which files n₀ i₀ n i = 64 - i
 
 long : (c : tie.Start Inv-loop μ-loop) → length (c .args .t1) ≡ 64
 long c = search (mapped-length, needs)
@@ -29,8 +29,8 @@ mul-f c = omega arith
 array-copy-out-f : tie.Need-array-copy-out-f Inv-loop μ-loop
 array-copy-out-f c = omega arith
 
-wanted-requires : tie.Need-wanted-requires Inv-loop μ-loop
-wanted-requires c κs = search needs
+has-requires : tie.Need-has-requires Inv-loop μ-loop
+has-requires c κs = search needs
 
 add-i : tie.Need-add-i Inv-loop μ-loop
 add-i c = omega arith
@@ -39,7 +39,7 @@ loop-less : tie.Need-loop-less Inv-loop μ-loop
 loop-less c = omega arith
 
 loop-again : tie.Need-loop-again Inv-loop μ-loop
-loop-again c = (omega arith, counting-skip (c .before .before .before .before .loop .inv .1) noFile (omega (arith, long (c .before .before .before .before .before))) _ (c .before .wanted .ensures) (not-true _ (c .if1 .taken)))
+loop-again c = (omega arith, counting-skip (c .before .before .before .before .loop .inv .1) noFile (omega (arith, long (c .before .before .before .before .before))) _ (c .before .has .ensures) (not-true _ (c .if1 .taken)))
 
 add-n : tie.Need-add-n Inv-loop μ-loop
 add-n c = omega arith
@@ -48,7 +48,7 @@ loop-less-2 : tie.Need-loop-less-2 Inv-loop μ-loop
 loop-less-2 c = omega arith
 
 loop-again-2 : tie.Need-loop-again-2 Inv-loop μ-loop
-loop-again-2 c = (omega arith, counting-more (c .before .before .before .before .loop .inv .1) noFile (omega (arith, long (c .before .before .before .before .before))) _ (c .before .wanted .ensures) (not-false _ (c .if1 .left)))
+loop-again-2 c = (omega arith, counting-more (c .before .before .before .before .loop .inv .1) noFile (omega (arith, long (c .before .before .before .before .before))) _ (c .before .has .ensures) (not-false _ (c .if1 .left)))
 
 returns : tie.Need-returns Inv-loop μ-loop
 returns c = counted (c .before .loop .inv .1) (omega (arith, long (c .before .before)))
@@ -62,7 +62,7 @@ counted-spec =
     loop-holds
     mul-f
     array-copy-out-f
-    wanted-requires
+    has-requires
     add-i
     loop-less
     loop-again

@@ -13,17 +13,17 @@ use Rattle.recovery.proofs.record.Record.list.Statement.{statement}
 use Rattle.recovery.proofs.record.Record.list.Tie as tie
 
 abbrev Inv-loop : tie.InvT-loop
-Inv-loop idle numbers₀ sources₀ fs n k₀ i₀ numbers sources k i = (k ≤ i) × Counting (isWanted idle) fs i k × Filling (isWanted idle) numberOf fs i numbers₀ numbers × Filling (isWanted idle) sourceOf fs i sources₀ sources
+Inv-loop which numbers₀ sources₀ fs n k₀ i₀ numbers sources k i = (k ≤ i) × Counting (isWanted which) fs i k × Filling (isWanted which) numberOf fs i numbers₀ numbers × Filling (isWanted which) sourceOf fs i sources₀ sources
 
 abbrev μ-loop : tie.MeasureT-loop
-μ-loop idle numbers₀ sources₀ fs n k₀ i₀ numbers sources k i = 64 - i
+μ-loop which numbers₀ sources₀ fs n k₀ i₀ numbers sources k i = 64 - i
 
 long : (c : tie.Start Inv-loop μ-loop) → length (c .args .self .files) ≡ 64
 long c = search (mapped-length, needs)
 
 -- there is room for one more
 room : (c : tie.Else3 Inv-loop μ-loop) → c .before .before .before .before .loop .k < c .before .before .before .before .before .before .before .counted .result
-room c = omega (arith, c .before .before .before .before .before .before .before .counted .ensures, counting-room (c .before .before .before .before .loop .inv .1) noFile (omega (arith, long (c .before .before .before .before .before .before .before .before .before .before .before))) _ (c .before .wanted .ensures) (not-false _ (c .if3 .left)))
+room c = omega (arith, c .before .before .before .before .before .before .before .counted .ensures, counting-room (c .before .before .before .before .loop .inv .1) noFile (omega (arith, long (c .before .before .before .before .before .before .before .before .before .before .before))) _ (c .before .has .ensures) (not-false _ (c .if3 .left)))
 
 counted-requires : tie.Need-counted-requires Inv-loop μ-loop
 counted-requires c κs = search needs
@@ -43,8 +43,8 @@ mul-f c = omega arith
 array-copy-out-f : tie.Need-array-copy-out-f Inv-loop μ-loop
 array-copy-out-f c = omega arith
 
-wanted-requires : tie.Need-wanted-requires Inv-loop μ-loop
-wanted-requires c κs = search needs
+has-requires : tie.Need-has-requires Inv-loop μ-loop
+has-requires c κs = search needs
 
 add-i : tie.Need-add-i Inv-loop μ-loop
 add-i c = omega arith
@@ -55,7 +55,7 @@ loop-less c = omega arith
 loop-again : tie.Need-loop-again Inv-loop μ-loop
 loop-again c = let l = c .before .before .before .before .loop .inv in
     let h : c .before .before .before .before .loop .i < length (c .before .before .before .before .before .before .before .before .before .before .before .args .self .files) = omega (arith, long (c .before .before .before .before .before .before .before .before .before .before .before)) in
-    let t = c .before .wanted .ensures in
+    let t = c .before .has .ensures in
     let q = not-true _ (c .if3 .taken) in (
       omega arith,
       counting-skip (l .1) noFile h _ t q,
@@ -84,7 +84,7 @@ loop-less-2 c = omega arith
 loop-again-2 : tie.Need-loop-again-2 Inv-loop μ-loop
 loop-again-2 c = let l = c .before .before .before .before .before .loop .inv in
     let h : c .before .before .before .before .before .loop .i < length (c .before .before .before .before .before .before .before .before .before .before .before .before .args .self .files) = omega (arith, long (c .before .before .before .before .before .before .before .before .before .before .before .before)) in
-    let t = c .before .before .wanted .ensures in
+    let t = c .before .before .has .ensures in
     let q = not-false _ (c .before .if3 .left) in (
       omega arith,
       counting-more (l .1) noFile h _ t q,
@@ -114,7 +114,7 @@ list-spec =
     loop-holds
     mul-f
     array-copy-out-f
-    wanted-requires
+    has-requires
     add-i
     loop-less
     loop-again
