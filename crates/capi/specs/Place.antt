@@ -3,12 +3,13 @@
 use mathlib.Core.Bool.{Bool, false, cond}
 use Prim.Native.Nat.{ℕ}
 use lib.Dec.{eqb}
+use Rattle.statuses.specs.Names.{FileNumber}
 use Rattle.walks.specs.Seek.{seek}
 use Rattle.files.specs.File.{noFile, isFile}
 use Rattle.recovery.specs.declared.record.Record.{Record}
 
-abbrev pub isNumbered : Bool → ℕ → ℕ → Bool
+abbrev pub isNumbered : Bool → FileNumber → FileNumber → Bool
 isNumbered used number file = cond used (eqb number file) false
 
-unfoldable pub soughtIn : ℕ → Record → ℕ
+unfoldable pub soughtIn : FileNumber → Record → ℕ
 soughtIn n r = seek (isFile n) noFile (r .files) 63 0

@@ -4,6 +4,7 @@ use mathlib.Core.List.{List, map}
 use mathlib.Core.Bool.{Bool, true, false, not, cond}
 use Prim.Native.Nat.{ℕ}
 use lib.Dec.{leb}
+use Rattle.statuses.specs.Names.{Bytes, Status, FileNumber}
 use Rattle.walks.specs.Seek.{seek}
 use Rattle.mirroring.specs.Mirrors.{enrolledOf}
 use Rattle.mirroring.specs.declared.enrol.Enrolled.{Enrolled}
@@ -16,7 +17,7 @@ use Rattle.recovery.specs.declared.record.Record.{Record}
 use Rattle.capi.specs.declared.Verdict.{Verdict}
 
 -- ---- all files
-abbrev pub verdict : ℕ → Head → Verdict
+abbrev pub verdict : Status → Head → Verdict
 verdict s h = record { status = s; head = h }
 
 abbrev pub inPhase : Bool → Head → Head
@@ -35,24 +36,24 @@ unfoldable pub eachFile : (File → File) → Record → Record
 eachFile g r = withFiles (map g (r .files)) r
 
 -- ---- register
-abbrev pub refusedWith : ℕ → Head → FileAnswered
+abbrev pub refusedWith : Status → Head → FileAnswered
 refusedWith s h = fileAnswered s h blankFile
 
 -- f is the file n, or the last place
-abbrev pub admittedBy : ℕ → Head → Enrolled → File → FileAnswered
+abbrev pub admittedBy : FileNumber → Head → Enrolled → File → FileAnswered
 admittedBy n h e f =
     cond (e .good) (cond (isFile n f) (refusedWith 17 h) (cond (f .used) (refusedWith 28 h) (fileAnswered 0 h (fileOf n (e .mirrors))))) (refusedWith 22 h)
 
-unfoldable pub admittedOf : ℕ → Head → List ℕ → File → FileAnswered
+unfoldable pub admittedOf : FileNumber → Head → Bytes → File → FileAnswered
 admittedOf n h s f = cond (h .grace) (refusedWith 10013 h) (admittedBy n h (enrolledOf s) f)
 
-abbrev pub isVacantPlace : Bool → ℕ → ℕ → Bool
+abbrev pub isVacantPlace : Bool → FileNumber → FileNumber → Bool
 isVacantPlace used number key = not used
 
-unfoldable pub roomSought : ℕ → Record → ℕ
+unfoldable pub roomSought : FileNumber → Record → ℕ
 roomSought key r = seek isVacant noFile (r .files) 63 0
 
-abbrev pub isBelow : ℕ → FileAnswered → Bool
+abbrev pub isBelow : FileNumber → FileAnswered → Bool
 isBelow n s = leb n (s .file .number)
 
 unfoldable pub enteredFiles : Record → ℕ → FileAnswered → Record

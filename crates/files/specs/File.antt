@@ -5,6 +5,7 @@ use mathlib.Core.Bool.{Bool, true, false, not, cond}
 use Prim.Native.Nat.{ℕ}
 use lib.ListN.{getD, set, replicate}
 use lib.Dec.{eqb}
+use Rattle.statuses.specs.Names.{Status, Client, FileNumber}
 use Rattle.places.specs.Lists.{any, chosen, fill}
 use Rattle.places.specs.Places.{first, leftOut}
 use Rattle.mirroring.specs.Mirrors.{noMirrors, unblamed, blamedAt, sourceIn}
@@ -26,7 +27,7 @@ noFile = record { number = 0; mirrors = []; intents = []; used = false; marked =
 abbrev pub blankFile : File
 blankFile = record { number = 0; mirrors = noMirrors; intents = noIntents; used = false; marked = false }
 
-abbrev pub fileOf : ℕ → List Mirror → File
+abbrev pub fileOf : FileNumber → List Mirror → File
 fileOf n ms = record { number = n; mirrors = ms; intents = noIntents; used = true; marked = false }
 
 abbrev pub withMirrors : List Mirror → File → File
@@ -39,7 +40,7 @@ abbrev pub withMark : Bool → File → File
 withMark b f = record { number = f .number; mirrors = f .mirrors; intents = f .intents; used = f .used; marked = b }
 
 -- ---- tests
-abbrev pub isFile : ℕ → File → Bool
+abbrev pub isFile : FileNumber → File → Bool
 isFile n f = cond (f .used) (eqb (f .number) n) false
 
 abbrev pub isVacant : File → Bool
@@ -49,30 +50,30 @@ abbrev pub unreclaimedBar : Bool → Bool → Bool
 unreclaimedBar h r = cond h (not r) false
 
 -- ---- the calls on one file, of the number n; h stands beside the files
-abbrev pub fileAnswered : ℕ → Head → File → FileAnswered
+abbrev pub fileAnswered : Status → Head → File → FileAnswered
 fileAnswered s h f = record { status = s; head = h; file = f }
 
 -- a call on the file of the number n, or 70
-abbrev pub ofFile : ℕ → Head → File → FileAnswered → FileAnswered
+abbrev pub ofFile : FileNumber → Head → File → FileAnswered → FileAnswered
 ofFile n h f a = cond (isFile n f) a (fileAnswered 70 h f)
 
 -- a new intent goes to the first free place
-abbrev pub takes : ℕ → Head → File → Found → FileAnswered
+abbrev pub takes : Client → Head → File → Found → FileAnswered
 takes c h f Nothing = fileAnswered 28 h f
 takes c h f (At i) = fileAnswered 0 h (withIntents (set (f .intents) i (intentOf c)) f)
 
-abbrev pub opens : ℕ → Head → File → Found → FileAnswered
+abbrev pub opens : Client → Head → File → Found → FileAnswered
 opens c h f (At i) = fileAnswered 0 h f
 opens c h f Nothing = takes c h f (first isFree (f .intents))
 
-unfoldable pub openedFile : ℕ → Head → ℕ → File → FileAnswered
+unfoldable pub openedFile : FileNumber → Head → Client → File → FileAnswered
 openedFile n h c f = cond (h .grace) (fileAnswered 10013 h f) (ofFile n h f (opens c h f (first (isIntent c) (f .intents))))
 
-abbrev pub reclaims : ℕ → Head → File → Found → FileAnswered
+abbrev pub reclaims : Client → Head → File → Found → FileAnswered
 reclaims c h f Nothing = fileAnswered 10034 h f
 reclaims c h f (At i) = fileAnswered 0 h (withIntents (map (reclaimedIf c) (f .intents)) f)
 
-unfoldable pub reclaimedFile : ℕ → Head → ℕ → File → FileAnswered
+unfoldable pub reclaimedFile : FileNumber → Head → Client → File → FileAnswered
 reclaimedFile n h c f = cond (h .grace) (ofFile n h f (reclaims c h f (first (isIntent c) (f .intents)))) (fileAnswered 10033 h f)
 
 -- the intents after the one that goes are pulled down over it
@@ -82,18 +83,18 @@ leaves h f (At i) =
     cond (unreclaimedBar (h .grace) (getD (f .intents) i noIntent .reclaimed)) (fileAnswered 10025 h f)
     (fileAnswered 0 h (withIntents (leftOut noIntent i (f .intents)) f))
 
-unfoldable pub closedFile : ℕ → Head → ℕ → File → FileAnswered
+unfoldable pub closedFile : FileNumber → Head → Client → File → FileAnswered
 closedFile n h c f = ofFile n h f (leaves h f (first (isIntent c) (f .intents)))
 
 abbrev pub mendedFile : File → File
 mendedFile f = withMark false (withMirrors (map unblamed (f .mirrors)) f)
 
-unfoldable pub repairedFile : ℕ → Head → File → FileAnswered
+unfoldable pub repairedFile : FileNumber → Head → File → FileAnswered
 repairedFile n h f =
     ofFile n h f
     (cond (not (f .marked)) (fileAnswered 22 h f) (cond (firstTaken (f .intents)) (fileAnswered 10008 h f) (fileAnswered 0 h (mendedFile f))))
 
-unfoldable pub forgettable : ℕ → Head → File → ℕ
+unfoldable pub forgettable : FileNumber → Head → File → Status
 forgettable n h f = cond (h .grace) 10013 (cond (isFile n f) (cond (f .marked) 10008 (cond (firstTaken (f .intents)) 10008 0)) 70)
 
 -- ---- a report (LAYOUTRETURN, step 7): one that names an unknown device only marks

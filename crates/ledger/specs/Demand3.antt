@@ -2,6 +2,7 @@
 use mathlib.Core.Path.{_≡_}
 use mathlib.Core.List.{List}
 use Prim.Native.Nat.{ℕ}
+use Rattle.statuses.specs.Names.{FileNumber}
 use Rattle.files.specs.declared.head.Edition.{Edition}
 use Rattle.files.specs.Head.{editionOf}
 use Rattle.recovery.specs.Calls.{Call, listing}
@@ -20,7 +21,7 @@ ledgerOf e calls = ledgerAfter (noRows e) calls (answers (freshAs e) calls)
 -- set up with
 pub record Holds (e : Edition) (calls : List Call) : Type 0 where
   pub answered : answers (freshAs e) calls ≡ verdicts (noRows e) calls (answers (freshAs e) calls)
-  pub listings : (which : Listing) (a b : List ℕ) → listingOf which (recordAfter (freshAs e) calls) a b ≡ judge (ledgerOf e calls) (listing which a b)
+  pub listings : (which : Listing) (a : List FileNumber) (b : List ℕ) → listingOf which (recordAfter (freshAs e) calls) a b ≡ judge (ledgerOf e calls) (listing which a b)
   pub lists : (which : Listing) → OneList (isOn which) (ledgerOf e calls) (rowsOn which (ledgerOf e calls))
   pub edition : editionOf (recordAfter (freshAs e) calls .head) ≡ e
 

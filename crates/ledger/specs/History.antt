@@ -1,8 +1,8 @@
 -- DEFINITION. A history (Rules 5.1): any list of calls, each on the record that the last one left, and the ledger that goes along with it. In this
 -- order: a step; the record's side of a history; the ledger's side.
 use mathlib.Core.List.{List, [], _∷_}
-use mathlib.Core.Bool.{Bool, true, false, cond}
-use Prim.Native.Nat.{ℕ}
+use mathlib.Core.Bool.{cond}
+use Rattle.statuses.specs.Names.{Bytes}
 use Rattle.recovery.specs.Calls.{Call, register, opening, reclaim, close, repaired, forget, endGrace, restart, layoutReturn, listing, Answer, said, replied, handedOn}
 use Rattle.ledger.specs.Ledger.{Ledger, judge, feed}
 use Rattle.recovery.specs.Record.{registerOf, openOf, reclaimOf, closeOf, repairedOf, forgetOf, endOf, restartOf, listingOf}
@@ -20,7 +20,7 @@ abbrev pub stepOf : Answered → Step
 stepOf a = record { answer = said (a .status); after = a .after }
 
 -- d is the reply buffer afterwards
-abbrev pub returnStep : Returned → List ℕ → Step
+abbrev pub returnStep : Returned → Bytes → Step
 returnStep a d = record { answer = cond (a .handed) (handedOn (a .totals) d) (replied (a .status) (a .totals) d); after = a .after }
 
 unfoldable pub step : Record → Call → Step

@@ -6,6 +6,7 @@ use mathlib.Core.Bool.{Bool, true, false, not, cond}
 use Prim.Native.Nat.{ℕ, suc}
 use lib.ListN.{length}
 use lib.Dec.{eqb, leb, ltb}
+use Rattle.statuses.specs.Names.{Bytes, Status, Client, FileNumber}
 use Rattle.statuses.specs.Rules.{Rule, _⇒_, firstOf, refused}
 use Rattle.reports.specs.Device.{Device}
 use Rattle.reports.specs.Report.{DeviceError, Report, Whole, Malformed, reportOf}
@@ -27,21 +28,21 @@ use Rattle.recovery.specs.declared.listing.Listing.the-variants.{Resilver, Offe
 -- ---- rows
 -- a file's number, mirrors by place from 0, clients with an intent, clients that reclaimed, mark and blamed places
 pub record Row : Type 0 where
-  pub number : ℕ
+  pub number : FileNumber
   pub mirrors : List Device
-  pub intents : List ℕ
-  pub reclaimed : List ℕ
+  pub intents : List Client
+  pub reclaimed : List Client
   pub marked : Bool
   pub blamed : List ℕ
 
 -- a row with number and mirrors only
-abbrev pub newRow : ℕ → List Device → Row
+abbrev pub newRow : FileNumber → List Device → Row
 newRow n ds = record { number = n; mirrors = ds; intents = []; reclaimed = []; marked = false; blamed = [] }
 
-abbrev pub withIntents : List ℕ → Row → Row
+abbrev pub withIntents : List Client → Row → Row
 withIntents cs w = record { number = w .number; mirrors = w .mirrors; intents = cs; reclaimed = w .reclaimed; marked = w .marked; blamed = w .blamed }
 
-abbrev pub withReclaimed : List ℕ → Row → Row
+abbrev pub withReclaimed : List Client → Row → Row
 withReclaimed cs w = record { number = w .number; mirrors = w .mirrors; intents = w .intents; reclaimed = cs; marked = w .marked; blamed = w .blamed }
 
 abbrev pub withMark : Bool → Row → Row
@@ -66,14 +67,14 @@ withRows ws l = record { edition = l .edition; grace = l .grace; rows = ws }
 abbrev pub withGrace : Bool → Ledger → Ledger
 withGrace g l = record { edition = l .edition; grace = g; rows = l .rows }
 
-abbrev pub isRow : ℕ → Row → Bool
+abbrev pub isRow : FileNumber → Row → Bool
 isRow n w = eqb (w .number) n
 
 -- registered files are those with a row
-unfoldable pub registered : ℕ → Ledger → Bool
+unfoldable pub registered : FileNumber → Ledger → Bool
 registered n l = any (isRow n) (l .rows)
 
-unfoldable pub rowOf : ℕ → Ledger → Row
+unfoldable pub rowOf : FileNumber → Ledger → Row
 rowOf n l = firstOr (isRow n) (newRow n []) (l .rows)
 
 -- ---- what a row says
@@ -88,13 +89,13 @@ abbrev pub isStranger : Row → DeviceError → Bool
 isStranger w x = not (names w (deviceOf x))
 
 -- whether a client has an intent, whether anybody has, and whether a client has reclaimed
-abbrev pub holds : ℕ → Row → Bool
+abbrev pub holds : Client → Row → Bool
 holds c w = has c (w .intents)
 
 abbrev pub isOpen : Row → Bool
 isOpen w = not (none (w .intents))
 
-abbrev pub reclaimedBy : ℕ → Row → Bool
+abbrev pub reclaimedBy : Client → Row → Bool
 reclaimedBy c w = has c (w .reclaimed)
 
 -- whether the end of grace marks the file (Rules 4.6): there is an intent whose client has not reclaimed
@@ -111,19 +112,19 @@ source w = sourceFrom 0 (w .mirrors) (w .blamed)
 
 -- ---- the rules of refusal, of which the first that applies decides
 -- what each call says of the row of its file; g is whether in grace
-abbrev pub openRules : ℕ → Row → List (Rule ℕ)
+abbrev pub openRules : Client → Row → List (Rule Status)
 openRules c w = holds c w ⇒ 0 ∷ leb 8 (length (w .intents)) ⇒ 28 ∷ []
 
-abbrev pub intentRules : ℕ → Row → List (Rule ℕ)
+abbrev pub intentRules : Client → Row → List (Rule Status)
 intentRules c w = not (holds c w) ⇒ 10034 ∷ []
 
-abbrev pub closeRules : Bool → ℕ → Row → List (Rule ℕ)
+abbrev pub closeRules : Bool → Client → Row → List (Rule Status)
 closeRules g c w = not (holds c w) ⇒ 10025 ∷ cond g (not (reclaimedBy c w)) false ⇒ 10025 ∷ []
 
-abbrev pub repairedRules : Row → List (Rule ℕ)
+abbrev pub repairedRules : Row → List (Rule Status)
 repairedRules w = not (w .marked) ⇒ 22 ∷ isOpen w ⇒ 10008 ∷ []
 
-abbrev pub forgetRules : Row → List (Rule ℕ)
+abbrev pub forgetRules : Row → List (Rule Status)
 forgetRules w = w .marked ⇒ 10008 ∷ isOpen w ⇒ 10008 ∷ []
 
 -- ---- the two lists, by rising number
@@ -135,13 +136,13 @@ isOn Offered w = cond (w .marked) (not (isOpen w)) false
 abbrev pub rowsOn : Listing → Ledger → List Row
 rowsOn k l = chosen (isOn k) (l .rows)
 
-abbrev pub numbers : List Row → List ℕ
+abbrev pub numbers : List Row → List FileNumber
 numbers ws = map (λ w. w .number) ws
 
 abbrev pub sources : List Row → List ℕ
 sources ws = map source ws
 
-abbrev pub listOf : List Row → List ℕ → List ℕ → Answer
+abbrev pub listOf : List Row → List FileNumber → List ℕ → Answer
 listOf ws a b = lend (numbers ws) (sources ws) a b
 
 -- ---- LAYOUTRETURN
@@ -151,25 +152,25 @@ rowTotals Malformed w = noTotals
 rowTotals (Whole xs ys) w = cond (any (isStranger w) xs) noTotals (totalsOf ys (w .mirrors))
 
 -- an answer with a reply; only with status 0 does it have totals
-abbrev pub refusal : ℕ → List ℕ → Answer
+abbrev pub refusal : Status → Bytes → Answer
 refusal s d = replied s noTotals (replyIn s d)
 
-abbrev pub reply : ℕ → Totals → List ℕ → Answer
+abbrev pub reply : Status → Totals → Bytes → Answer
 reply s t d = replied s (cond (eqb s 0) t noTotals) (replyIn s d)
 
 -- step 5
-abbrev pub bodyRules : Report → List (Rule ℕ)
+abbrev pub bodyRules : Report → List (Rule Status)
 bodyRules Malformed = true ⇒ 10036 ∷ []
 bodyRules (Whole xs ys) = []
 
 -- steps 5 and 6
-abbrev pub reportRules : Ledger → ℕ → ℕ → Report → List (Rule ℕ)
+abbrev pub reportRules : Ledger → FileNumber → Client → Report → List (Rule Status)
 reportRules l n c p = bodyRules p ++ not (registered n l) ⇒ 70 ∷ intentRules c (rowOf n l)
 
 -- steps 1 to 6 (Rules 3.7): s is the request, d the reply buffer. Step 4, by the kind of stateid (02, Tickets 1 and 6): the anonymous one gets 10025 from a record set up as
 -- old, and 10033 if not in grace; in grace any other gets 10013; out of it read bypass and an invalid one get 10025, and the current and an ordinary one are
 -- handed on
-abbrev pub judgeRequest : Ledger → ℕ → ℕ → List ℕ → List ℕ → Request → Answer
+abbrev pub judgeRequest : Ledger → FileNumber → Client → Bytes → Bytes → Request → Answer
 judgeRequest l n c s d (request.Refused k) = refusal k d
 judgeRequest l n c s d request.Bulk = handedOn noTotals d
 judgeRequest l n c s d (request.File kind.Anonymous k) =
@@ -193,13 +194,13 @@ judge l (layoutReturn n c s d) = firstOf (ltb (length d) 24 ⇒ replied 28 noTot
 judge l (listing k a b) = listOf (rowsOn k l) a b
 
 -- ---- rows as calls change them
-abbrev pub opened : ℕ → Row → Row
+abbrev pub opened : Client → Row → Row
 opened c w = withIntents (with c (w .intents)) w
 
-abbrev pub hasReclaimed : ℕ → Row → Row
+abbrev pub hasReclaimed : Client → Row → Row
 hasReclaimed c w = withReclaimed (with c (w .reclaimed)) w
 
-abbrev pub closed : ℕ → Row → Row
+abbrev pub closed : Client → Row → Row
 closed c w = withIntents (discard (λ x. eqb x c) (w .intents)) w
 
 abbrev pub mended : Row → Row
@@ -237,7 +238,7 @@ unfoldable pub insert : Row → List Row → List Row
 insert w [] = w ∷ []
 insert w (v ∷ vs) = cond (leb (v .number) (w .number)) (v ∷ insert w vs) (w ∷ v ∷ vs)
 
-abbrev pub onRow : Ledger → ℕ → (Row → Row) → Ledger
+abbrev pub onRow : Ledger → FileNumber → (Row → Row) → Ledger
 onRow l n g = withRows (amend (isRow n) g (l .rows)) l
 
 -- ---- what an accepted call does

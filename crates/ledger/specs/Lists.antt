@@ -5,6 +5,7 @@ use mathlib.Core.List.{List, [], _∷_}
 use mathlib.Core.Bool.{Bool, true, false, cond}
 use Prim.Native.Nat.{ℕ, _<_}
 use lib.ListN.{length}
+use Rattle.statuses.specs.Names.{FileNumber}
 use Rattle.places.specs.Lists.{has, Rising}
 use Rattle.ledger.specs.Ledger.{Row, Ledger, registered, rowOf, numbers, sources}
 
@@ -14,21 +15,21 @@ pub data IsSource (w : Row) (s : ℕ) : Type 0 where
   nowhere : s ≡ 255 → ((i : ℕ) → i < length (w .mirrors) → has i (w .blamed) ≡ true) → IsSource w s
 
 -- each file of a list with its source
-pub data Sources (l : Ledger) : List ℕ → List ℕ → Type 0 where
+pub data Sources (l : Ledger) : List FileNumber → List ℕ → Type 0 where
   sources-nil : Sources l [] []
-  sources-cons : {n s : ℕ} {ns ss : List ℕ} → IsSource (rowOf n l) s → Sources l ns ss → Sources l (n ∷ ns) (s ∷ ss)
+  sources-cons : {n : FileNumber} {s : ℕ} {ns : List FileNumber} {ss : List ℕ} → IsSource (rowOf n l) s → Sources l ns ss → Sources l (n ∷ ns) (s ∷ ss)
 
 -- whether the file n has a row, and one that passes
-abbrev pub rowPasses : (Row → Bool) → ℕ → Ledger → Bool
+abbrev pub rowPasses : (Row → Bool) → FileNumber → Ledger → Bool
 rowPasses q n l = cond (registered n l) (q (rowOf n l)) false
 
 -- ns and ss are the list of those that pass: strictly rising, a file is there exactly when its row passes, and each has its source
-pub record IsList (q : Row → Bool) (l : Ledger) (ns ss : List ℕ) : Type 0 where
+pub record IsList (q : Row → Bool) (l : Ledger) (ns : List FileNumber) (ss : List ℕ) : Type 0 where
   pub rising : Rising ns
-  pub exactly : (n : ℕ) → has n ns ≡ rowPasses q n l
+  pub exactly : (n : FileNumber) → has n ns ≡ rowPasses q n l
   pub each : Sources l ns ss
 
 -- the list is such a list, and there is no other
 pub record OneList (q : Row → Bool) (l : Ledger) (ws : List Row) : Type 0 where
   pub is : IsList q l (numbers ws) (sources ws)
-  pub only : (ns ss : List ℕ) → IsList q l ns ss → (ns ≡ numbers ws) × (ss ≡ sources ws)
+  pub only : (ns : List FileNumber) (ss : List ℕ) → IsList q l ns ss → (ns ≡ numbers ws) × (ss ≡ sources ws)

@@ -2,7 +2,7 @@
 -- proofs/OnlyTotals.antt. In this order: two requests that differ in their statistics; two answers that differ in their totals; the claim, of any record.
 use mathlib.Core.Path.{_≡_}
 use mathlib.Core.List.{List, []}
-use Prim.Native.Nat.{ℕ}
+use Rattle.statuses.specs.Names.{Bytes, Client, FileNumber}
 use Rattle.reports.specs.Statistics.{Statistic}
 use Rattle.reports.specs.Report.{Whole, reportOf, withoutStatistics}
 use Rattle.wire.specs.Request.{requestOf, bodyOf}
@@ -20,7 +20,7 @@ kindOf request.Bulk = request.Bulk
 kindOf (request.File kind len) = request.File kind 0
 
 -- they are read alike, and their bodies hold the same device errors in the same order, or are both malformed
-pub record SameButStatistics (s t : List ℕ) : Type 0 where
+pub record SameButStatistics (s t : Bytes) : Type 0 where
   pub kind : kindOf (requestOf s) ≡ kindOf (requestOf t)
   pub errors : withoutStatistics (reportOf (bodyOf s)) ≡ withoutStatistics (reportOf (bodyOf t))
 
@@ -36,6 +36,6 @@ pub record Alike (r : Record) (x y : Call) : Type 0 where
   pub answer : withoutTotals (step r x .answer) ≡ withoutTotals (step r y .answer)
 
 -- whatever the statistics records say, and a report that has no others leaves the record as it was
-pub record OnlyTotals (r : Record) (n c : ℕ) (s d : List ℕ) : Type 0 where
-  pub alike : (t : List ℕ) → SameButStatistics s t → Alike r (layoutReturn n c s d) (layoutReturn n c t d)
+pub record OnlyTotals (r : Record) (n : FileNumber) (c : Client) (s d : Bytes) : Type 0 where
+  pub alike : (t : Bytes) → SameButStatistics s t → Alike r (layoutReturn n c s d) (layoutReturn n c t d)
   pub silent : (ys : List Statistic) → reportOf (bodyOf s) ≡ Whole [] ys → step r (layoutReturn n c s d) .after ≡ r

@@ -5,6 +5,7 @@ use mathlib.Core.List.{List, [], _∷_, _++_}
 use mathlib.Core.Bool.{Bool, true, false, cond}
 use Prim.Native.Nat.{ℕ}
 use lib.ListN.{getD, take, replicate}
+use Rattle.statuses.specs.Names.{FileNumber}
 use Rattle.places.specs.Lists.{has}
 use Rattle.files.specs.declared.head.Edition.{Edition}
 use Rattle.recovery.specs.Calls.{Call, endGrace, restart, Answer, said, replied, handedOn, listed}
@@ -23,31 +24,31 @@ inGraceThrough r [] = r .head .grace
 inGraceThrough r (x ∷ xs) = cond (r .head .grace) (inGraceThrough (step r x .after) xs) false
 
 -- the files of a listing: the places that it filled
-abbrev pub filesOf : Answer → List ℕ
+abbrev pub filesOf : Answer → List FileNumber
 filesOf (said s) = []
 filesOf (replied s t d) = []
 filesOf (handedOn t d) = []
 filesOf (listed s count a b) = take count a
 
 -- the files that the record's resilver list gives after some calls; it is lent room for 64, and a record has no more
-abbrev pub resilverFiles : Edition → List Call → List ℕ
+abbrev pub resilverFiles : Edition → List Call → List FileNumber
 resilverFiles e calls = filesOf (listingOf Resilver (recordAfter (freshAs e) calls) (replicate 64 0) (replicate 64 0))
 
 -- the row of a file after some calls
-abbrev pub rowAfter : Edition → ℕ → List Call → Row
+abbrev pub rowAfter : Edition → FileNumber → List Call → Row
 rowAfter e n calls = rowOf n (ledgerOf e calls)
 
 -- whether the record holds the mirror at a place of a file as blamed
-abbrev pub isBlamed : ℕ → ℕ → Record → Bool
+abbrev pub isBlamed : FileNumber → ℕ → Record → Bool
 isBlamed n place r = cond (isFile n (fileAt n r)) (getD (fileAt n r .mirrors) place noMirror .blamed) false
 
 -- what is listed and who is blamed after the calls `once` is so after the calls `twice` too, by the ledger's rows and by what the
 -- record holds; a file's mirrors stand at the same places
 pub record StillThere (e : Edition) (once twice : List Call) : Type 0 where
-  pub listed : (n : ℕ) → has n (resilverFiles e once) ≡ true → has n (resilverFiles e twice) ≡ true
-  pub blamed : (n place : ℕ) → has place (rowAfter e n once .blamed) ≡ true → has place (rowAfter e n twice .blamed) ≡ true
-  pub held : (n place : ℕ) → isBlamed n place (recordAfter (freshAs e) once) ≡ true → isBlamed n place (recordAfter (freshAs e) twice) ≡ true
-  pub mirrors : (n : ℕ) → rowAfter e n twice .mirrors ≡ rowAfter e n once .mirrors
+  pub listed : (n : FileNumber) → has n (resilverFiles e once) ≡ true → has n (resilverFiles e twice) ≡ true
+  pub blamed : (n : FileNumber) (place : ℕ) → has place (rowAfter e n once .blamed) ≡ true → has place (rowAfter e n twice .blamed) ≡ true
+  pub held : (n : FileNumber) (place : ℕ) → isBlamed n place (recordAfter (freshAs e) once) ≡ true → isBlamed n place (recordAfter (freshAs e) twice) ≡ true
+  pub mirrors : (n : FileNumber) → rowAfter e n twice .mirrors ≡ rowAfter e n once .mirrors
 
 -- any history of a record of either edition, with one more restart anywhere inside a grace period: it is in grace after `before`, and stays so through `during`, up to the end
 abbrev pub RestartTwice : Type 0
@@ -57,4 +58,4 @@ RestartTwice =
 
 -- no reclaim outlives a restart: whoever had reclaimed, a file that has an intent is listed if grace ends before anybody reclaims again
 abbrev pub ReclaimAgain : Type 0
-ReclaimAgain = (e : Edition) (before : List Call) (n : ℕ) → isOpen (rowAfter e n before) ≡ true → has n (resilverFiles e (before ++ restart ∷ endGrace ∷ [])) ≡ true
+ReclaimAgain = (e : Edition) (before : List Call) (n : FileNumber) → isOpen (rowAfter e n before) ≡ true → has n (resilverFiles e (before ++ restart ∷ endGrace ∷ [])) ≡ true

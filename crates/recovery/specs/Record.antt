@@ -5,6 +5,7 @@ use mathlib.Core.Bool.{Bool, true, false, not, cond}
 use Prim.Native.Nat.{ℕ, zero, suc}
 use lib.ListN.{getD, set, take, drop, replicate}
 use lib.Dec.{eqb, leb}
+use Rattle.statuses.specs.Names.{Bytes, Status, Client, FileNumber}
 use Rattle.places.specs.Lists.{chosen}
 use Rattle.places.specs.Places.{first, placeOr}
 use Rattle.mirroring.specs.Mirrors.{enrolledOf}
@@ -39,34 +40,34 @@ withGrace g r = record { files = r .files; head = record { grace = g; old = r .h
 abbrev pub withHead : Head → Record → Record
 withHead h r = record { files = r .files; head = h }
 
-abbrev pub answered : ℕ → Record → Answered
+abbrev pub answered : Status → Record → Answered
 answered s r = record { status = s; after = r }
 
 -- ---- calls on one file
 -- the place of the file n, or the last place
-unfoldable pub placeIn : ℕ → Record → ℕ
+unfoldable pub placeIn : FileNumber → Record → ℕ
 placeIn n r = placeOr 63 (first (isFile n) (r .files))
 
-abbrev pub fileAt : ℕ → Record → File
+abbrev pub fileAt : FileNumber → Record → File
 fileAt n r = getD (r .files) (placeIn n r) noFile
 
 abbrev pub putFile : Record → ℕ → FileAnswered → Answered
 putFile r i a = answered (a .status) (withHead (a .head) (withFiles (set (r .files) i (a .file)) r))
 
 -- a call on the file at that place, which tests for itself whether it is the file n
-abbrev pub onPlace : ℕ → (File → FileAnswered) → Record → Answered
+abbrev pub onPlace : FileNumber → (File → FileAnswered) → Record → Answered
 onPlace n h r = putFile r (placeIn n r) (h (fileAt n r))
 
-unfoldable pub openOf : ℕ → ℕ → Record → Answered
+unfoldable pub openOf : FileNumber → Client → Record → Answered
 openOf n c r = onPlace n (openedFile n (r .head) c) r
 
-unfoldable pub reclaimOf : ℕ → ℕ → Record → Answered
+unfoldable pub reclaimOf : FileNumber → Client → Record → Answered
 reclaimOf n c r = onPlace n (reclaimedFile n (r .head) c) r
 
-unfoldable pub closeOf : ℕ → ℕ → Record → Answered
+unfoldable pub closeOf : FileNumber → Client → Record → Answered
 closeOf n c r = onPlace n (closedFile n (r .head) c) r
 
-unfoldable pub repairedOf : ℕ → Record → Answered
+unfoldable pub repairedOf : FileNumber → Record → Answered
 repairedOf n r = onPlace n (repairedFile n (r .head)) r
 
 -- ---- register and forget
@@ -85,14 +86,14 @@ enter x fs = raised x (roomIn fs) fs
 abbrev pub isFull : Record → Bool
 isFull r = getD (r .files) 63 noFile .used
 
-abbrev pub registerWith : ℕ → Enrolled → Record → Answered
+abbrev pub registerWith : FileNumber → Enrolled → Record → Answered
 registerWith n e r =
     cond (e .good)
     (cond (isFile n (fileAt n r)) (answered 17 r)
     (cond (isFull r) (answered 28 r) (answered 0 (withFiles (enter (fileOf n (e .mirrors)) (r .files)) r))))
     (answered 22 r)
 
-unfoldable pub registerOf : ℕ → List ℕ → Record → Answered
+unfoldable pub registerOf : FileNumber → Bytes → Record → Answered
 registerOf n s r = cond (r .head .grace) (answered 10013 r) (registerWith n (enrolledOf s) r)
 
 -- the files after the one that goes, up to the first free place, are pulled down over it
@@ -104,10 +105,10 @@ pulled (x ∷ y ∷ ys) = cond (isVacant y) (blankFile ∷ y ∷ ys) (y ∷ pull
 abbrev pub withoutFile : ℕ → List File → List File
 withoutFile i fs = take i fs ++ pulled (drop i fs)
 
-abbrev pub forgets : ℕ → ℕ → Record → Answered
+abbrev pub forgets : Status → FileNumber → Record → Answered
 forgets s n r = cond (eqb s 0) (answered 0 (withFiles (withoutFile (placeIn n r) (r .files)) r)) (answered s r)
 
-unfoldable pub forgetOf : ℕ → Record → Answered
+unfoldable pub forgetOf : FileNumber → Record → Answered
 forgetOf n r = forgets (forgettable n (r .head) (fileAt n r)) n r
 
 -- ---- restart and the end of grace
@@ -122,8 +123,8 @@ unfoldable pub isWanted : Listing → File → Bool
 isWanted Resilver f = isListed f
 isWanted Offered f = isReady f
 
-abbrev pub numberOf : File → ℕ
+abbrev pub numberOf : File → FileNumber
 numberOf f = f .number
 
-unfoldable pub listingOf : Listing → Record → List ℕ → List ℕ → Answer
+unfoldable pub listingOf : Listing → Record → List FileNumber → List ℕ → Answer
 listingOf k r a b = lend (map numberOf (chosen (isWanted k) (r .files))) (map sourceOf (chosen (isWanted k) (r .files))) a b
