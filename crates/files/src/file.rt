@@ -9,7 +9,7 @@ use mirroring::mirrors::PLACES;
 use places::Found;
 ghost use mathlib.Core.Path.{_≡_};
 ghost use mathlib.Core.Bool.{true, cond};
-ghost use Rattle.files.specs.File.{noFile, blankFile, fileOf, isFile, isVacant, openedFile, reclaimedFile, closedFile, repairedFile, forgettable, restartedFile, endedFile, isListed, isReady, sourceOf, unreclaimedBar, changedFile};
+ghost use Rattle.files.specs.File.{noFile, blankFile, fileOf, isFile, isVacant, fileAnswered, openedFile, reclaimedFile, closedFile, repairedFile, forgettable, restartedFile, endedFile, isListed, isReady, sourceOf, changedFile};
 
 // The wide fields stand first. A place of the record is a file's if `used`.
 #[repr(C)]
@@ -54,8 +54,8 @@ impl File {
         let x = Intent::none();
         let xs = [x; 8];
         File {
-            number: number,
-            mirrors: mirrors,
+            number,
+            mirrors,
             intents: xs,
             used: true,
             marked: false,
@@ -66,11 +66,7 @@ impl File {
     pub fn is(self, number: u64) -> bool
         ensures { λ r. ⌜ r ≡ isFile number self ⌝ }
     {
-        if self.used {
-            self.number == number
-        } else {
-            false
-        }
+        self.used && self.number == number
     }
 
     // Whether the place is free.
@@ -80,48 +76,38 @@ impl File {
         !self.used
     }
 
+    // What a call answers, with the file and what stands beside the files as they are.
+    fn answered(self, status: u32, head: Head) -> FileAnswered
+        ensures { λ r. ⌜ r ≡ fileAnswered status head self ⌝ }
+    {
+        FileAnswered {
+            status,
+            head,
+            file: self,
+        }
+    }
+
     // Open for writing: 10013 in grace; 70; held already: 0, no change; 28 if 8 are held.
     pub fn open(mut self, number: u64, head: Head, client: u64) -> FileAnswered
         ensures { λ r. ⌜ r ≡ openedFile number head client self ⌝ }
     {
         if head.grace {
-            return FileAnswered {
-                status: statuses::GRACE,
-                head: head,
-                file: self,
-            };
+            return self.answered(statuses::GRACE, head);
         }
-        let hit = self.is(number);
-        if !hit {
-            return FileAnswered {
-                status: statuses::STALE,
-                head: head,
-                file: self,
-            };
+        if !self.is(number) {
+            return self.answered(statuses::STALE, head);
         }
         let old = self.intents;
         if let Found::At(_) = intents::holding(old, client) {
-            return FileAnswered {
-                status: 0,
-                head: head,
-                file: self,
-            };
+            return self.answered(0, head);
         }
         let Found::At(i) = intents::room(old) else {
-            return FileAnswered {
-                status: statuses::NOSPC,
-                head: head,
-                file: self,
-            };
+            return self.answered(statuses::NOSPC, head);
         };
         let x = Intent::new(client);
         let xs = intents::placed(old, i, x);
         self.intents = xs;
-        FileAnswered {
-            status: 0,
-            head: head,
-            file: self,
-        }
+        self.answered(0, head)
     }
 
     // Reclaim: 10033 not in grace; 70; 10034 no intent; again: 0, no change.
@@ -129,112 +115,59 @@ impl File {
         ensures { λ r. ⌜ r ≡ reclaimedFile number head client self ⌝ }
     {
         if !head.grace {
-            return FileAnswered {
-                status: statuses::NO_GRACE,
-                head: head,
-                file: self,
-            };
+            return self.answered(statuses::NO_GRACE, head);
         }
-        let hit = self.is(number);
-        if !hit {
-            return FileAnswered {
-                status: statuses::STALE,
-                head: head,
-                file: self,
-            };
+        if !self.is(number) {
+            return self.answered(statuses::STALE, head);
         }
         let old = self.intents;
         let Found::At(_) = intents::holding(old, client) else {
-            return FileAnswered {
-                status: statuses::RECLAIM_BAD,
-                head: head,
-                file: self,
-            };
+            return self.answered(statuses::RECLAIM_BAD, head);
         };
         let xs = intents::reclaimed(old, client);
         self.intents = xs;
-        FileAnswered {
-            status: 0,
-            head: head,
-            file: self,
-        }
+        self.answered(0, head)
     }
 
     // Close: 70; 10025 no intent, or in grace and not reclaimed.
     pub fn close(mut self, number: u64, head: Head, client: u64) -> FileAnswered
         ensures { λ r. ⌜ r ≡ closedFile number head client self ⌝ }
     {
-        let hit = self.is(number);
-        if !hit {
-            return FileAnswered {
-                status: statuses::STALE,
-                head: head,
-                file: self,
-            };
+        if !self.is(number) {
+            return self.answered(statuses::STALE, head);
         }
         let old = self.intents;
         let Found::At(i) = intents::holding(old, client) else {
-            return FileAnswered {
-                status: statuses::BAD_STATEID,
-                head: head,
-                file: self,
-            };
+            return self.answered(statuses::BAD_STATEID, head);
         };
         let reclaimed = intents::is_reclaimed(old, i);
-        let barred = unreclaimed(head.grace, reclaimed);
-        if barred {
-            return FileAnswered {
-                status: statuses::BAD_STATEID,
-                head: head,
-                file: self,
-            };
+        if head.grace && !reclaimed {
+            return self.answered(statuses::BAD_STATEID, head);
         }
         let xs = intents::without(old, i);
         self.intents = xs;
-        FileAnswered {
-            status: 0,
-            head: head,
-            file: self,
-        }
+        self.answered(0, head)
     }
 
     // Repaired: 70; 22 not marked; 10008 an intent is open.
     pub fn repaired(mut self, number: u64, head: Head) -> FileAnswered
         ensures { λ r. ⌜ r ≡ repairedFile number head self ⌝ }
     {
-        let hit = self.is(number);
-        if !hit {
-            return FileAnswered {
-                status: statuses::STALE,
-                head: head,
-                file: self,
-            };
+        if !self.is(number) {
+            return self.answered(statuses::STALE, head);
         }
         if !self.marked {
-            return FileAnswered {
-                status: statuses::INVAL,
-                head: head,
-                file: self,
-            };
+            return self.answered(statuses::INVAL, head);
         }
         let xs = self.intents;
-        let held = intents::busy(xs);
-        if held {
-            return FileAnswered {
-                status: statuses::DELAY,
-                head: head,
-                file: self,
-            };
+        if intents::busy(xs) {
+            return self.answered(statuses::DELAY, head);
         }
         let old = self.mirrors;
         let ms = mirroring::mirrors::cleared(old);
         self.mirrors = ms;
         self.marked = false;
-        FileAnswered {
-            status: 0,
-            head: head,
-            file: self,
-        }
+        self.answered(0, head)
     }
 
     // Whether the file may be forgotten: 10013 in grace; 70; 10008 marked or an intent is open; or 0.
@@ -244,16 +177,14 @@ impl File {
         if head.grace {
             return statuses::GRACE;
         }
-        let hit = self.is(number);
-        if !hit {
+        if !self.is(number) {
             return statuses::STALE;
         }
         if self.marked {
             return statuses::DELAY;
         }
         let xs = self.intents;
-        let held = intents::busy(xs);
-        if held {
+        if intents::busy(xs) {
             return statuses::DELAY;
         }
         0
@@ -308,7 +239,7 @@ impl File {
             mirrors: ms,
             intents: xs,
             used: self.used,
-            marked: marked,
+            marked,
         }
     }
 
@@ -316,20 +247,15 @@ impl File {
     pub fn listed(self) -> bool
         ensures { λ r. ⌜ r ≡ isListed self ⌝ }
     {
-        if self.used { self.marked } else { false }
+        self.used && self.marked
     }
 
     // Whether the file is offered for copying.
     pub fn offered(self) -> bool
         ensures { λ r. ⌜ r ≡ isReady self ⌝ }
     {
-        let hit = self.listed();
-        if !hit {
-            return false;
-        }
         let xs = self.intents;
-        let held = intents::busy(xs);
-        !held
+        self.listed() && !intents::busy(xs)
     }
 
     // The place to copy from.
@@ -345,12 +271,5 @@ impl File {
 fn marked_if(lost: bool, marked: bool) -> bool
     ensures { λ r. ⌜ r ≡ cond lost true marked ⌝ }
 {
-    if lost { true } else { marked }
-}
-
-// Whether something holds and nothing was reclaimed.
-fn unreclaimed(holds: bool, reclaimed: bool) -> bool
-    ensures { λ r. ⌜ r ≡ unreclaimedBar holds reclaimed ⌝ }
-{
-    if holds { !reclaimed } else { false }
+    lost || marked
 }

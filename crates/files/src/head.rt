@@ -31,10 +31,7 @@ impl Head {
         ensures { λ r. ⌜ r ≡ freshHead edition ⌝ }
     {
         let old = edition.is_old();
-        Head {
-            grace: false,
-            old: old,
-        }
+        Head { grace: false, old }
     }
 
     pub fn edition(self) -> Edition

@@ -1,6 +1,7 @@
 -- Each return rewrites with the tests that led there.
+use mathlib.Core.Bool.{false, not, cond}
+use mathlib.Core.Logic.{⊎-elim}
 use mathlib.Core.Path.{_≡_, sym, _∙_}
-use Prim.Native.Nat.{_-_}
 use borrow.Author.Tests.{not-true, not-false}
 use Rattle.places.specs.Places.{first}
 use Rattle.places.specs.declared.Found.the-variants.{At}
@@ -14,12 +15,19 @@ use Rattle.files.proofs.file.File.close.Tie as tie
 at : (c : tie.After-known-told) → first (isIntent (c .before .before .before .before .before .before .before .args .client)) (c .before .before .before .before .before .before .before .args .self .intents) ≡ At (c .before .i .given .0 .0)
 at c = sym (c .before .before .before .holding .ensures) ∙ c .before .i .given .1
 
+-- out of grace, or the intent is reclaimed
+unbarred : (c : tie.Joined2) → cond (c .before .before .before .before .before .before .before .before .before .args .head .grace) (not (c .before .is-reclaimed .result)) false ≡ false
+unbarred c = ⊎-elim (λ w. rw (w .0 .taken, w .1 .left)) (λ w. rw (w .left)) (c .if2 .came)
+
 is-requires : tie.Need-is-requires
 is-requires c κs = search needs
 
+answered-requires : tie.Need-answered-requires
+answered-requires c κs = search needs
+
 returns : tie.Need-returns
 unfolding closedFile
-returns c = rw (sym (c .before .is .ensures) ∙ not-true _ (c .if1 .taken))
+returns c = c .answered .ensures ∙ rw (sym (c .before .before .is .ensures) ∙ not-true _ (c .before .if1 .taken))
 
 holding-requires : tie.Need-holding-requires
 holding-requires c κs = search needs
@@ -30,39 +38,48 @@ enum-known-i c = search needs
 enum-told : tie.Need-enum-told
 enum-told c = search needs
 
+answered-requires-2 : tie.Need-answered-requires-2
+answered-requires-2 c κs = search needs
+
 returns-2 : tie.Need-returns-2
 unfolding closedFile
-returns-2 c = rw (sym (c .before .before .before .before .before .is .ensures) ∙ not-false _ (c .before .before .before .before .if1 .left), sym (c .before .before .holding .ensures) ∙ c .enum-told .given .1)
+returns-2 c = c .answered2 .ensures ∙ rw (sym (c .before .before .before .before .before .before .is .ensures) ∙ not-false _ (c .before .before .before .before .before .if1 .left), sym (c .before .before .before .holding .ensures) ∙ c .before .enum-told .given .1)
 
 is-reclaimed-requires : tie.Need-is-reclaimed-requires
 is-reclaimed-requires c κs = search needs
 
-unreclaimed-requires : tie.Need-unreclaimed-requires
-unreclaimed-requires c κs = search needs
+answered-requires-3 : tie.Need-answered-requires-3
+answered-requires-3 c κs = search needs
 
 returns-3 : tie.Need-returns-3
 unfolding closedFile
-returns-3 c = rw (sym (c .before .before .before .before .before .before .before .before .before .is .ensures) ∙ not-false _ (c .before .before .before .before .before .before .before .before .if1 .left), at (c .before .before .before), ← c .before .before .is-reclaimed .ensures, sym (c .before .unreclaimed .ensures) ∙ c .if2 .taken)
+returns-3 c = c .answered3 .ensures ∙ rw (sym (c .before .before .before .before .before .before .before .before .before .before .is .ensures) ∙ not-false _ (c .before .before .before .before .before .before .before .before .before .if1 .left), at (c .before .before .before .before), ← c .before .before .before .is-reclaimed .ensures, c .before .before .if2 .taken, c .before .if3 .taken)
 
 without-requires : tie.Need-without-requires
 without-requires c κs = search needs
 
+answered-requires-4 : tie.Need-answered-requires-4
+answered-requires-4 c κs = search needs
+
 returns-4 : tie.Need-returns-4
 unfolding closedFile
-returns-4 c = rw (sym (c .before .before .before .before .before .before .before .before .before .before .is .ensures) ∙ not-false _ (c .before .before .before .before .before .before .before .before .before .if1 .left), at (c .before .before .before .before), ← c .before .before .before .is-reclaimed .ensures, sym (c .before .before .unreclaimed .ensures) ∙ c .before .if2 .left, c .without .ensures)
+returns-4 c = c .answered4 .ensures ∙ rw (sym (c .before .before .before .before .before .before .before .before .before .before .is .ensures) ∙ not-false _ (c .before .before .before .before .before .before .before .before .before .if1 .left), at (c .before .before .before .before), ← c .before .before .before .is-reclaimed .ensures, unbarred (c .before .before), c .before .without .ensures)
 
 pub close-spec : {M : Type 1} → statement M
 close-spec =
     tie.close
     (tie.spec
     is-requires
+    answered-requires
     returns
     holding-requires
     enum-known-i
     enum-told
+    answered-requires-2
     returns-2
     is-reclaimed-requires
-    unreclaimed-requires
+    answered-requires-3
     returns-3
     without-requires
+    answered-requires-4
     returns-4)
