@@ -41,12 +41,11 @@ fn counted(files: [File; 64], which: Listing) -> usize
     let mut i: usize = 0;
     while i < 64 {
         let f = files[i];
-        let hit = which.has(f);
-        i = i + 1;
-        if !hit {
+        i += 1;
+        if !which.has(f) {
             continue;
         }
-        n = n + 1;
+        n += 1;
     }
     n
 }
@@ -58,13 +57,7 @@ impl Record {
     {
         let fs = self.files;
         let n = counted(fs, which);
-        if numbers.len() < n {
-            return Listed {
-                status: statuses::NOSPC,
-                count: 0,
-            };
-        }
-        if sources.len() < n {
+        if numbers.len() < n || sources.len() < n {
             return Listed {
                 status: statuses::NOSPC,
                 count: 0,
@@ -74,14 +67,13 @@ impl Record {
         let mut i: usize = 0;
         while i < 64 {
             let f = fs[i];
-            let hit = which.has(f);
-            i = i + 1;
-            if !hit {
+            i += 1;
+            if !which.has(f) {
                 continue;
             }
             numbers[k] = f.number;
             sources[k] = f.source();
-            k = k + 1;
+            k += 1;
         }
         Listed {
             status: 0,

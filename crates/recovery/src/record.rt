@@ -32,11 +32,10 @@ fn room(files: [File; 64]) -> usize
     let mut k: usize = 0;
     while k < 64 {
         let f = files[k];
-        let free = f.free();
-        if free {
+        if f.free() {
             return k;
         }
-        k = k + 1;
+        k += 1;
     }
     63
 }
@@ -54,7 +53,7 @@ fn entered(files: [File; 64], x: File) -> [File; 64]
             return fs;
         }
         fs[i] = y;
-        i = i - 1;
+        i -= 1;
     }
     fs[0] = x;
     fs
@@ -70,13 +69,12 @@ fn left_out(files: [File; 64], at: usize) -> [File; 64]
     let mut i = at;
     while i < 63 {
         let y = fs[i + 1];
-        let free = y.free();
-        if free {
+        if y.free() {
             fs[i] = blank;
             return fs;
         }
         fs[i] = y;
-        i = i + 1;
+        i += 1;
     }
     fs[63] = blank;
     fs
@@ -92,7 +90,7 @@ fn ended(files: [File; 64]) -> [File; 64]
         let f = fs[i];
         let g = f.ended();
         fs[i] = g;
-        i = i + 1;
+        i += 1;
     }
     fs
 }
@@ -107,7 +105,7 @@ fn restarted(files: [File; 64]) -> [File; 64]
         let f = fs[i];
         let g = f.restarted();
         fs[i] = g;
-        i = i + 1;
+        i += 1;
     }
     fs
 }
@@ -120,10 +118,7 @@ impl Record {
         let f = File::blank();
         let fs = [f; 64];
         let head = Head::fresh(edition);
-        Record {
-            files: fs,
-            head: head,
-        }
+        Record { files: fs, head }
     }
 
     // The same of the current edition.
@@ -155,21 +150,20 @@ impl Record {
         let mut i: usize = 0;
         while i < 64 {
             let f = self.files[i];
-            let hit = f.is(number);
-            if hit {
+            if f.is(number) {
                 return i;
             }
-            i = i + 1;
+            i += 1;
         }
         63
     }
 
-    // The record as it is, with a status.
-    fn refused(self, status: u32) -> Answered
+    // What a call answers, with the record as it is.
+    fn answered(self, status: u32) -> Answered
         ensures { λ r. ⌜ r ≡ answered status self ⌝ }
     {
         Answered {
-            status: status,
+            status,
             after: self,
         }
     }
@@ -183,10 +177,7 @@ impl Record {
         self.files[at] = f;
         let head = a.head;
         self.head = head;
-        Answered {
-            status: a.status,
-            after: self,
-        }
+        self.answered(a.status)
     }
 
     // Register a file with its mirrors, 16 bytes a device: 10013 in grace; 22 bad mirror list; 17 registered; 28 if 64 are registered.
@@ -194,31 +185,27 @@ impl Record {
         ensures { λ r. ⌜ r ≡ registerOf file (now (mirrors .entry)) self ⌝ }
     {
         if self.head.grace {
-            return self.refused(statuses::GRACE);
+            return self.answered(statuses::GRACE);
         }
         let e = mirroring::enrol::enrol(mirrors);
         if !e.good {
-            return self.refused(statuses::INVAL);
+            return self.answered(statuses::INVAL);
         }
         let i = self.place(file);
         let f = self.files[i];
-        let hit = f.is(file);
-        if hit {
-            return self.refused(statuses::EXIST);
+        if f.is(file) {
+            return self.answered(statuses::EXIST);
         }
         let last = self.files[63];
         if last.used {
-            return self.refused(statuses::NOSPC);
+            return self.answered(statuses::NOSPC);
         }
         let ms = e.mirrors;
         let x = File::new(file, ms);
         let old = self.files;
         let fs = entered(old, x);
         self.files = fs;
-        Answered {
-            status: 0,
-            after: self,
-        }
+        self.answered(0)
     }
 
     // Open for writing: 10013 in grace; 70; held already: 0, no change; 28 if 8 are held.
@@ -269,15 +256,12 @@ impl Record {
         let f = self.files[i];
         let status = f.forget(file, self.head);
         if status != 0 {
-            return self.refused(status);
+            return self.answered(status);
         }
         let old = self.files;
         let fs = left_out(old, i);
         self.files = fs;
-        Answered {
-            status: 0,
-            after: self,
-        }
+        self.answered(0)
     }
 
     // End of grace: 10033 not in grace.
@@ -285,16 +269,13 @@ impl Record {
         ensures { λ r. ⌜ r ≡ endOf self ⌝ }
     {
         if !self.head.grace {
-            return self.refused(statuses::NO_GRACE);
+            return self.answered(statuses::NO_GRACE);
         }
         let old = self.files;
         let fs = ended(old);
         self.files = fs;
         self.head.grace = false;
-        Answered {
-            status: 0,
-            after: self,
-        }
+        self.answered(0)
     }
 
     // Restart: no refusal.
@@ -305,9 +286,6 @@ impl Record {
         let fs = restarted(old);
         self.files = fs;
         self.head.grace = true;
-        Answered {
-            status: 0,
-            after: self,
-        }
+        self.answered(0)
     }
 }

@@ -29,11 +29,11 @@ mul-f c = omega arith
 array-copy-out-f : tie.Need-array-copy-out-f Inv-loop μ-loop
 array-copy-out-f c = omega arith
 
-has-requires : tie.Need-has-requires Inv-loop μ-loop
-has-requires c κs = search needs
-
 add-i : tie.Need-add-i Inv-loop μ-loop
 add-i c = omega arith
+
+has-requires : tie.Need-has-requires Inv-loop μ-loop
+has-requires c κs = search needs
 
 loop-less : tie.Need-loop-less Inv-loop μ-loop
 loop-less c = omega arith
@@ -62,8 +62,8 @@ counted-spec =
     loop-holds
     mul-f
     array-copy-out-f
-    has-requires
     add-i
+    has-requires
     loop-less
     loop-again
     add-n

@@ -6,19 +6,22 @@ use Rattle.recovery.specs.Record.{endOf}
 use Rattle.recovery.proofs.record.Record.end_grace.Statement.{statement}
 use Rattle.recovery.proofs.record.Record.end_grace.Tie as tie
 
-refused-requires : tie.Need-refused-requires
-refused-requires c κs = search needs
+answered-requires : tie.Need-answered-requires
+answered-requires c κs = search needs
 
 returns : tie.Need-returns
 unfolding endOf
-returns c = c .refused .ensures ∙ rw (not-true (c .before .before .before .args .self .head .grace) (c .before .if1 .taken))
+returns c = c .answered .ensures ∙ rw (not-true (c .before .before .before .args .self .head .grace) (c .before .if1 .taken))
 
 ended-requires : tie.Need-ended-requires
 ended-requires c κs = search needs
 
+answered-requires-2 : tie.Need-answered-requires-2
+answered-requires-2 c κs = search needs
+
 returns-2 : tie.Need-returns-2
 unfolding endOf
-returns-2 c = rw (not-false (c .before .before .before .before .before .args .self .head .grace) (c .before .before .before .if1 .left), c .before .ended .ensures)
+returns-2 c = c .answered2 .ensures ∙ rw (not-false (c .before .before .before .before .before .before .args .self .head .grace) (c .before .before .before .before .if1 .left), c .before .before .ended .ensures)
 
 pub end-grace-spec : {M : Type 1} → statement M
-end-grace-spec = tie.close (tie.spec refused-requires returns ended-requires returns-2)
+end-grace-spec = tie.close (tie.spec answered-requires returns ended-requires answered-requires-2 returns-2)

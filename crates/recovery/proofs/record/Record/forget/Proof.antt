@@ -19,19 +19,22 @@ element-copy-out-f c = search needs
 forget-requires : tie.Need-forget-requires
 forget-requires c κs = search needs
 
-refused-requires : tie.Need-refused-requires
-refused-requires c κs = search needs
+answered-requires : tie.Need-answered-requires
+answered-requires c κs = search needs
 
 returns : tie.Need-returns
 unfolding forgetOf
-returns c = c .refused .ensures ∙ rw (← c .before .before .before .before .before .place .ensures .0, ← c .before .before .forget .ensures, ne-eqb _ _ (c .before .if1 .taken))
+returns c = c .answered .ensures ∙ rw (← c .before .before .before .before .before .place .ensures .0, ← c .before .before .forget .ensures, ne-eqb _ _ (c .before .if1 .taken))
 
 left-out-requires : tie.Need-left-out-requires
 left-out-requires c κs = search needs
 
+answered-requires-2 : tie.Need-answered-requires-2
+answered-requires-2 c κs = search needs
+
 returns-2 : tie.Need-returns-2
 unfolding forgetOf
-returns-2 c = rw (← c .before .before .before .before .before .before .place .ensures .0, ← c .before .before .before .forget .ensures, eq-eqb _ _ (c .before .before .if1 .left), c .left-out .ensures)
+returns-2 c = c .answered2 .ensures ∙ rw (← c .before .before .before .before .before .before .before .place .ensures .0, ← c .before .before .before .before .forget .ensures, eq-eqb _ _ (c .before .before .before .if1 .left), c .before .left-out .ensures)
 
 pub forget-spec : {M : Type 1} → statement M
 forget-spec =
@@ -41,7 +44,8 @@ forget-spec =
     mul-f
     element-copy-out-f
     forget-requires
-    refused-requires
+    answered-requires
     returns
     left-out-requires
+    answered-requires-2
     returns-2)

@@ -1,10 +1,11 @@
 -- The loop writes what is chosen to the front of both slices: `Counting` and two `Filling` hold at its head.
+use mathlib.Core.Logic.{⊎-elim}
 use mathlib.Core.Path.{_≡_, refl}
 use Prim.Native.Nat.{_≤_, _<_, _-_}
 use native.Mathlib.Omega.{arith}
 use lib.ListN.{length}
 use borrow.Author.Needs.{needs}
-use borrow.Author.Tests.{not-true, not-false}
+use borrow.Author.Tests.{not-true, not-false, ltb-true, ltb-false}
 use Rattle.places.proofs.Loops.{mapped-length, Counting, counting-none, counting-skip, counting-more, counting-room, Filling, filling-none, filling-skip, filling-more, filling-length, filled}
 use Rattle.files.specs.File.{noFile, sourceOf}
 use Rattle.recovery.specs.Record.{isWanted, numberOf}
@@ -21,6 +22,10 @@ abbrev μ-loop : tie.MeasureT-loop
 long : (c : tie.Start Inv-loop μ-loop) → length (c .args .self .files) ≡ 64
 long c = search (mapped-length, needs)
 
+-- the second slice is long enough
+enough : (c : tie.Else2 Inv-loop μ-loop) → c .before .before .counted .result ≤ length (c .before .before .before .before .before .before .args .sources .now)
+enough c = ltb-false _ _ (c .if2 .left)
+
 -- there is room for one more
 room : (c : tie.Else3 Inv-loop μ-loop) → c .before .before .before .before .loop .k < c .before .before .before .before .before .before .before .counted .result
 room c = omega (arith, c .before .before .before .before .before .before .before .counted .ensures, counting-room (c .before .before .before .before .loop .inv .1) noFile (omega (arith, long (c .before .before .before .before .before .before .before .before .before .before .before))) _ (c .before .has .ensures) (not-false _ (c .if3 .left)))
@@ -29,10 +34,9 @@ counted-requires : tie.Need-counted-requires Inv-loop μ-loop
 counted-requires c κs = search needs
 
 returns : tie.Need-returns Inv-loop μ-loop
-returns c = short-numbers _ _ (c .before .counted .ensures) (c .if1 .taken)
-
-returns-2 : tie.Need-returns-2 Inv-loop μ-loop
-returns-2 c = short-sources _ _ (c .before .before .counted .ensures) (c .before .if1 .left) (c .if2 .taken)
+returns c =
+    let n = c .before .counted .ensures in
+    ⊎-elim (λ w. short-numbers _ _ n (w .taken)) (λ w. short-sources _ _ n (w .0 .left) (ltb-true _ _ (w .1 .taken))) (c .if1 .came)
 
 loop-holds : tie.Need-loop-holds Inv-loop μ-loop
 loop-holds c = (omega arith, counting-none _ _, filling-none _ _ _ _, filling-none _ _ _ _)
@@ -43,11 +47,11 @@ mul-f c = omega arith
 array-copy-out-f : tie.Need-array-copy-out-f Inv-loop μ-loop
 array-copy-out-f c = omega arith
 
-has-requires : tie.Need-has-requires Inv-loop μ-loop
-has-requires c κs = search needs
-
 add-i : tie.Need-add-i Inv-loop μ-loop
 add-i c = omega arith
+
+has-requires : tie.Need-has-requires Inv-loop μ-loop
+has-requires c κs = search needs
 
 loop-less : tie.Need-loop-less Inv-loop μ-loop
 loop-less c = omega arith
@@ -73,7 +77,7 @@ source-requires : tie.Need-source-requires Inv-loop μ-loop
 source-requires c κs = search needs
 
 slice-write-sources : tie.Need-slice-write-sources Inv-loop μ-loop
-slice-write-sources c = omega (arith, room (c .before), filling-length (c .before .before .before .before .before .loop .inv .3))
+slice-write-sources c = omega (arith, enough (c .before .before .before .before .before .before), room (c .before), filling-length (c .before .before .before .before .before .loop .inv .3))
 
 add-k : tie.Need-add-k Inv-loop μ-loop
 add-k c = omega arith
@@ -98,9 +102,9 @@ same-length c = filling-length (c .before .loop .inv .2)
 same-length-2 : tie.Need-same-length-2 Inv-loop μ-loop
 same-length-2 c = filling-length (c .before .loop .inv .3)
 
-returns-3 : tie.Need-returns-3 Inv-loop μ-loop
-returns-3 c = let h : length (c .before .before .before .before .before .before .before .before .args .self .files) ≤ c .before .loop .i = omega (arith, long (c .before .before .before .before .before .before .before .before)) in
-    both-filled _ _ (c .before .before .before .before .counted .ensures) _ _ (c .before .before .before .if1 .left) (c .before .before .if2 .left) (filled (c .before .loop .inv .2) h) (filled (c .before .loop .inv .3) h)
+returns-2 : tie.Need-returns-2 Inv-loop μ-loop
+returns-2 c = let h : length (c .before .before .before .before .before .before .before .before .args .self .files) ≤ c .before .loop .i = omega (arith, long (c .before .before .before .before .before .before .before .before)) in
+    both-filled _ _ (c .before .before .before .before .counted .ensures) _ _ (c .before .before .before .if1 .left) (enough (c .before .before)) (filled (c .before .loop .inv .2) h) (filled (c .before .loop .inv .3) h)
 
 pub list-spec : {M : Type 1} → statement M
 list-spec =
@@ -110,12 +114,11 @@ list-spec =
     μ-loop
     counted-requires
     returns
-    returns-2
     loop-holds
     mul-f
     array-copy-out-f
-    has-requires
     add-i
+    has-requires
     loop-less
     loop-again
     mul-numbers
@@ -127,4 +130,4 @@ list-spec =
     loop-again-2
     same-length
     same-length-2
-    returns-3)
+    returns-2)
