@@ -8,6 +8,7 @@ use libc::EINTR;
 use libc::STDERR_FILENO;
 use libc::STDIN_FILENO;
 use libc::STDOUT_FILENO;
+ghost use mathlib.Core.Path.{_≡_};
 ghost use Prim.Native.Nat.{_≤_};
 ghost use lib.ListN.{length};
 ghost use Rattle.io.specs.Counts.{Counts};
@@ -19,6 +20,29 @@ struct Moved {
     failed: bool,
 }
 
+// A call that answered below 0 moved none: it failed, unless a signal interrupted it.
+fn none_moved() -> Moved
+    ensures { λ r. ⌜ r .n ≡ 0 ⌝ }
+{
+    let failed = os::errno() != EINTR;
+    Moved {
+        n: 0,
+        last: failed,
+        failed,
+    }
+}
+
+// What several calls moved together.
+fn in_all(n: usize, failed: bool) -> Moved
+    ensures { λ r. ⌜ r .n ≡ n ⌝ }
+{
+    Moved {
+        n,
+        last: true,
+        failed,
+    }
+}
+
 // One read into buf; none are left where it moves none.
 fn read_some(buf: &mut [u8]) -> Moved
     ensures { λ r. ⌜ r .n ≤ length (now (buf .exit)) ⌝ }
@@ -26,12 +50,7 @@ fn read_some(buf: &mut [u8]) -> Moved
     let got = libc::read(STDIN_FILENO, buf);
     let n = io::count(got, buf);
     if got < 0 {
-        let failed = os::errno() != EINTR;
-        return Moved {
-            n: 0,
-            last: failed,
-            failed,
-        };
+        return none_moved();
     }
     Moved {
         n,
@@ -49,20 +68,12 @@ fn read_all(buf: &mut [u8]) -> Moved
     while 0 < turns {
         let got = read_some(&mut buf[done..]);
         if got.last {
-            return Moved {
-                n: done,
-                last: true,
-                failed: got.failed,
-            };
+            return in_all(done, got.failed);
         }
         done += got.n;
         turns -= 1;
     }
-    Moved {
-        n: done,
-        last: false,
-        failed: true,
-    }
+    in_all(done, true)
 }
 
 // Reads once and throws it away.
@@ -82,20 +93,12 @@ fn skip_rest() -> Moved
     while 0 < turns {
         let got = skip_some();
         if got.last {
-            return Moved {
-                n: done,
-                last: true,
-                failed: got.failed,
-            };
+            return in_all(done, got.failed);
         }
         done += got.n;
         turns -= 1;
     }
-    Moved {
-        n: done,
-        last: false,
-        failed: true,
-    }
+    in_all(done, true)
 }
 
 // One write of bytes at the start of buf; it failed where it moves none of some.
@@ -105,12 +108,7 @@ fn write_some(buf: &[u8]) -> Moved
     let put = libc::write(STDOUT_FILENO, buf);
     let n = io::count(put, buf);
     if put < 0 {
-        let failed = os::errno() != EINTR;
-        return Moved {
-            n: 0,
-            last: failed,
-            failed,
-        };
+        return none_moved();
     }
     Moved {
         n,
@@ -126,20 +124,12 @@ fn write_all(buf: &[u8]) -> Moved {
     while 0 < turns {
         let put = write_some(&buf[done..]);
         if put.last {
-            return Moved {
-                n: done,
-                last: true,
-                failed: put.failed,
-            };
+            return in_all(done, put.failed);
         }
         done += put.n;
         turns -= 1;
     }
-    Moved {
-        n: done,
-        last: false,
-        failed: true,
-    }
+    in_all(done, true)
 }
 
 // The line of a fault: the program's name, what failed after so many bytes, and why by errno, which no call has changed since.

@@ -29,6 +29,9 @@ part-read-some-end c = omega arith
 read-some-requires : tie.Need-read-some-requires Inv-loop μ-loop
 read-some-requires c κs = search needs
 
+in-all-requires : tie.Need-in-all-requires Inv-loop μ-loop
+in-all-requires c κs = search needs
+
 same-length : tie.Need-same-length Inv-loop μ-loop
 same-length c = omega arith
 
@@ -47,6 +50,9 @@ loop-less c = omega arith
 loop-again : tie.Need-loop-again Inv-loop μ-loop
 loop-again c = omega arith
 
+in-all-requires-2 : tie.Need-in-all-requires-2 Inv-loop μ-loop
+in-all-requires-2 c κs = search needs
+
 same-length-2 : tie.Need-same-length-2 Inv-loop μ-loop
 same-length-2 c = omega arith
 
@@ -64,11 +70,13 @@ read-all-spec =
     part-read-some-start
     part-read-some-end
     read-some-requires
+    in-all-requires
     same-length
     returns
     add-done
     sub-turns
     loop-less
     loop-again
+    in-all-requires-2
     same-length-2
     returns-2)

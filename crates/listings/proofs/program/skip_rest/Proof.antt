@@ -17,6 +17,9 @@ loop-holds c = search needs
 skip-some-requires : tie.Need-skip-some-requires Inv-loop μ-loop
 skip-some-requires c κs = search needs
 
+in-all-requires : tie.Need-in-all-requires Inv-loop μ-loop
+in-all-requires c κs = search needs
+
 returns : tie.Need-returns Inv-loop μ-loop
 returns c = omega arith
 
@@ -32,6 +35,9 @@ loop-less c = omega arith
 loop-again : tie.Need-loop-again Inv-loop μ-loop
 loop-again c = omega arith
 
+in-all-requires-2 : tie.Need-in-all-requires-2 Inv-loop μ-loop
+in-all-requires-2 c κs = search needs
+
 returns-2 : tie.Need-returns-2 Inv-loop μ-loop
 returns-2 c = omega arith
 
@@ -43,9 +49,11 @@ skip-rest-spec =
     μ-loop
     loop-holds
     skip-some-requires
+    in-all-requires
     returns
     add-done
     sub-turns
     loop-less
     loop-again
+    in-all-requires-2
     returns-2)

@@ -27,6 +27,9 @@ part-write-some-end c = omega arith
 write-some-requires : tie.Need-write-some-requires Inv-loop μ-loop
 write-some-requires c κs = search needs
 
+in-all-requires : tie.Need-in-all-requires Inv-loop μ-loop
+in-all-requires c κs = search needs
+
 returns : tie.Need-returns Inv-loop μ-loop
 returns c = omega arith
 
@@ -42,6 +45,9 @@ loop-less c = omega arith
 loop-again : tie.Need-loop-again Inv-loop μ-loop
 loop-again c = omega arith
 
+in-all-requires-2 : tie.Need-in-all-requires-2 Inv-loop μ-loop
+in-all-requires-2 c κs = search needs
+
 returns-2 : tie.Need-returns-2 Inv-loop μ-loop
 returns-2 c = omega arith
 
@@ -56,9 +62,11 @@ write-all-spec =
     part-write-some-start
     part-write-some-end
     write-some-requires
+    in-all-requires
     returns
     add-done
     sub-turns
     loop-less
     loop-again
+    in-all-requires-2
     returns-2)
