@@ -12,6 +12,13 @@ noIntent = record { client = 0; taken = false; reclaimed = false }
 abbrev pub intentOf : ℕ → Intent
 intentOf c = record { client = c; taken = true; reclaimed = false }
 
+-- one that stays at the end of grace, or a free place
+abbrev pub stayedOf : ℕ → Bool → Intent
+stayedOf c b = record { client = c; taken = b; reclaimed = b }
+
+abbrev pub clientOf : Intent → ℕ
+clientOf x = x .client
+
 abbrev pub noIntents : List Intent
 noIntents = replicate 8 noIntent
 

@@ -4,10 +4,10 @@ ghost use mathlib.Core.Path.{_≡_};
 ghost use mathlib.Core.List.{map};
 ghost use Prim.Native.Nat.{_<_};
 ghost use mathlib.Core.Bool.{cond};
-ghost use lib.ListN.{getD, set, replicate};
+ghost use lib.ListN.{getD, set, replicate, length};
 ghost use Rattle.places.specs.Lists.{any, chosen, fill};
 ghost use Rattle.places.specs.Places.{first, isFound, leftOut};
-ghost use Rattle.intents.specs.Intents.{noIntent, intentOf, isIntent, isFree, isKept, isLost, reclaimedIf, unreclaimedIntent, firstTaken};
+ghost use Rattle.intents.specs.Intents.{noIntent, intentOf, isIntent, isFree, isKept, isLost, clientOf, stayedOf, reclaimedIf, unreclaimedIntent, firstTaken};
 
 // A place for an intent: its client, whether the place is taken, and whether the client has reclaimed since the latest restart.
 #[repr(C)]
@@ -84,11 +84,15 @@ impl Intent {
         if self.taken { self.reclaimed } else { false }
     }
 
-    // Whether it is an intent that was not reclaimed.
-    pub(crate) fn is_lost(self) -> bool
-        ensures { λ r. ⌜ r ≡ isLost self ⌝ }
+    // An intent that stays, or a free place.
+    fn stayed(client: u64, there: bool) -> Intent
+        ensures { λ r. ⌜ r ≡ stayedOf client there ⌝ }
     {
-        if self.taken { !self.reclaimed } else { false }
+        Intent {
+            client,
+            taken: there,
+            reclaimed: there,
+        }
     }
 
     // The place once the client has reclaimed.
@@ -218,38 +222,66 @@ fn either(test: bool, x: bool, y: bool) -> bool
     if test { x } else { y }
 }
 
-// Whether there is an intent that was not reclaimed since the latest restart.
+// One for yes, none for no: a count is raised without a branch.
+fn one_if(test: bool) -> usize
+    ensures { λ r. ⌜ r ≡ cond test 1 0 ⌝ }
+{
+    if test { 1 } else { 0 }
+}
+
+// Whether there is an intent that was not reclaimed since the latest restart: fewer stay than there are.
 pub fn lost(intents: [Intent; 8]) -> bool
     ensures { λ r. ⌜ r ≡ any isLost intents ⌝ }
 {
+    let mut kept: usize = 0;
+    let mut taken: usize = 0;
     let mut i: usize = 0;
     while i < 8 {
         let x = intents[i];
-        if x.is_lost() {
-            return true;
-        }
+        kept += one_if(x.stays());
+        taken += one_if(x.taken);
         i += 1;
     }
-    false
+    kept < taken
+}
+
+// The clients of the intents that stay at the end of grace, and how many they are. The places after them are 0, and one more is to spare: each client
+// is written there, whether its intent stays or not.
+struct Kept {
+    clients: [u64; 9],
+    count: usize,
+}
+
+fn kept_clients(intents: [Intent; 8]) -> Kept
+    ensures { λ r. ⌜ (r .clients ≡ fill (map clientOf (chosen isKept intents)) (replicate 9 0)) × (r .count ≡ length (chosen isKept intents)) ⌝ }
+{
+    let mut clients: [u64; 9] = [0; 9];
+    let mut count: usize = 0;
+    let mut i: usize = 0;
+    while i < 8 {
+        let x = intents[i];
+        clients[count] = x.client;
+        count += one_if(x.stays());
+        i += 1;
+    }
+    clients[count] = 0;
+    Kept { clients, count }
 }
 
 // The intents that stay at the end of grace, in their order, from the first place on.
 pub fn staying(intents: [Intent; 8]) -> [Intent; 8]
     ensures { λ r. ⌜ r ≡ fill (chosen isKept intents) (replicate 8 noIntent) ⌝ }
 {
+    let kept = kept_clients(intents);
+    let clients = kept.clients;
     let none = Intent::none();
     let mut xs = [none; 8];
-    let mut k: usize = 0;
     let mut i: usize = 0;
     while i < 8 {
-        let y = intents[i];
-        let hit = y.stays();
+        let there = i < kept.count;
+        let x = Intent::stayed(clients[i], there);
+        xs[i] = x;
         i += 1;
-        if !hit {
-            continue;
-        }
-        xs[k] = y;
-        k += 1;
     }
     xs
 }
