@@ -1,7 +1,6 @@
 #!/bin/sh
 # copies.sh ARCHIVE: for each call on a record, how many copies of a record (15,368 bytes) and of its files (15,360) the compiled code makes,
-# and how many of one file (240 bytes) or less. Ends with 1 where a call makes a copy of the record or its files; the two lists still go by value
-# (docs/landings/in-place.md), and may.
+# and how many of one file (240 bytes) or less. Ends with 1 where a call makes a copy of the record or its files.
 objdump -dr --no-show-raw-insn "$1" | awk '
     /^[0-9a-f]+ <sc_record_/ { name = $2; gsub(/[<>:]/, "", name); names[++n] = name; size = 0 }
     /^[0-9a-f]+ </ && !/<sc_record_/ { name = "" }
@@ -13,7 +12,7 @@ objdump -dr --no-show-raw-insn "$1" | awk '
     END {
         for (i = 1; i <= n; i++) {
             printf "%-24s copies of the record or its files: %d, of less: %d\n", names[i], whole[names[i]], less[names[i]]
-            if (whole[names[i]] && names[i] !~ /resilver|offered/) bad = 1
+            if (whole[names[i]]) bad = 1
         }
         exit bad || n == 0
     }'

@@ -7,7 +7,7 @@
  *   - no other thread reads or writes that memory during the call;
  *   - buffers of bytes are good at any alignment, numbers and structs at that of their type.
  * No function keeps a pointer after it returns, allocates, locks or fails in any way but by its answer.
- * Stack: the two lists of a record, sc_record_resilver and sc_record_offered, take up to 32,768 bytes; every other call takes 2,048 at most (tests/stack).
+ * Stack: every call takes 2,048 bytes at most (tests/stack).
  *
  * Calls answer 0, or a refusal: the first that applies in the order given beside the call. A refused call changes nothing, unless it says so.
  */

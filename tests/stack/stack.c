@@ -1,6 +1,6 @@
 /* The stack that each call uses: those on a record, on layout bodies and requests, on epochs. The call runs on a painted stack of its own, once with each of two colours, and the lowest byte that is no
  * longer paint says how deep it went. The record has 62 or 63 files, one of them with 7 or 8 intents; each call is answered as written beside it.
- * Ends with 1 where a call in place takes more than LIMIT bytes, or any is answered otherwise; the two lists still go by value. */
+ * Ends with 1 where a call takes more than LIMIT bytes or is answered otherwise. */
 #define _XOPEN_SOURCE 700
 #include "stellcircle.h"
 #include <stdio.h>
@@ -76,15 +76,15 @@ static void join(void) { sc_epochs_fresh(&epochs); answer = sc_epochs_join(&epoc
 static void start(void) { sc_epochs_fresh(&epochs); sc_epochs_join(&epochs, 3); answer = sc_epochs_start(&epochs, 3); }
 
 /* in the order of a history */
-static const struct { const char *what; void (*call)(void); uint32_t answer; int by_value; } calls[] = {
-    {"register", enter, 0, 0}, {"open", open_file, 0, 0}, {"close", close_file, 0, 0}, {"forget", forget, 0, 0}, {"restart", restart, 0, 0},
-    {"reclaim", reclaim, 0, 0}, {"LAYOUTRETURN", reports, 0, 0}, {"LAYOUTRETURN, handed on", handed_on, SC_HANDED_ON, 0},
-    {"end of grace", end_grace, 0, 0}, {"resilver list", resilver, 0, 1}, {"offered for copying", offered, 0, 1}, {"repaired", repaired, 0, 0},
-    {"fresh", fresh, 0, 0}, {"fresh, old", fresh_old, 0, 0},
-    {"layout write", write_layout, 0, 0}, {"layout check", check_layout, 0, 0}, {"layout extent", extent, 0, 0}, {"layout merge", merge, 0, 0},
-    {"RDMA layout write", write_rdma, 0, 0}, {"RDMA layout check", check_rdma, 0, 0}, {"request check", check_request, 0, 0},
-    {"report check", check_report, 0, 0}, {"report next", next_error, 1, 0}, {"statistics next", next_statistic, 0, 0}, {"reply", write_reply, 0, 0},
-    {"epochs fresh", fresh_epochs, 0, 0}, {"epochs join", join, 0, 0}, {"epochs start", start, 0, 0},
+static const struct { const char *what; void (*call)(void); uint32_t answer; } calls[] = {
+    {"register", enter, 0}, {"open", open_file, 0}, {"close", close_file, 0}, {"forget", forget, 0}, {"restart", restart, 0},
+    {"reclaim", reclaim, 0}, {"LAYOUTRETURN", reports, 0}, {"LAYOUTRETURN, handed on", handed_on, SC_HANDED_ON},
+    {"end of grace", end_grace, 0}, {"resilver list", resilver, 0}, {"offered for copying", offered, 0}, {"repaired", repaired, 0},
+    {"fresh", fresh, 0}, {"fresh, old", fresh_old, 0},
+    {"layout write", write_layout, 0}, {"layout check", check_layout, 0}, {"layout extent", extent, 0}, {"layout merge", merge, 0},
+    {"RDMA layout write", write_rdma, 0}, {"RDMA layout check", check_rdma, 0}, {"request check", check_request, 0},
+    {"report check", check_report, 0}, {"report next", next_error, 1}, {"statistics next", next_statistic, 0}, {"reply", write_reply, 0},
+    {"epochs fresh", fresh_epochs, 0}, {"epochs join", join, 0}, {"epochs start", start, 0},
 };
 
 static size_t painted(void (*call)(void), unsigned char paint)
@@ -159,8 +159,8 @@ int main(void)
     for (size_t k = 0; k < sizeof calls / sizeof calls[0]; k++) {
         size_t n = used(calls[k].call) - none;
         int otherwise = answer != calls[k].answer;
-        printf("%-24s %6zu bytes of stack%s%s\n", calls[k].what, n, calls[k].by_value ? ", by value" : n > LIMIT ? ", more than the limit" : "", otherwise ? ", answered otherwise" : "");
-        bad |= (n > LIMIT && !calls[k].by_value) || otherwise;
+        printf("%-24s %6zu bytes of stack%s%s\n", calls[k].what, n, n > LIMIT ? ", more than the limit" : "", otherwise ? ", answered otherwise" : "");
+        bad |= n > LIMIT || otherwise;
     }
     return bad;
 }

@@ -1,8 +1,11 @@
--- The record, its head, a file, and what a call on a record or a file answers, as the laws of `walks` and `records` take them.
+-- The record, its head, a file, what a call on a record or a file answers, and what a listing carries, as the laws of `walks` and `records` take them.
+use denote.Enum.Declared.{field as enum-field}
 use denote.Struct.Declared.{field}
+use denote.Struct.Field.{usize-field}
 use denote.Struct.Laws as LL
 use mathlib.Core.List.{[], _∷_}
 use Rattle.walks.proofs.Types.{Rec, Headed, Stored, stored-as}
+use Rattle.records.proofs.Listed as listed-by
 use Rattle.mirroring.proofs.blame.Change as C
 use Rattle.mirroring.proofs.blame.Change.Laws as C′
 use Rattle.mirroring.proofs.totals.Totals as U
@@ -15,10 +18,14 @@ use Rattle.files.proofs.file.File.Laws as F′
 use Rattle.files.proofs.file.FileAnswered as A
 use Rattle.files.proofs.head.Head as B
 use Rattle.files.proofs.head.Head.Laws as B′
+use Rattle.recovery.proofs.listing.Listing as L
 use Rattle.recovery.proofs.record.Record as T
 use Rattle.recovery.proofs.record.Record.Laws as T′
 use Rattle.capi.specs.declared.Verdict.{Verdict}
+use Rattle.capi.specs.declared.listing.Tally.{Tally}
 use Rattle.capi.proofs.Verdict as J
+use Rattle.capi.proofs.listing.Tally as N
+use Rattle.capi.proofs.listing.Tally.Laws as N′
 
 abbrev pub whole : Rec
 whole = record { T = T.the-type; laws = T′.the-laws; plain = T′.the-plain; lowers = T′.lowers }
@@ -50,3 +57,16 @@ entering = stored-as heading file file-answered
 
 abbrev pub verdict : Headed heading
 verdict = record { name = J.the-type .name; D = Verdict; others = []; status = λ s. s .status; head = λ s. s .head; rest = λ s. tt; one = J.the-type .to-one; laws = tt; plain = tt }
+
+abbrev pub listing : listed-by.Tally
+listing = record {
+  name = N.the-type .name;
+  D = Tally;
+  others = usize-field ∷ enum-field L.the-type ∷ [];
+  status = λ c. c .status;
+  count = λ c. c .count;
+  rest = λ c. N.the-type .to c .1 .1;
+  one = N.the-type .to-one;
+  laws = N′.the-laws .1 .1;
+  plain = N′.the-plain .1 .1;
+}

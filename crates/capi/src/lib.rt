@@ -1,8 +1,9 @@
 // What a C server calls on a recovery record that it owns (paper 01, "The recovery record"): each call of the record, on the record where it
 // lies, with the promise of the method by value. A call on one file reads that file and what stands beside the files, and
-// changes both in their place; fresh, register, forget, restart and the end of grace move or change the files where they lie; the two lists go by value.
+// changes both in their place; fresh, register, forget, restart and the end of grace move or change the files where they lie; the two lists read each file where it lies.
 // First a file's place, then the functions by value that `recovery` and `files` lack, then what changes more than one file, and the calls in the
 // paper's order.
+mod listing;
 mod totals;
 
 use files::file::File;
@@ -10,7 +11,6 @@ use files::file::FileAnswered;
 use files::head::Edition;
 use files::head::Head;
 use layoutreturn::Outcome;
-use recovery::listing::Listing;
 use recovery::record::Record;
 ghost use mathlib.Core.Path.{_≡_};
 ghost use mathlib.Core.Bool.{not};
@@ -79,31 +79,6 @@ fn answered(
     *read_over = totals::hand_out(r, read);
     *written_over = totals::hand_out(w, written);
     o
-}
-
-// The resilver list, with its count through a pointer.
-fn resilver(r: Record, files: &mut [u64], sources: &mut [u8], count: &mut u64) -> u32
-    ensures { λ s. ⌜ listed s (now (count .exit)) (now (files .exit)) (now (sources .exit)) ≡ listingOf Resilver r (now (files .entry)) (now (sources .entry)) ⌝ }
-{
-    let l = r.list(Listing::Resilver, files, sources);
-    *count = wide(l.count);
-    l.status
-}
-
-// The files offered for copying, with their count through a pointer.
-fn offered(r: Record, files: &mut [u64], sources: &mut [u8], count: &mut u64) -> u32
-    ensures { λ s. ⌜ listed s (now (count .exit)) (now (files .exit)) (now (sources .exit)) ≡ listingOf Offered r (now (files .entry)) (now (sources .entry)) ⌝ }
-{
-    let l = r.list(Listing::Offered, files, sources);
-    *count = wide(l.count);
-    l.status
-}
-
-// A count as a number of 64 bits.
-fn wide(n: usize) -> u64
-    ensures { λ r. ⌜ r ≡ n ⌝ }
-{
-    n as u64
 }
 
 // ---- A call that changes more than one file.
@@ -481,7 +456,14 @@ pub extern "C" fn sc_record_resilver(
 ) -> u32
     ensures { λ s. ⌜ listed s (now (count .exit)) (now (files .exit)) (now (sources .exit)) ≡ listingOf Resilver (now (r .entry)) (now (files .entry)) (now (sources .entry)) ⌝ }
 {
-    resilver(*r, files, sources, count)
+    let mut c = listing::resilver();
+    let mut i: usize = 0;
+    while i < 128 {
+        c = listing::turn(r.files[i % 64], i, c, files, sources);
+        i = i + 1;
+    }
+    *count = c.count;
+    c.status
 }
 
 #[no_mangle]
@@ -493,5 +475,12 @@ pub extern "C" fn sc_record_offered(
 ) -> u32
     ensures { λ s. ⌜ listed s (now (count .exit)) (now (files .exit)) (now (sources .exit)) ≡ listingOf Offered (now (r .entry)) (now (files .entry)) (now (sources .entry)) ⌝ }
 {
-    offered(*r, files, sources, count)
+    let mut c = listing::offered();
+    let mut i: usize = 0;
+    while i < 128 {
+        c = listing::turn(r.files[i % 64], i, c, files, sources);
+        i = i + 1;
+    }
+    *count = c.count;
+    c.status
 }

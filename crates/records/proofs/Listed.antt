@@ -3,7 +3,7 @@
 --     { let mut c = e();  let mut i: usize = 0;  while i < M { c = g(r.list[i % N], i, c, a, b);  i = i + 1; }  *count = c.count;  c.status }
 -- over two covered functions
 --     fn e() -> C                                                          ensures { λ c. ⌜ c ≡ start ⌝ }
---     fn g(x: F, i: usize, c: C, a: &mut [uA], b: &mut [uB]) -> C          ensures { λ c′. ⌜ (c′ ≡ Next x i c as bs) × (now (a .exit) ≡ A-next x i c as bs) × (now (b .exit) ≡ B-next x i c as bs) ⌝ }
+--     fn g(x: F, i: usize, c: C, a: &mut [uA], b: &mut [uB]) -> C          ensures { λ d. ⌜ (d, now (a .exit), now (b .exit)) ≡ Next x i c (now (a .entry)) (now (b .entry)) ⌝ }
 -- where `list` is a field of T that is an array of N structs F (`Element.antt`'s `Elements` of crate walks), C is a struct of a u32, a uC and more, in that order (`Counting`), F and C are plain data, and T is Copy.
 -- The slices are lent again at each turn (`Again.antt`). In this order: C; the turns; the MIR of f, its contract, the loop with its invariant, the walk, and
 --     spec         the theorem of f from those of e and g, at any Q that holds of what the turns make (`Gives`) where the list has N elements
@@ -64,13 +64,19 @@ use Rattle.records.proofs.Lists.{holds, no-less}
 use Rattle.records.proofs.Again.{LentAgain, lends-again, comes-back}
 
 -- ---- t turns from i on: what is carried, and both lists
-module _ {T F : Declared} (El : Elements T F) (none : F .D) {C : Type 0} (Next : F .D → ℕ → C → List ℕ → List ℕ → C) (A-next B-next : F .D → ℕ → C → List ℕ → List ℕ → List ℕ) (h : T .D) where
-  abbrev pub element : ℕ → F .D
-  element i = getD (El .list h) (i % El .n) none
+module _ {T F : Declared} (El : Elements T F) (none : F .D) {C : Type 0} (Next : F .D → ℕ → C → List ℕ → List ℕ → C × List ℕ × List ℕ) (h : T .D) where
+  abbrev pub next : ℕ → C × List ℕ × List ℕ → C × List ℕ × List ℕ
+  next i z = Next (getD (El .list h) (i % El .n) none) i (z .0) (z .1) (z .2)
 
-  abbrev pub goes : ℕ → ℕ → C → List ℕ → List ℕ → C × List ℕ × List ℕ
-  goes zero i c xs ys = (c, xs, ys)
-  goes (suc t) i c xs ys = goes t (i + 1) (Next (element i) i c xs ys) (A-next (element i) i c xs ys) (B-next (element i) i c xs ys)
+  unfoldable pub goes : ℕ → ℕ → C × List ℕ × List ℕ → C × List ℕ × List ℕ
+  goes zero i z = z
+  goes (suc t) i z = goes t (i + 1) (next i z)
+
+  -- what each turn keeps holds after all of them
+  pub kept : (P : ℕ → C × List ℕ × List ℕ → Type 0) (m t i : ℕ) (z : C × List ℕ × List ℕ) → i + t ≡ m → ((j : ℕ) (y : C × List ℕ × List ℕ) → j < m → P j y → P (j + 1) (next j y)) → P i z → P m (goes t i z)
+  unfolding goes
+  kept P m zero i z e step p = let q : i ≡ m = omega (arith, e) in subst (λ (j : ℕ). P j z) q p
+  kept P m (suc t) i z e step p = kept P m t (i + 1) (next i z) (omega (arith, e)) step (step i z (omega (arith, e)) p)
 
 -- ---- C: a struct of plain data whose first two fields are a u32 and a u64
 abbrev to-tally : (Fs : List Field) (D : Type 0) → (D → ℕ) → (D → ℕ) → (D → Denots (field-rows Fs)) → D → Denots (field-rows (u32-field ∷ u64-field ∷ Fs))
@@ -98,7 +104,7 @@ module _ (S : Tally) where
   tally-plain = (LL.u32-plain, (LL.u64-plain, S .plain))
 
 module _ {T : Declared} (Fc : Rec) (Sc : Tally) (El : Elements T (Fc .T)) (TL : LL.Laws T) (cs : LL.Copyables (T .parts)) (small : Tᵇ (ltb (size (layout (shape (Fc .T)))) (2 ^ bits w64))) (n-small : Tᵇ (ltb (El .n) (2 ^ bits w64))) (n-some : 0 < El .n) (m : ℕ) (m-small : Tᵇ (ltb m (2 ^ bits w64)))
-    (wa wb : Width) (none : Fc .T .D) (start : Sc .D) (Next : Fc .T .D → ℕ → Sc .D → List ℕ → List ℕ → Sc .D) (A-next B-next : Fc .T .D → ℕ → Sc .D → List ℕ → List ℕ → List ℕ)
+    (wa wb : Width) (none : Fc .T .D) (start : Sc .D) (Next : Fc .T .D → ℕ → Sc .D → List ℕ → List ℕ → Sc .D × List ℕ × List ℕ)
     (Q : T .D → List ℕ → List ℕ → ℕ → List ℕ → List ℕ → ℕ → Type 0) where
   abbrev F : Declared
   F = Fc .T
@@ -192,7 +198,7 @@ module _ {T : Declared} (Fc : Rec) (Sc : Tally) (El : Elements T (Fc .T)) (TL : 
   ls = record-lead Fc ∷ number-lead w64 ∷ record { Row = KR; val = cval; makes = λ M 𝓤 H A W. LL.makes K (tally-plain Sc) 𝓤 H A } ∷ []
 
   abbrev Is-next : Leads ls → Ins ps → K .D → Outs ps → Type 0
-  Is-next l i c o = (c ≡ Next (l .0) (l .1 .0) (l .1 .1 .0) (i .0) (i .1 .0)) × (o .0 ≡ A-next (l .0) (l .1 .0) (l .1 .1 .0) (i .0) (i .1 .0)) × (o .1 .0 ≡ B-next (l .0) (l .1 .0) (l .1 .1 .0) (i .0) (i .1 .0))
+  Is-next l i c o = (c, o .0, o .1 .0) ≡ Next (l .0) (l .1 .0) (l .1 .1 .0) (i .0) (i .1 .0)
 
   abbrev Stepper : Callee
   Stepper M 𝓤 H A = g.Callee ls KR ps g.always Is-next 𝓤 H A
@@ -212,9 +218,12 @@ module _ {T : Declared} (Fc : Rec) (Sc : Tally) (El : Elements T (Fc .T)) (TL : 
   abbrev stayed : Stays (ended .signature .params) (ended .kept)
   stayed = (stay-none-ref (0 ∷ []) tt (plain (λ _. R)) yes, (stay-slice (1 ∷ []) tt (plain (λ _. UInt wa)), (stay-slice (2 ∷ []) tt (plain (λ _. UInt wb)), (stay-ref (3 ∷ []) tt (plain (λ _. UInt w64)), tt))))
 
-  -- what the turns make is what f ensures
+  -- f ensures what the turns make
+  abbrev Ensured : T .D → List ℕ → List ℕ → K .D × List ℕ × List ℕ → Type 0
+  Ensured h xs ys z = Q h xs ys (Sc .status (z .0)) (z .1) (z .2) (Sc .count (z .0))
+
   abbrev pub Gives : Type 0
-  Gives = (h : T .D) (xs ys : List ℕ) → length (El .list h) ≡ El .n → Q h xs ys (Sc .status (goes El none Next A-next B-next h m 0 start xs ys .0)) (goes El none Next A-next B-next h m 0 start xs ys .1) (goes El none Next A-next B-next h m 0 start xs ys .2) (Sc .count (goes El none Next A-next B-next h m 0 start xs ys .0))
+  Gives = (h : T .D) (xs ys : List ℕ) → length (El .list h) ≡ El .n → Ensured h xs ys (goes El none Next h m 0 (start, xs, ys))
 
   abbrev none-lent : Lfts 1
   none-lent = ([], tt)
@@ -249,7 +258,7 @@ module _ {T : Declared} (Fc : Rec) (Sc : Tally) (El : Elements T (Fc .T)) (TL : 
     Post = walkOf 𝓤 H A ended stayed (clauses M 𝓤) .post (((κ, (κ₁, (κ₂, (κ₃, tt)))), (q, (q₁, (q₂, (q₃, tt)))), tt, x, at), tt)
 
     abbrev goal : K .D × List ℕ × List ℕ
-    goal = goes El none Next A-next B-next h m 0 start xs₀ ys₀
+    goal = goes El none Next h m 0 (start, xs₀, ys₀)
 
     m-fits : m < 2 ^ 64
     m-fits = ltb→lt m (2 ^ 64) m-small
@@ -287,7 +296,7 @@ module _ {T : Declared} (Fc : Rec) (Sc : Tally) (El : Elements T (Fc .T)) (TL : 
         pub good : Is KR c (cval c ∷ [])
         pub a-long : length xs ≡ length xs₀
         pub b-long : length ys ≡ length ys₀
-        pub leads : goes El none Next A-next B-next h s i c xs ys ≡ goal
+        pub leads : goes El none Next h s i (c, xs, ys) ≡ goal
 
       abbrev Some₂ : ℕ → ℕ → K .D → List ℕ → SProp 𝓤
       Some₂ s i c xs = ex 𝓤 (λ (ys : List ℕ). guard 𝓤 (Facts s i c xs ys) (⋆ 𝓤 H A (At i c xs ys)))
@@ -336,7 +345,7 @@ module _ {T : Declared} (Fc : Rec) (Sc : Tally) (El : Elements T (Fc .T)) (TL : 
 
       -- a turn
       more : (i : ℕ) (c : K .D) (xs ys : List ℕ) (Z : SProp 𝓤) → i < m → Is KR c (cval c ∷ []) → length xs ≡ length xs₀ → length ys ≡ length ys₀
-          → ((d : K .D) (zs ws : List ℕ) → (d ≡ Next (element El none Next A-next B-next h i) i c xs ys) × (zs ≡ A-next (element El none Next A-next B-next h i) i c xs ys) × (ws ≡ B-next (element El none Next A-next B-next h i) i c xs ys) → Is KR d (cval d ∷ []) → length zs ≡ length xs → length ws ≡ length ys
+          → ((d : K .D) (zs ws : List ℕ) → (d, zs, ws) ≡ next El none Next h i (c, xs, ys) → Is KR d (cval d ∷ []) → length zs ≡ length xs → length ws ≡ length ys
           → ent 𝓤 (⋆ 𝓤 H A (At (i + 1) d zs ws)) Z) → ent 𝓤 (⋆ 𝓤 H A (At i c xs ys)) (Wp 𝓤 H C Λ En (turn (ks .1 .0)) (afterTurn 𝓤 H Z Left))
       unfolding afterTurn
       more i c xs ys Z l c-is ea eb next =
@@ -398,7 +407,7 @@ module _ {T : Declared} (Fc : Rec) (Sc : Tally) (El : Elements T (Fc .T)) (TL : 
           typed = ((tt, (tt, (record { fits = subst (Room (UInt wa)) (sym ea) a-room .0 }, tt))), ((tt, (tt, (record { fits = subst (Room (UInt wb)) (sym eb) b-room .0 }, tt))), tt))
 
       so : (c : K .D) (xs ys : List ℕ) → (c, xs, ys) ≡ goal → Q h xs₀ ys₀ (Sc .status c) xs ys (Sc .count c)
-      so c xs ys e = subst (λ (z : K .D × List ℕ × List ℕ). Q h xs₀ ys₀ (Sc .status (z .0)) (z .1) (z .2) (Sc .count (z .0))) (sym e) (gives h xs₀ ys₀ long)
+      so c xs ys e = subst (Ensured h xs₀ ys₀) (sym e) (gives h xs₀ ys₀ long)
 
       -- the turn past the last
       ends : (c : K .D) (xs ys : List ℕ) (Z : SProp 𝓤) → Is KR c (cval c ∷ []) → length xs ≡ length xs₀ → length ys ≡ length ys₀ → Q h xs₀ ys₀ (Sc .status c) xs ys (Sc .count c) → ent 𝓤 (⋆ 𝓤 H A (At m c xs ys)) (Wp 𝓤 H C Λ En (turn (ks .1 .0)) (afterTurn 𝓤 H Z Left))
@@ -409,6 +418,7 @@ module _ {T : Declared} (Fc : Rec) (Sc : Tally) (El : Elements T (Fc .T)) (TL : 
           leaves-loop ! (load ! (from ! (stop !)) (look ! 28 refl)) $ exec ! C Λ En rest (atRet En Post) $ forget ! 28 refl $ leaves m c xs ys c-is ea eb p
 
       turn-at : (s i : ℕ) (c : K .D) (xs ys : List ℕ) → Facts s i c xs ys → ent 𝓤 (⋆ 𝓤 H A (At i c xs ys)) (Wp 𝓤 H C Λ En (turn (ks .1 .0)) (afterTurn 𝓤 H (Below s) Left))
+      unfolding goes
       turn-at zero i c xs ys f = subst (λ (j : ℕ). ent 𝓤 (⋆ 𝓤 H A (At j c xs ys)) (Wp 𝓤 H C Λ En (turn (ks .1 .0)) (afterTurn 𝓤 H (Below zero) Left))) (sym last-is) (ends c xs ys (Below zero) (f .good) (f .a-long) (f .b-long) (so c xs ys (f .leads)))
         where
           last-is : i ≡ m
@@ -419,13 +429,13 @@ module _ {T : Declared} (Fc : Rec) (Sc : Tally) (El : Elements T (Fc .T)) (TL : 
             good = d-is;
             a-long = la ∙ f .a-long;
             b-long = lb ∙ f .b-long;
-            leads = (λ k. goes El none Next A-next B-next h s (i + 1) (e .0 k) (e .1 k) (e .2 k)) ∙ f .leads;
+            leads = ap (goes El none Next h s (i + 1)) e ∙ f .leads;
           }))
           (via 𝓤 (guard 𝓤 (s < suc s) (Inv s)) (guardI 𝓤 (s < suc s) (Inv s) (omega arith)) (exI 𝓤 (λ (s′ : ℕ). guard 𝓤 (s′ < suc s) (Inv s′)) s)))
 
       loops : (c : K .D) → c ≡ start → Is KR c (cval c ∷ []) → ent 𝓤 (⋆ 𝓤 H A (At 0 c xs₀ ys₀)) (Wp 𝓤 H C Λ En (loop (turn (ks .1 .0))) Left)
       loops c e c-is =
-          via 𝓤 (Inv m) (inv-in m 0 c xs₀ ys₀ (record { to-go = omega arith; good = c-is; a-long = refl; b-long = refl; leads = ap (λ (d : K .D). goes El none Next A-next B-next h m 0 d xs₀ ys₀) e }))
+          via 𝓤 (Inv m) (inv-in m 0 c xs₀ ys₀ (record { to-go = omega arith; good = c-is; a-long = refl; b-long = refl; leads = ap (λ (d : K .D). goes El none Next h m 0 (d, xs₀, ys₀)) e }))
           (loop-rule 𝓤 H (W .laws) 𝓣 _<_ (Nat·lt-wfRel .wf) En (turn (ks .1 .0)) Left Inv (λ s. exE 𝓤 (λ (i : ℕ). Some₀ s i) (λ i. exE 𝓤 (λ (d : K .D). Some₁ s i d) (λ d. exE 𝓤 (λ (xs : List ℕ). Some₂ s i d xs) (λ xs. exE 𝓤 (λ (ys : List ℕ). guard 𝓤 (Facts s i d xs ys) (⋆ 𝓤 H A (At i d xs ys))) (λ ys. guardE 𝓤 (Facts s i d xs ys) (⋆ 𝓤 H A (At i d xs ys)) (turn-at s i d xs ys)))))) m)
 
     walk : (𝓣 : Tables 𝓤 H) (ks : Each Name callees) → Known 𝓤 H A (𝓣 .C) callees ks → ent 𝓤 (onEntry 𝓤 H A (ended .signature) (κ, (κ₁, (κ₂, (κ₃, tt)))) (q, (q₁, (q₂, (q₃, tt)))) x at) (WpFn 𝓤 H (𝓣 .C) (𝓣 .Λ) (code ks) (vptr b o ∷ sliceVal (b₁, o₁) (length xs₀) ∷ sliceVal (b₂, o₂) (length ys₀) ∷ vptr b₃ o₃ ∷ []) Post)

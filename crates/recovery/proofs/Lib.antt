@@ -1,4 +1,4 @@
 pub mod Moving
-mod Listings
+pub mod Listings
 -- LAYOUTRETURN at a place of the record.
 pub mod Returning
