@@ -1,8 +1,9 @@
 // What a C server calls on a recovery record that it owns (paper 01, "The recovery record"): each call of the record, on the record where it
 // lies, with the promise of the method by value. A call on one file reads that file and what stands beside the files, and
 // changes both in their place; fresh, register, forget, restart and the end of grace move or change the files where they lie; the two lists read each file where it lies.
-// First a file's place, then the functions by value that `recovery` and `files` lack, then what changes more than one file, and the calls in the
-// paper's order.
+// A function that takes a reference has the form that the law of `walks` or `records` which proves it is stated for: each test is a function of values,
+// a loop is left by `break`, and a field is reached anew each time. First a file's place, then the functions by value that `recovery` and `files` lack,
+// then what changes more than one file, and the calls in the paper's order.
 mod listing;
 mod totals;
 
@@ -33,7 +34,7 @@ ghost use Rattle.capi.specs.Whole.{restartVerdict, endVerdict, forgetVer
 fn is(used: bool, number: u64, file: u64) -> bool
     ensures { λ r. ⌜ r ≡ isNumbered used number file ⌝ }
 {
-    if used { number == file } else { false }
+    used && number == file
 }
 
 // The place of a file, or the last place: the record is read where it lies.
@@ -45,7 +46,7 @@ fn position(r: &Record, file: u64) -> usize
         if is(r.files[i].used, r.files[i].number, file) {
             break;
         }
-        i = i + 1;
+        i += 1;
     }
     i
 }
@@ -148,7 +149,7 @@ fn empty_each(r: &mut Record)
     let mut i: usize = 0;
     while i < 64 {
         r.files[i] = emptied(r.files[i]);
-        i = i + 1;
+        i += 1;
     }
 }
 
@@ -159,7 +160,7 @@ fn restart_each(r: &mut Record)
     let mut i: usize = 0;
     while i < 64 {
         r.files[i] = File::restarted(r.files[i]);
-        i = i + 1;
+        i += 1;
     }
 }
 
@@ -181,8 +182,8 @@ fn refusing(status: u32, head: Head) -> FileAnswered
 {
     let x = File::blank();
     FileAnswered {
-        status: status,
-        head: head,
+        status,
+        head,
         file: x,
     }
 }
@@ -198,8 +199,7 @@ fn admitted(f: File, number: u64, head: Head, mirrors: &[u8]) -> FileAnswered
     if !e.good {
         return refusing(statuses::INVAL, head);
     }
-    let hit = f.is(number);
-    if hit {
+    if f.is(number) {
         return refusing(statuses::EXIST, head);
     }
     if f.used {
@@ -209,7 +209,7 @@ fn admitted(f: File, number: u64, head: Head, mirrors: &[u8]) -> FileAnswered
     let x = File::new(number, ms);
     FileAnswered {
         status: 0,
-        head: head,
+        head,
         file: x,
     }
 }
@@ -237,7 +237,7 @@ fn room(r: &Record, key: u64) -> usize
         if vacant(r.files[i].used, r.files[i].number, key) {
             break;
         }
-        i = i + 1;
+        i += 1;
     }
     i
 }
@@ -260,7 +260,7 @@ fn enter(r: &mut Record, at: usize, s: FileAnswered)
             break;
         }
         r.files[i] = r.files[i - 1];
-        i = i - 1;
+        i -= 1;
     }
     r.files[i] = s.file;
 }
