@@ -13,9 +13,9 @@ use Rattle.extents.specs.declared.Verdict.the-variants.{Accepted, Refused}
 use Rattle.extents.proofs.Turns.{accepted-count}
 use Rattle.layouts.specs.declared.kinds.Kind.the-variants.{Scsi}
 use Rattle.layouts.specs.Columns.{even, roomy}
+use Rattle.layouts.proofs.Placed.{scsi-size}
 use Rattle.merging.specs.Merged.{merged}
 use Rattle.joining.specs.Merge.{columnsOf, columnList, comesTo, fewEnough, mergeColumns}
-use Rattle.joining.proofs.Scsi.{size}
 
 module _ (devs offs lens stos sts : List ℕ) (room : ℕ) where
   pub uneven : even Scsi (columnsOf devs offs lens stos sts) ≡ false → Refused 1 0 ≡ mergeColumns devs offs lens stos sts room
@@ -37,10 +37,10 @@ module _ (k room : ℕ) where
   too-long h = rw (lt-ltb 1024 k h)
 
   pub no-room : k ≤ 1024 → room < 4 + 44 * k → Refused 8 0 ≡ roomy Scsi (fewEnough (Accepted k)) room
-  no-room h g = rw (le-ltb 1024 k h, size k, lt-ltb room (4 + 44 * k) g)
+  no-room h g = rw (le-ltb 1024 k h, scsi-size k, lt-ltb room (4 + 44 * k) g)
 
   pub room-for : k ≤ 1024 → 4 + 44 * k ≤ room → Accepted k ≡ roomy Scsi (fewEnough (Accepted k)) room
-  room-for h g = rw (le-ltb 1024 k h, size k, le-ltb room (4 + 44 * k) g)
+  room-for h g = rw (le-ltb 1024 k h, scsi-size k, le-ltb room (4 + 44 * k) g)
 
 -- an accepted list has passed the rules, and has come to what the answer says
 pub came-to : (f : ℕ → Extent) (n k m : ℕ) → Accepted k ≡ comesTo (verdict [] 0 (listFrom f n 0)) m → (k ≡ m) × (verdict [] 0 (listFrom f n 0) ≡ Accepted n)

@@ -1,5 +1,5 @@
 -- All of a list that is valid: the joiner's runs are those of `merged`. In this order: devices of 16 bytes; the runs never get fewer; where the joiner stands;
--- one more piece: where its run stands, its bytes; all pieces: how many runs, their bytes, what each piece asks; the extents of columns.
+-- one more piece, and its bytes; all pieces: how many runs, their bytes, what each piece asks; the extents of columns.
 use Prim.Native.Nat.{ℕ, zero, suc, _+_, _-_, _*_, _^_, _<_, _≤_}
 use mathlib.Core.Path.{_≡_, refl, sym, ap, _∙_}
 use mathlib.Core.List.{List, [], _∷_, _++_, map}
@@ -9,21 +9,25 @@ use native.Mathlib.Omega.{arith}
 use borrow.Author.Tests.{eq-eqb, ne-eqb}
 use lib.Dec.{eqb}
 use lib.ListN.{length, getD, set, length-append, length-set}
-use lib.Seq.{sets}
+use lib.Seq.{sets, length-sets}
 use Rattle.xdr.specs.Be.{beBytes}
 use Rattle.extents.specs.Extents.{listFrom}
 use Rattle.extents.specs.declared.Extent.{Extent}
+use Rattle.layouts.specs.declared.kinds.Kind.the-variants.{Scsi}
+use Rattle.layouts.specs.Layout.{rowBytes, rowsBytes}
+use Rattle.layouts.specs.Placing.{scsi, placed}
 use Rattle.layouts.proofs.Stores.{device-length}
+use Rattle.layouts.proofs.Placed.{roomy-extent, roomy-length}
 use Rattle.merging.specs.Meaning.{All}
 use Rattle.merging.specs.Merged.{plain, follows, grown, place, joined, merged}
 use Rattle.merging.proofs.Rules.{all-map, all-map₂, Sound, Before, Valid, sounds}
 use Rattle.merging.proofs.Runs.{plain-keeps, plain-shape, plain-sound, plain-valid, all-place, Later, place-valid, place-later}
-use Rattle.joining.specs.Joiner.{extentsBytes, Kind, reads, invalids, others, kindOf, pieceIn, runIn, started, longer, Runs, noRuns, kindPlace, zeroRun, openOf, opening, runOf, joins, nextRun, nextCount, fed, storedAs, storedRun, wrote, fedAll, wroteAll, rowPiece, piecesFrom, Held, Ready, Feeds, FeedsAll}
+use Rattle.joining.specs.Joiner.{bytesOf, pieceIn, numbersIn, Runs, noRuns, placeOf, zeroRun, openOf, runOf, joins, longerRun, nextRun, nextCount, fed, wrote, fedAll, wroteAll, rowPiece, piecesFrom, HeldRun, Held, Ready, ReadyAll}
 use Rattle.joining.specs.Merge.{rowOf}
 use Rattle.joining.specs.declared.joiner.Piece.{Piece}
 use Rattle.joining.specs.declared.joiner.Run.{Run}
-use Rattle.joining.proofs.Places.{at, same-or-other, same-run, other-run}
-use Rattle.joining.proofs.Tracks.{Found, Tracks, Stepped, longer-run, fresh-run, which, step-tracks, none-tracked}
+use Rattle.joining.proofs.Places.{at}
+use Rattle.joining.proofs.Tracks.{Found, Tracks, Stepped, longer-run, fresh-run, which, step-tracks, none-tracked, joined-end}
 use Rattle.joining.proofs.Bytes.{store-length, store-run}
 
 -- ---- devices of 16 bytes
@@ -77,11 +81,8 @@ module _ (devs : List ℕ) (r : Runs) (runs : List Extent) (p : Piece) (ps : Lis
   abbrev e : Extent
   e = plain (pieceIn devs p)
 
-  abbrev k : Kind
-  k = kindOf (p .state)
-
   abbrev o : Run
-  o = openOf r k
+  o = openOf r (placeOf (p .state))
 
   pub goes-on : Going devs (fed devs r p) (place e runs) ps
   goes-on =
@@ -97,25 +98,28 @@ module _ (devs : List ℕ) (r : Runs) (runs : List Extent) (p : Piece) (ps : Lis
   cases : Stepped devs r runs p (g .valid) (g .to-come .0) (g .later .0) (g .tracks)
   cases = which devs r runs p (g .valid) (g .to-come .0) (g .later .0) (g .tracks)
 
-  -- its run stands among the runs
-  pub run-inside : nextRun o p (r .count) (joins devs r p) .slot < length (place e runs)
-  run-inside = by cases
+  -- its store gives the bytes of the runs with it, where there is room for them
+  pub run-stored : (d : List ℕ) → 4 + 44 * length (place e runs) ≤ length d → wrote devs r (sets d 4 (bytesOf runs)) p ≡ sets d 4 (bytesOf (place e runs))
+  unfolding wrote plain
+  run-stored d room = by cases
     where
-      by : Stepped devs r runs p (g .valid) (g .to-come .0) (g .later .0) (g .tracks) → nextRun o p (r .count) (joins devs r p) .slot < length (place e runs)
-      by (longer-run b h q) = rw (b, q) (omega (arith, h .inside, length-set runs (o .slot) (grown (at runs (o .slot)) e)))
-      by (fresh-run b q) = rw (b, q) (omega (arith, g .tracks .counted, length-append runs (e ∷ [])))
+      had : List ℕ
+      had = sets d 4 (bytesOf runs)
 
-  -- and its store gives the bytes of the runs with it
-  pub run-stored : (d : List ℕ) → wrote devs r (sets d 4 (extentsBytes runs)) p ≡ sets d 4 (extentsBytes (place e runs))
-  unfolding storedAs
-  run-stored d = by cases
-    where
-      by : Stepped devs r runs p (g .valid) (g .to-come .0) (g .later .0) (g .tracks) → wrote devs r (sets d 4 (extentsBytes runs)) p ≡ sets d 4 (extentsBytes (place e runs))
-      by (longer-run b h q) =
-          let l : o .len + p .len ≡ at runs (o .slot) .len + e .len = omega (arith, plain-shape (runIn devs o) .lens, plain-shape (pieceIn devs p) .lens, ap (λ (x : Extent). x .len) (h .is)) in
+      by : Stepped devs r runs p (g .valid) (g .to-come .0) (g .later .0) (g .tracks) → wrote devs r had p ≡ sets d 4 (bytesOf (place e runs))
+      by (longer-run b h f q) =
+          let x = plain-shape (pieceIn devs p) in
+          let l : p .offset + p .len - o .offset ≡ at runs (o .slot) .len + e .len = omega (arith, h .begins, h .ends, f .in-file, x .offsets, x .lens) in
           let z : 4 + 44 * o .slot + 24 ≡ 4 + (44 * o .slot + 24) = omega arith in
-          rw (b, q, l, z) (store-length d runs (o .slot) (at runs (o .slot) .len + e .len) (h .inside) (g .whole))
-      by (fresh-run b q) = rw (b, q, g .tracks .counted) (store-run d runs e (g .whole))
+          let inside : 4 + 44 * o .slot + 44 ≤ length had = omega (arith, room, h .inside, ap length q, length-set runs (o .slot) (grown (at runs (o .slot)) e), length-sets d 4 (bytesOf runs)) in
+          rw (b, q)
+          (roomy-length had (o .slot) (p .offset + p .len - o .offset) inside
+          ∙ rw (l, z) (store-length d runs (o .slot) (at runs (o .slot) .len + e .len) (h .inside) (g .whole)))
+      by (fresh-run b q) =
+          let inside : 4 + 44 * r .count + 44 ≤ length had = omega (arith, room, g .tracks .counted, ap length q, length-append runs (e ∷ []), length-sets d 4 (bytesOf runs)) in
+          rw (b, q)
+          (roomy-extent had (r .count) devs (p .row) (numbersIn p) (eqb (p .state) 3) inside (g .there .0)
+          ∙ rw (g .tracks .counted) (store-run d runs e (g .whole)))
 
 -- ---- all pieces
 pub fed-count : (devs : List ℕ) (r : Runs) (runs : List Extent) (ps : List Piece) → Going devs r runs ps → fedAll devs r ps .count ≡ length (joined runs (extentsOf devs ps))
@@ -123,13 +127,13 @@ unfolding fedAll joined
 fed-count devs r runs [] g = g .tracks .counted
 fed-count devs r runs (p ∷ ps) g = fed-count devs (fed devs r p) (place (plain (pieceIn devs p)) runs) ps (goes-on devs r runs p ps g)
 
-pub wrote-all : (devs : List ℕ) (r : Runs) (runs : List Extent) (ps : List Piece) → Going devs r runs ps → (d : List ℕ)
-    → wroteAll devs r (sets d 4 (extentsBytes runs)) ps ≡ sets d 4 (extentsBytes (joined runs (extentsOf devs ps)))
+pub wrote-all : (devs : List ℕ) (r : Runs) (runs : List Extent) (ps : List Piece) → Going devs r runs ps → (d : List ℕ) → 4 + 44 * length (joined runs (extentsOf devs ps)) ≤ length d
+    → wroteAll devs r (sets d 4 (bytesOf runs)) ps ≡ sets d 4 (bytesOf (joined runs (extentsOf devs ps)))
 unfolding wroteAll joined
-wrote-all devs r runs [] g d = refl
-wrote-all devs r runs (p ∷ ps) g d =
-    ap (λ (x : List ℕ). wroteAll devs (fed devs r p) x ps) (run-stored devs r runs p ps g d)
-    ∙ wrote-all devs (fed devs r p) (place (plain (pieceIn devs p)) runs) ps (goes-on devs r runs p ps g) d
+wrote-all devs r runs [] g d room = refl
+wrote-all devs r runs (p ∷ ps) g d room =
+    ap (λ (x : List ℕ). wroteAll devs (fed devs r p) x ps) (run-stored devs r runs p ps g d (omega (arith, joined-length (place (plain (pieceIn devs p)) runs) (extentsOf devs ps))))
+    ∙ wrote-all devs (fed devs r p) (place (plain (pieceIn devs p)) runs) ps (goes-on devs r runs p ps g) d room
 
 -- the open runs still have their devices, and there is at most one more
 set-either : (P : Run → Type 0) (l : List Run) (i j : ℕ) (x d : Run) → P x → P (getD l j d) → P (getD (set l i x) j d)
@@ -140,18 +144,19 @@ set-either P (a ∷ l) (suc i) zero x d p q = q
 set-either P (a ∷ l) (suc i) (suc j) x d p q = set-either P l i j x d p q
 
 module _ (devs : List ℕ) (r : Runs) (p : Piece) where
-  pub next-row : There devs p → Held devs r → 16 * nextRun (runOf r (p .state)) p (r .count) (joins devs r p) .row ≤ length devs - 16
-  next-row t h = by (joins devs r p)
+  pub next-held : There devs p → Held devs r → HeldRun devs (nextRun (runOf r (p .state)) p (r .count) (joins devs r p))
+  next-held t h = by (joins devs r p) refl
     where
-      by : (b : Bool) → 16 * nextRun (runOf r (p .state)) p (r .count) b .row ≤ length devs - 16
-      by true = h (kindOf (p .state))
-      by false = omega arith
+      by : (b : Bool) → joins devs r p ≡ b → HeldRun devs (nextRun (runOf r (p .state)) p (r .count) b)
+      by true q =
+          let had = h (placeOf (p .state)) in
+          record { row-there = had .row-there; forward = omega (arith, had .forward, joined-end devs (runOf r (p .state)) p q) }
+      by false q = record { row-there = omega arith; forward = omega arith }
 
   pub fed-held : There devs p → Held devs r → Held devs (fed devs r p)
   unfolding fed
   fed-held t h k =
-      set-either (λ o. 16 * o .row ≤ length devs - 16) (r .latest) (kindPlace (kindOf (p .state))) (kindPlace k) (nextRun (runOf r (p .state)) p (r .count) (joins devs r p)) zeroRun
-      (next-row t h) (h k)
+      set-either (HeldRun devs) (r .latest) (placeOf (p .state)) k (nextRun (runOf r (p .state)) p (r .count) (joins devs r p)) zeroRun (next-held t h) (h k)
 
   pub fed-few : fed devs r p .count ≤ r .count + 1
   unfolding fed
@@ -162,20 +167,17 @@ module _ (devs : List ℕ) (r : Runs) (p : Piece) where
       by false = omega arith
 
 pub none-held : (devs : List ℕ) → Held devs noRuns
-none-held devs reads = omega arith
-none-held devs invalids = omega arith
-none-held devs others = omega arith
+none-held devs zero = record { row-there = omega arith; forward = omega arith }
+none-held devs (suc zero) = record { row-there = omega arith; forward = omega arith }
+none-held devs (suc (suc zero)) = record { row-there = omega arith; forward = omega arith }
+none-held devs (suc (suc (suc zero))) = record { row-there = omega arith; forward = omega arith }
+none-held devs (suc (suc (suc (suc k)))) = record { row-there = omega arith; forward = omega arith }
 
-pub feeds-all : (devs : List ℕ) (room : ℕ) (r : Runs) (runs : List Extent) (ps : List Piece) → Going devs r runs ps → Held devs r → r .count + length ps < 2 ^ 32
-    → 4 + 44 * length (joined runs (extentsOf devs ps)) ≤ room → FeedsAll devs room r ps
-unfolding joined
-feeds-all devs room r runs [] g h n l = tt
-feeds-all devs room r runs (p ∷ ps) g h n l = (
-  record {
-    ready = record { device-there = g .there .0; in-file = in-file; few = omega arith; held = h };
-    roomy = omega (arith, run-inside devs r runs p ps g, joined-length (place (plain (pieceIn devs p)) runs) (extentsOf devs ps));
-  },
-  feeds-all devs room (fed devs r p) (place (plain (pieceIn devs p)) runs) ps (goes-on devs r runs p ps g) (fed-held devs r p (g .there .0) h) (omega (arith, fed-few devs r p)) l,
+pub feeds-all : (devs : List ℕ) (r : Runs) (runs : List Extent) (ps : List Piece) → Going devs r runs ps → Held devs r → r .count + length ps < 2 ^ 32 → ReadyAll devs r ps
+feeds-all devs r runs [] g h n = tt
+feeds-all devs r runs (p ∷ ps) g h n = (
+  record { device-there = g .there .0; in-file = in-file; few = omega arith; held = h },
+  feeds-all devs (fed devs r p) (place (plain (pieceIn devs p)) runs) ps (goes-on devs r runs p ps g) (fed-held devs r p (g .there .0) h) (omega (arith, fed-few devs r p)),
 )
   where
     in-file : p .offset + p .len < 2 ^ 64

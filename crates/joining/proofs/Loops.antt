@@ -3,11 +3,12 @@
 use Prim.Native.Nat.{ℕ, zero, suc, _+_, _-_, _*_, _^_, _<_, _≤_}
 use mathlib.Core.Path.{_≡_, refl, sym, ap, _∙_}
 use mathlib.Core.List.{List, [], _∷_, map}
-use mathlib.Core.Bool.{Bool, true, false}
+use mathlib.Core.Bool.{Bool, true, false, cond}
 use native.Mathlib.Omega.{arith}
 use lib.ListN.{length}
-use lib.Seq.{sets, length-sets}
-use Rattle.xdr.specs.Be.{beBytes}
+use lib.Seq.{sets}
+use Rattle.layouts.specs.Layout.{rowsBytes}
+use Rattle.layouts.proofs.Placed.{length-extent-put, length-length-put}
 use Rattle.extents.specs.Extents.{listFrom, verdict}
 use Rattle.extents.specs.OnePass.{nothing, pushed, refusalAfter}
 use Rattle.extents.specs.declared.Extent.{Extent}
@@ -16,12 +17,11 @@ use Rattle.extents.specs.declared.Verdict.{Verdict}
 use Rattle.extents.specs.declared.Verdict.the-variants.{Accepted, Refused}
 use Rattle.extents.proofs.Turns as turns
 use Rattle.merging.specs.Meaning.{All}
-use Rattle.merging.specs.Merged.{plain, merged}
+use Rattle.merging.specs.Merged.{merged}
 use Rattle.merging.proofs.Rules.{Valid, passes-valid}
-use Rattle.joining.specs.Joiner.{extentBytes, extentsBytes, pieceIn, runIn, Runs, noRuns, fed, storedAs, storedRun, wrote, fedAll, wroteAll, rowPiece, piecesFrom, Held, Ready, Feeds, FeedsAll}
+use Rattle.joining.specs.Joiner.{bytesOf, pieceIn, longerRun, Runs, noRuns, runOf, storedLonger, storedStart, joins, fed, wrote, fedAll, wroteAll, rowPiece, piecesFrom, Held, Ready, ReadyAll}
 use Rattle.joining.specs.Merge.{rowOf, comesTo}
 use Rattle.joining.specs.declared.joiner.Piece.{Piece}
-use Rattle.joining.specs.declared.joiner.Run.{Run}
 use Rattle.joining.proofs.Fed.{There, Going, begins, fed-count, wrote-all, feeds-all, fed-held, fed-few, none-held, row-list, rows-there, length-pieces}
 
 -- ---- the pieces to come
@@ -99,45 +99,44 @@ module _ (devs offs lens stos sts : List ℕ) (n : ℕ) where
   pub record Filling (room : ℕ) (result d : List ℕ) (r : Runs) (i : ℕ) : Type 0 where
     pub inside : i ≤ n
     pub long : length d ≡ room
-    pub feeds : FeedsAll devs room r (piecesFrom g (n - i) i)
+    pub ready : ReadyAll devs r (piecesFrom g (n - i) i)
     pub left : wroteAll devs r d (piecesFrom g (n - i) i) ≡ result
 
   pub fill-starts : n ≤ 4096 → 16 * n ≤ length devs → verdict [] 0 (listFrom f n 0) ≡ Accepted n → (d : List ℕ) → 4 + 44 * length (merged (listFrom f n 0)) ≤ length d
-      → Filling (length d) (sets d 4 (extentsBytes (merged (listFrom f n 0)))) d noRuns 0
-  unfolding extentsBytes
+      → Filling (length d) (sets d 4 (bytesOf (merged (listFrom f n 0)))) d noRuns 0
+  unfolding rowsBytes
   fill-starts t h v d room =
       let w = going h (passes-valid (listFrom f n 0) n v) in
       let same : merged (map (pieceIn devs) (piecesFrom g n 0)) ≡ merged (listFrom f n 0) = ap merged (row-list devs offs lens stos sts n 0) in
       record {
         inside = omega arith;
         long = refl;
-        feeds = rw (pieces-all g n) (feeds-all devs (length d) noRuns [] (piecesFrom g n 0) w (none-held devs) (omega (arith, length-pieces g n 0)) (rw same room));
-        left = ap (wroteAll devs noRuns d) (pieces-all g n) ∙ wrote-all devs noRuns [] (piecesFrom g n 0) w d ∙ ap (λ (es : List Extent). sets d 4 (extentsBytes es)) same;
+        ready = rw (pieces-all g n) (feeds-all devs noRuns [] (piecesFrom g n 0) w (none-held devs) (omega (arith, length-pieces g n 0)));
+        left = ap (wroteAll devs noRuns d) (pieces-all g n) ∙ wrote-all devs noRuns [] (piecesFrom g n 0) w d (rw same room) ∙ ap (λ (es : List Extent). sets d 4 (bytesOf es)) same;
       }
 
-  length-stored : (more : Bool) (slot len : ℕ) (e : Extent) (d : List ℕ) → length (storedAs more slot len e d) ≡ length d
-  unfolding storedAs
-  length-stored true slot len e d = length-sets d (4 + 44 * slot + 24) (beBytes 8 len)
-  length-stored false slot len e d = length-sets d (4 + 44 * slot) (extentBytes (plain e))
-
-  -- what is stored of a row is what is stored of its piece
-  pub row-stored : (p : Piece) (i : ℕ) → p ≡ g i → (more : Bool) (slot len : ℕ) (d : List ℕ) → storedAs more slot len (f i) d ≡ storedAs more slot len (pieceIn devs p) d
-  row-stored p i e more slot len d = ap (λ (x : Piece). storedAs more slot len (pieceIn devs x) d) (sym e)
+  length-wrote : (r : Runs) (d : List ℕ) (p : Piece) → length (wrote devs r d p) ≡ length d
+  unfolding wrote
+  length-wrote r d p = by (joins devs r p)
+    where
+      by : (b : Bool) → length (cond b (storedLonger (longerRun (runOf r (p .state)) p) d) (storedStart devs (r .count) p d)) ≡ length d
+      by true = length-length-put d _ _
+      by false = length-extent-put d _ _ _ _ _
 
   module _ {room : ℕ} {result d : List ℕ} {r : Runs} {i : ℕ} (k : Filling room result d r i) where
-    pub fill-feeds : i < n → (p : Piece) → p ≡ g i → Feeds devs (length d) r p
-    fill-feeds l p e =
-        let all : FeedsAll devs room r (g i ∷ piecesFrom g (n - (i + 1)) (i + 1)) = rw (pieces-next g n i l) at (k .feeds) in
-        rw (e, k .long) (all .0)
+    all : i < n → ReadyAll devs r (g i ∷ piecesFrom g (n - (i + 1)) (i + 1))
+    all l = rw (pieces-next g n i l) at (k .ready)
+
+    pub fill-ready : i < n → (p : Piece) → p ≡ g i → Ready devs r p
+    fill-ready l p e = rw e (all l .0)
 
     pub fill-goes-on : i < n → (p : Piece) → p ≡ g i → (more : Runs) → more ≡ fed devs r p → (after : List ℕ) → after ≡ wrote devs r d p → Filling room result after more (i + 1)
     unfolding wroteAll
     fill-goes-on l p e more c after b =
-        let all : FeedsAll devs room r (g i ∷ piecesFrom g (n - (i + 1)) (i + 1)) = rw (pieces-next g n i l) at (k .feeds) in
         record {
           inside = omega arith;
-          long = ap length b ∙ length-stored _ _ _ _ d ∙ k .long;
-          feeds = rw (c, e) (all .1);
+          long = ap length b ∙ length-wrote r d p ∙ k .long;
+          ready = rw (c, e) (all l .1);
           left = rw (b, c, e) (ap (wroteAll devs r d) (sym (pieces-next g n i l)) ∙ k .left);
         }
 

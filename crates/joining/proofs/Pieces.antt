@@ -1,168 +1,157 @@
--- What the code has in hand of a piece, as the model says it. In this order: numbers that touch; the device of two rows; the tests of a piece after a run;
--- a hole's bytes; one more piece.
-use Prim.Native.Nat.{ℕ, suc, _+_, _-_, _*_, _^_, _<_, _≤_}
+-- What the code has in hand of a piece, as the model says it. In this order: bytes as a number; the device of two rows; the tests of a piece after a run; one
+-- more piece.
+use Prim.Native.Nat.{ℕ, zero, suc, _+_, _-_, _*_, _^_, _<_, _≤_}
 use mathlib.Core.Path.{_≡_, refl, sym, ap, _∙_}
-use mathlib.Core.List.{List, _++_}
+use mathlib.Core.List.{List, [], _∷_, _++_}
 use mathlib.Core.Bool.{Bool, true, false, cond, _&&_, _||_}
 use native.Mathlib.Omega.{arith}
 use native.Mathlib.Decide.{ℕ-discrete}
 use borrow.Author.Tests.{eq-eqb, ne-eqb}
 use lib.Dec.{eqb}
-use lib.ListN.{length, take, drop, getD, set, replicate, length-drop}
-use lib.Seq.{sets, take-add, drop-drop, getD-drop}
-use Rattle.xdr.specs.Be.{beNat, beBytes}
-use Rattle.xdr.proofs.Be.{equal-numbers, number-within, length-bytes}
+use lib.ListN.{length, take, drop, getD, set, length-drop}
+use lib.Seq.{take-add, drop-drop, getD-drop, length-take-le}
 use Rattle.xdr.specs.Reader.{sameBytes}
 use Rattle.xdr.proofs.Bytes.{same-are}
-use Rattle.extents.specs.declared.Extent.{Extent}
 use Rattle.extents.proofs.Sentences.{by-cases}
-use Rattle.layouts.proofs.Stores.{sets-then}
-use Rattle.merging.specs.Merged.{plain, follows}
-use Rattle.merging.proofs.Runs.{are-same, follows-said}
-use Rattle.joining.specs.Joiner.{extentBytes, holeOf, pieceIn, runIn, touchingOf, Runs, kindOf, kindPlace, zeroRun, runOf, joins, nextRun, nextCount, fed, storedAs, storedRun, wrote, Ready, Feeds}
+use Rattle.merging.proofs.Runs.{are-same}
+use Rattle.joining.specs.Joiner.{deviceIn, leNumber, startedRun, longerRun, Runs, zeroRun, placeOf, runOf, joinsRun, joins, fed, storedLonger, storedStart, wrote, Ready}
 use Rattle.joining.specs.declared.joiner.Piece.{Piece}
 use Rattle.joining.specs.declared.joiner.Run.{Run}
-use Rattle.joining.proofs.Fed.{next-row}
+use Rattle.joining.proofs.Tracks.{joined-end}
 
--- ---- numbers that touch
-pub touch : (a len e : ℕ) → a ≤ e → eqb (e - a) len ≡ eqb (a + len) e
-touch a len e h = by (ℕ-discrete (a + len) e)
-  where
-    by : Dec (a + len ≡ e) → eqb (e - a) len ≡ eqb (a + len) e
-    by (yes q) = eq-eqb (e - a) len (omega arith) ∙ sym (eq-eqb (a + len) e q)
-    by (no q) = ne-eqb (e - a) len (omega arith) ∙ sym (ne-eqb (a + len) e q)
+-- ---- bytes as a number
+eight-bytes : (s : List ℕ) → 8 ≤ length s
+    → getD s 0 0 + getD s 1 0 * 256 + getD s 2 0 * 65536 + getD s 3 0 * 16777216 + getD s 4 0 * 4294967296 + getD s 5 0 * 1099511627776 + getD s 6 0 * 281474976710656 + getD s 7 0 * 72057594037927936
+    ≡ leNumber (take 8 s)
+unfolding leNumber
+eight-bytes [] h = absurd (omega arith)
+eight-bytes (a ∷ []) h = absurd (omega arith)
+eight-bytes (a ∷ (b ∷ [])) h = absurd (omega arith)
+eight-bytes (a ∷ (b ∷ (c ∷ []))) h = absurd (omega arith)
+eight-bytes (a ∷ (b ∷ (c ∷ (d ∷ [])))) h = absurd (omega arith)
+eight-bytes (a ∷ (b ∷ (c ∷ (d ∷ (e ∷ []))))) h = absurd (omega arith)
+eight-bytes (a ∷ (b ∷ (c ∷ (d ∷ (e ∷ (f ∷ [])))))) h = absurd (omega arith)
+eight-bytes (a ∷ (b ∷ (c ∷ (d ∷ (e ∷ (f ∷ (g ∷ []))))))) h = absurd (omega arith)
+eight-bytes (a ∷ (b ∷ (c ∷ (d ∷ (e ∷ (f ∷ (g ∷ (x ∷ s)))))))) h = omega arith
+
+pub word-is : (s : List ℕ) (at : ℕ) → at + 8 ≤ length s
+    → getD s at 0 + getD s (at + 1) 0 * 256 + getD s (at + 2) 0 * 65536 + getD s (at + 3) 0 * 16777216 + getD s (at + 4) 0 * 4294967296 + getD s (at + 5) 0 * 1099511627776 + getD s (at + 6) 0 * 281474976710656 + getD s (at + 7) 0 * 72057594037927936
+    ≡ leNumber (take 8 (drop at s))
+word-is s at h =
+    let z : at + 0 ≡ at = omega arith in
+    rw (getD-drop at s 0 0, getD-drop at s 1 0, getD-drop at s 2 0, getD-drop at s 3 0, getD-drop at s 4 0, getD-drop at s 5 0, getD-drop at s 6 0, getD-drop at s 7 0, z) at (eight-bytes (drop at s) (rw length-drop (omega arith)))
+
+-- equal numbers of as many bytes mean equal bytes
+equal-numbers : (s t : List ℕ) → length s ≡ length t → ((k : ℕ) → getD s k 0 < 256) → ((k : ℕ) → getD t k 0 < 256) → leNumber s ≡ leNumber t → s ≡ t
+unfolding leNumber
+equal-numbers [] [] l bs bt q = refl
+equal-numbers [] (b ∷ t) l bs bt q = absurd (omega arith)
+equal-numbers (a ∷ s) [] l bs bt q = absurd (omega arith)
+equal-numbers (a ∷ s) (b ∷ t) l bs bt q =
+    let e : a ≡ b = omega (arith, bs 0, bt 0) in
+    let r : leNumber s ≡ leNumber t = omega (arith, bs 0, bt 0) in
+    rw (e, equal-numbers s t (omega arith) (λ k. bs (suc k)) (λ k. bt (suc k)) r)
+
+take-below : (n : ℕ) (s : List ℕ) → ((k : ℕ) → getD s k 0 < 256) → (k : ℕ) → getD (take n s) k 0 < 256
+take-below zero s b k = omega arith
+take-below (suc n) [] b k = omega arith
+take-below (suc n) (a ∷ s) b zero = b 0
+take-below (suc n) (a ∷ s) b (suc k) = take-below n s (λ j. b (suc j)) k
 
 -- ---- the device of two rows, as two numbers each
+apart : (a b c d : List ℕ) → length a ≡ length b → a ++ c ≡ b ++ d → (a ≡ b) × (c ≡ d)
+apart [] [] c d l q = (refl, q)
+apart [] (y ∷ b) c d l q = absurd (omega arith)
+apart (x ∷ a) [] c d l q = absurd (omega arith)
+apart (x ∷ a) (y ∷ b) c d l q =
+    let rest = apart a b c d (omega arith) (ap (drop 1) q) in
+    let e : x ≡ y = ap (λ (m : List ℕ). getD m 0 0) q in
+    (rw (e, rest .0), rest .1)
+
 module _ (s : List ℕ) (x y : ℕ) (hx : x + 16 ≤ length s) (hy : y + 16 ≤ length s) where
-  first-half : take 16 (drop x s) ≡ take 16 (drop y s) → beNat 8 (drop x s) ≡ beNat 8 (drop y s)
-  first-half q = sym (number-within 8 0 16 (drop x s) (omega arith)) ∙ ap (beNat 8) q ∙ number-within 8 0 16 (drop y s) (omega arith)
+  eight-long : (u : ℕ) → u + 8 ≤ length s → length (take 8 (drop u s)) ≡ 8
+  eight-long u h = length-take-le 8 (drop u s) (rw length-drop (omega arith))
 
-  second-half : take 16 (drop x s) ≡ take 16 (drop y s) → beNat 8 (drop (x + 8) s) ≡ beNat 8 (drop (y + 8) s)
-  second-half q =
-      ap (beNat 8) (sym (drop-drop 8 x s)) ∙ sym (number-within 8 8 16 (drop x s) (omega arith)) ∙ ap (λ (l : List ℕ). beNat 8 (drop 8 l)) q
-      ∙ number-within 8 8 16 (drop y s) (omega arith) ∙ ap (beNat 8) (drop-drop 8 y s)
+  both : (u : ℕ) → take 16 (drop u s) ≡ take 8 (drop u s) ++ take 8 (drop (u + 8) s)
+  both u = take-add 8 8 (drop u s) ∙ ap (λ (l : List ℕ). take 8 (drop u s) ++ take 8 l) (drop-drop 8 u s)
 
-  pub first-differs : (beNat 8 (drop x s) ≡ beNat 8 (drop y s) → ⊥) → false ≡ sameBytes (take 16 (drop x s)) (take 16 (drop y s))
-  first-differs n = sym (by-cases (sameBytes (take 16 (drop x s)) (take 16 (drop y s))) (λ t. n (first-half (same-are (take 16 (drop x s)) (take 16 (drop y s)) t))))
+  halves : take 16 (drop x s) ≡ take 16 (drop y s) → (take 8 (drop x s) ≡ take 8 (drop y s)) × (take 8 (drop (x + 8) s) ≡ take 8 (drop (y + 8) s))
+  halves q =
+      apart (take 8 (drop x s)) (take 8 (drop y s)) (take 8 (drop (x + 8) s)) (take 8 (drop (y + 8) s)) (eight-long x (omega arith) ∙ sym (eight-long y (omega arith)))
+      (sym (both x) ∙ q ∙ both y)
 
-  pub second-decides : ((k : ℕ) → getD s k 0 < 256) → beNat 8 (drop x s) ≡ beNat 8 (drop y s)
-      → eqb (beNat 8 (drop (x + 8) s)) (beNat 8 (drop (y + 8) s)) ≡ sameBytes (take 16 (drop x s)) (take 16 (drop y s))
-  second-decides b first = by (ℕ-discrete (beNat 8 (drop (x + 8) s)) (beNat 8 (drop (y + 8) s)))
+  pub first-differs : (leNumber (take 8 (drop x s)) ≡ leNumber (take 8 (drop y s)) → ⊥) → false ≡ sameBytes (take 16 (drop x s)) (take 16 (drop y s))
+  first-differs n = sym (by-cases (sameBytes (take 16 (drop x s)) (take 16 (drop y s))) (λ t. n (ap leNumber (halves (same-are (take 16 (drop x s)) (take 16 (drop y s)) t) .0))))
+
+  pub second-decides : ((k : ℕ) → getD s k 0 < 256) → leNumber (take 8 (drop x s)) ≡ leNumber (take 8 (drop y s))
+      → eqb (leNumber (take 8 (drop (x + 8) s))) (leNumber (take 8 (drop (y + 8) s))) ≡ sameBytes (take 16 (drop x s)) (take 16 (drop y s))
+  second-decides b first = by (ℕ-discrete (leNumber (take 8 (drop (x + 8) s))) (leNumber (take 8 (drop (y + 8) s))))
     where
-      half : (u v : ℕ) → u + 8 ≤ length s → v + 8 ≤ length s → beNat 8 (drop u s) ≡ beNat 8 (drop v s) → take 8 (drop u s) ≡ take 8 (drop v s)
-      half u v hu hv q = equal-numbers 8 (drop u s) (drop v s) (rw length-drop (omega arith)) (rw length-drop (omega arith)) (λ k. rw getD-drop (b (u + k))) (λ k. rw getD-drop (b (v + k))) q
+      half : (u v : ℕ) → u + 8 ≤ length s → v + 8 ≤ length s → leNumber (take 8 (drop u s)) ≡ leNumber (take 8 (drop v s)) → take 8 (drop u s) ≡ take 8 (drop v s)
+      half u v hu hv q =
+          equal-numbers (take 8 (drop u s)) (take 8 (drop v s)) (eight-long u hu ∙ sym (eight-long v hv)) (take-below 8 (drop u s) (λ k. rw getD-drop (b (u + k)))) (take-below 8 (drop v s) (λ k. rw getD-drop (b (v + k)))) q
 
-      both : (u : ℕ) → take 16 (drop u s) ≡ take 8 (drop u s) ++ take 8 (drop (u + 8) s)
-      both u = take-add 8 8 (drop u s) ∙ ap (λ (l : List ℕ). take 8 (drop u s) ++ take 8 l) (drop-drop 8 u s)
-
-      same : beNat 8 (drop (x + 8) s) ≡ beNat 8 (drop (y + 8) s) → take 16 (drop x s) ≡ take 16 (drop y s)
+      same : leNumber (take 8 (drop (x + 8) s)) ≡ leNumber (take 8 (drop (y + 8) s)) → take 16 (drop x s) ≡ take 16 (drop y s)
       same q = both x ∙ rw (half x y (omega arith) (omega arith) first, half (x + 8) (y + 8) (omega arith) (omega arith) q) (sym (both y))
 
-      by : Dec (beNat 8 (drop (x + 8) s) ≡ beNat 8 (drop (y + 8) s)) → eqb (beNat 8 (drop (x + 8) s)) (beNat 8 (drop (y + 8) s)) ≡ sameBytes (take 16 (drop x s)) (take 16 (drop y s))
-      by (yes q) = eq-eqb (beNat 8 (drop (x + 8) s)) (beNat 8 (drop (y + 8) s)) q ∙ rw (same q) (sym (are-same (take 16 (drop y s))))
+      by : Dec (leNumber (take 8 (drop (x + 8) s)) ≡ leNumber (take 8 (drop (y + 8) s)))
+          → eqb (leNumber (take 8 (drop (x + 8) s))) (leNumber (take 8 (drop (y + 8) s))) ≡ sameBytes (take 16 (drop x s)) (take 16 (drop y s))
+      by (yes q) = eq-eqb (leNumber (take 8 (drop (x + 8) s))) (leNumber (take 8 (drop (y + 8) s))) q ∙ rw (same q) (sym (are-same (take 16 (drop y s))))
       by (no q) =
-          ne-eqb (beNat 8 (drop (x + 8) s)) (beNat 8 (drop (y + 8) s)) q
-          ∙ sym (by-cases (sameBytes (take 16 (drop x s)) (take 16 (drop y s))) (λ t. q (second-half (same-are (take 16 (drop x s)) (take 16 (drop y s)) t))))
+          ne-eqb (leNumber (take 8 (drop (x + 8) s))) (leNumber (take 8 (drop (y + 8) s))) q
+          ∙ sym (by-cases (sameBytes (take 16 (drop x s)) (take 16 (drop y s))) (λ t. q (ap leNumber (halves (same-are (take 16 (drop x s)) (take 16 (drop y s)) t) .1))))
 
 -- ---- the tests of a piece after a run
-module _ (o : Run) (p : Piece) where
-  pub other-state : (o .state ≡ p .state → ⊥) → false ≡ touchingOf o p
-  unfolding touchingOf
-  other-state n = rw (ne-eqb (o .state) (p .state) n)
+module _ (devs : List ℕ) (o : Run) (p : Piece) where
+  pub elsewhere : (o .end ≡ p .offset → ⊥) → false ≡ joinsRun devs o p
+  unfolding joinsRun
+  elsewhere n = rw (ne-eqb (o .end) (p .offset) n)
 
-  module _ (st : o .state ≡ p .state) where
-    pub no-touch : eqb (o .offset + o .len) (p .offset) ≡ false → false ≡ touchingOf o p
-    unfolding touchingOf
-    no-touch f = rw (eq-eqb (o .state) (p .state) st, f)
+  module _ (f : o .end ≡ p .offset) where
+    pub holes-join : p .state ≡ 3 → true ≡ joinsRun devs o p
+    unfolding joinsRun
+    holes-join q = rw (eq-eqb (o .end) (p .offset) f, eq-eqb (p .state) 3 q)
 
-    module _ (f : eqb (o .offset + o .len) (p .offset) ≡ true) where
-      pub holes-touch : p .state ≡ 3 → true ≡ touchingOf o p
-      unfolding touchingOf
-      holes-touch q = rw (eq-eqb (o .state) (p .state) st, f, eq-eqb (p .state) 3 q)
+    module _ (n : p .state ≡ 3 → ⊥) where
+      pub stored-elsewhere : (o .until ≡ p .storage → ⊥) → false ≡ joinsRun devs o p
+      unfolding joinsRun
+      stored-elsewhere m = rw (eq-eqb (o .end) (p .offset) f, ne-eqb (p .state) 3 n, ne-eqb (o .until) (p .storage) m)
 
-      pub in-storage : (p .state ≡ 3 → ⊥) → eqb (o .storage + o .len) (p .storage) ≡ touchingOf o p
-      unfolding touchingOf
-      in-storage n = rw (eq-eqb (o .state) (p .state) st, f, ne-eqb (p .state) 3 n)
+      pub devices-decide : o .until ≡ p .storage → sameBytes (deviceIn devs (o .row)) (deviceIn devs (p .row)) ≡ joinsRun devs o p
+      unfolding joinsRun
+      devices-decide m = rw (eq-eqb (o .end) (p .offset) f, ne-eqb (p .state) 3 n, eq-eqb (o .until) (p .storage) m)
 
--- both tests together are those of the definition
-both-tests : (a f h d s : Bool) → ((a && (f && (h || s))) && (h || d)) ≡ (a && (f && (h || d && s)))
-both-tests false f h d s = refl
-both-tests true false h d s = refl
-both-tests true true true d s = refl
-both-tests true true false true true = refl
-both-tests true true false true false = refl
-both-tests true true false false true = refl
-both-tests true true false false false = refl
-
-pub follows-is : (devs : List ℕ) (o : Run) (p : Piece) (near more : Bool) → near ≡ touchingOf o p
-    → more ≡ (near && (eqb (p .state) 3 || sameBytes (runIn devs o .device) (pieceIn devs p .device))) → more ≡ follows (runIn devs o) (pieceIn devs p)
-unfolding touchingOf follows
-follows-is devs o p near more t e =
-    e ∙ rw t (both-tests (eqb (o .state) (p .state)) (eqb (o .offset + o .len) (p .offset)) (eqb (p .state) 3) (sameBytes (runIn devs o .device) (pieceIn devs p .device)) (eqb (o .storage + o .len) (p .storage)))
-
--- ---- a hole's bytes
-pub hole-bytes : (d : List ℕ) (at off len : ℕ)
-    → sets (sets (sets (sets (sets (sets d at (beBytes 8 0)) (at + 8) (beBytes 8 0)) (at + 16) (beBytes 8 off)) (at + 24) (beBytes 8 len)) (at + 32) (beBytes 8 0)) (at + 40) (beBytes 4 3)
-    ≡ sets d at (extentBytes (holeOf off len))
-unfolding extentBytes beBytes
-hole-bytes d at off len =
-    let zeros : replicate 16 0 ≡ beBytes 8 0 ++ beBytes 8 0 = refl in
-    sets-then (sets (sets (sets (sets d at (beBytes 8 0)) (at + 8) (beBytes 8 0)) (at + 16) (beBytes 8 off)) (at + 24) (beBytes 8 len)) (at + 32) 8 (at + 40) (beBytes 8 0) (beBytes 4 3) (length-bytes 8 0) (omega arith)
-    ∙ sets-then (sets (sets (sets d at (beBytes 8 0)) (at + 8) (beBytes 8 0)) (at + 16) (beBytes 8 off)) (at + 24) 8 (at + 32) (beBytes 8 len) (beBytes 8 0 ++ beBytes 4 3) (length-bytes 8 len) (omega arith)
-    ∙ sets-then (sets (sets d at (beBytes 8 0)) (at + 8) (beBytes 8 0)) (at + 16) 8 (at + 24) (beBytes 8 off) (beBytes 8 len ++ (beBytes 8 0 ++ beBytes 4 3)) (length-bytes 8 off) (omega arith)
-    ∙ sets-then (sets d at (beBytes 8 0)) (at + 8) 8 (at + 16) (beBytes 8 0) (beBytes 8 off ++ (beBytes 8 len ++ (beBytes 8 0 ++ beBytes 4 3))) (length-bytes 8 0) (omega arith)
-    ∙ sets-then d at 8 (at + 8) (beBytes 8 0) (beBytes 8 0 ++ (beBytes 8 off ++ (beBytes 8 len ++ (beBytes 8 0 ++ beBytes 4 3)))) (length-bytes 8 0) (omega arith)
-
-pub plain-hole : (e : Extent) → e .state ≡ 3 → plain e ≡ holeOf (e .offset) (e .len)
-unfolding plain
-plain-hole e q = rw (eq-eqb (e .state) 3 q) (λ i. record { device = replicate 16 0; offset = e .offset; len = e .len; storage = 0; state = q i })
-
-pub plain-other : (e : Extent) → (e .state ≡ 3 → ⊥) → plain e ≡ e
-unfolding plain
-plain-other e n = rw (ne-eqb (e .state) 3 n)
-
--- ---- one more piece: what the code has in hand of the run of its kind is the model's
-module _ (devs : List ℕ) (r : Runs) (p : Piece) (h : Ready devs r p) (k : ℕ) (q : k ≡ kindPlace (kindOf (p .state))) where
+-- ---- one more piece: what the code has in hand of the run of its state is the model's
+module _ (devs : List ℕ) (r : Runs) (p : Piece) (k : ℕ) (q : k ≡ placeOf (p .state)) where
   abbrev o : Run
   o = getD (r .latest) k zeroRun
 
-  same : o ≡ runOf r (p .state)
-  same = ap (λ (j : ℕ). getD (r .latest) j zeroRun) q
+  joins-is : (b : Bool) → joinsRun devs o p ≡ b → joins devs r p ≡ b
+  joins-is b e = ap (λ (j : ℕ). joinsRun devs (getD (r .latest) j zeroRun) p) (sym q) ∙ e
 
-  -- the run has a device
-  pub run-device : 16 * o .row + 16 ≤ length devs
-  run-device = rw same (omega (arith, h .device-there, h .held (kindOf (p .state))))
+  module _ (h : Ready devs r p) where
+    -- the run has a device
+    pub run-device : 16 * o .row + 16 ≤ length devs
+    run-device = omega (arith, h .device-there, h .held k .row-there)
 
-  module _ (more : Bool) (t : more ≡ follows (runIn devs o) (pieceIn devs p)) where
-    -- a run that it follows can take its length
-    pub length-fits : more ≡ true → o .len + p .len < 2 ^ 64
-    length-fits m = omega (arith, h .in-file, follows-said (runIn devs o) (pieceIn devs p) (sym t ∙ m) .in-file)
+    -- a run that it lengthens does not end before it begins
+    pub longer-forward : joinsRun devs o p ≡ true → o .offset ≤ p .offset + p .len
+    longer-forward m = omega (arith, h .held k .forward, joined-end devs o p m)
 
-    joined-is : more ≡ joins devs r p
-    joined-is = t ∙ ap (λ (x : Run). follows (runIn devs x) (pieceIn devs p)) same
+  module _ (m : joinsRun devs o p ≡ true) (next : Run) (e : next ≡ longerRun o p) where
+    pub fed-longer : record { count = r .count; latest = set (r .latest) k next } ≡ fed devs r p
+    unfolding fed
+    fed-longer = rw (e, q, joins-is true m)
 
-    module _ (next : Run) (e : next ≡ nextRun o p (r .count) more) where
-      longer-stored : more ≡ true → (x y : Extent) (d : List ℕ) → storedAs more (next .slot) (next .len) x d ≡ storedAs more (next .slot) (next .len) y d
-      unfolding storedAs
-      longer-stored m x y d = rw m
+    pub wrote-longer : (d : List ℕ) → storedLonger next d ≡ wrote devs r d p
+    unfolding wrote
+    wrote-longer d = rw (e, q, joins-is true m)
 
-      next-is : next ≡ nextRun (runOf r (p .state)) p (r .count) (joins devs r p)
-      next-is = e ∙ rw (same, joined-is)
+  module _ (m : joinsRun devs o p ≡ false) where
+    pub fed-started : (next : Run) → next ≡ startedRun (r .count) p → record { count = r .count + 1; latest = set (r .latest) k next } ≡ fed devs r p
+    unfolding fed
+    fed-started next e = rw (e, q, joins-is false m)
 
-      pub fed-is : (n : ℕ) → n ≡ nextCount (r .count) more → record { count = n; latest = set (r .latest) k next } ≡ fed devs r p
-      unfolding fed
-      fed-is n c = rw (c, next-is, joined-is, q)
-
-      -- what is stored of it: by the run that it lengthens, or by the piece itself
-      pub wrote-is : (d : List ℕ) → storedAs more (next .slot) (next .len) (pieceIn devs p) d ≡ wrote devs r d p
-      wrote-is d = by more refl ∙ rw (next-is, joined-is)
-        where
-          by : (b : Bool) → more ≡ b → storedAs more (next .slot) (next .len) (pieceIn devs p) d ≡ storedRun devs next more d
-          by true m = longer-stored m (pieceIn devs p) (runIn devs next) d
-          by false m = rw (e, m)
-
-      pub next-device : 16 * next .row + 16 ≤ length devs
-      next-device = rw next-is (omega (arith, h .device-there, next-row devs r p (h .device-there) (h .held)))
-
-      pub next-room : (room : ℕ) → Feeds devs room r p → 4 + 44 * next .slot + 44 ≤ room
-      next-room room f = rw next-is (f .roomy)
+    pub wrote-started : (d : List ℕ) → storedStart devs (r .count) p d ≡ wrote devs r d p
+    unfolding wrote
+    wrote-started d = rw (joins-is false m)

@@ -12,8 +12,8 @@ use Rattle.extents.specs.declared.Extent.{Extent}
 use Rattle.extents.specs.declared.Verdict.{Verdict}
 use Rattle.extents.specs.declared.Verdict.the-variants.{Accepted, Refused}
 use Rattle.layouts.specs.declared.kinds.Kind.the-variants.{Scsi}
-use Rattle.layouts.specs.Layout.{Row}
 use Rattle.layouts.specs.Columns.{Columns, columnRow, even, roomy, writtenBy}
+use Rattle.layouts.specs.Placing.{scsi}
 use Rattle.merging.specs.Merged.{merged}
 
 -- a SCSI list has no handles
@@ -44,10 +44,7 @@ mergeColumns devs offs lens stos sts room =
     (roomy Scsi (fewEnough (comesTo (verdict [] 0 (columnList devs offs lens stos sts)) (length (merged (columnList devs offs lens stos sts))))) room))
     (Refused 1 0)
 
--- an extent as it stands in a SCSI body, and the lent bytes afterwards
-abbrev pub scsi : Extent → Row
-scsi e = record { extent = e; handle = 0 }
-
+-- the lent bytes afterwards
 abbrev pub mergedBy : Verdict → List Extent → List ℕ → List ℕ
 mergedBy v es d = writtenBy Scsi v (map scsi es) d
 

@@ -1,14 +1,13 @@
 // The joiner: extents are fed to it in their order, and it joins those that belong together (Ticket 9). A loop that feeds it holds the latest run of each
-// kind in an array, and how many runs there are: at each turn it asks whether the piece follows the latest run of its kind (`touching`, `follows_on`), puts the
-// run with it (`next_run`) in that place, and counts (`next_count`).
-// In this order: a piece, a run, no run; the place of a kind; whether a piece follows a run; the run then, and the count.
+// state in an array, and how many runs there are: at each turn it asks whether the piece follows the latest run of its state (`joins`), and puts the run with
+// it (`longer`), or the run that it starts (`started`), in that place.
+// In this order: a piece, a run, no run; the place of a state; the same device; whether a piece follows a run; the run then; its stores.
+use layouts::placing;
 ghost use mathlib.Core.Path.{_≡_};
-ghost use mathlib.Core.Bool.{true, _&&_, _||_};
 ghost use Prim.Native.Nat.{_+_, _*_, _^_, _<_, _≤_};
-ghost use lib.Dec.{eqb};
 ghost use lib.ListN.{length, take, drop};
 ghost use Rattle.xdr.specs.Reader.{sameBytes};
-ghost use Rattle.joining.specs.Joiner.{noRun, kindOf, kindPlace, touchingOf, nextRun, nextCount};
+ghost use Rattle.joining.specs.Joiner.{noRun, placeOf, leNumber, joinsRun, longerRun, startedRun, storedLonger, storedStart};
 
 // An extent, or a part of one, whose device stays where it lies: 16 bytes in row `row` of a column of devices.
 pub(crate) struct Piece {
@@ -19,14 +18,14 @@ pub(crate) struct Piece {
     pub state: u32,
 }
 
-// A run that the next piece of its kind may lengthen: its place in the result, and the run as one piece. State 4: there is none.
+// A run that the next piece of its state may lengthen: its place in the result, a row with its device, where it begins, and where it ends in the file and in
+// storage. No piece begins at 2^64 - 1: where there is no run, it ends there.
 pub(crate) struct Run {
     pub slot: usize,
     pub row: usize,
     pub offset: u64,
-    pub len: u64,
-    pub storage: u64,
-    pub state: u32,
+    pub end: u64,
+    pub until: u64,
 }
 
 pub(crate) fn no_run() -> Run
@@ -36,31 +35,47 @@ pub(crate) fn no_run() -> Run
         slot: 0,
         row: 0,
         offset: 0,
-        len: 0,
-        storage: 0,
-        state: 4,
+        end: 18446744073709551615,
+        until: 0,
     }
 }
 
-// The place of the latest run of a state's kind: read-write and hole 0, read 1, invalid 2.
-pub(crate) fn kind_place(st: u32) -> usize
-    ensures { λ x. ⌜ (x ≡ kindPlace (kindOf st)) × (x < 3) ⌝ }
+// The place of the latest run of a state.
+pub(crate) fn state_place(st: u32) -> usize
+    ensures { λ x. ⌜ (x ≡ placeOf st) × (x < 4) ⌝ }
 {
-    match st {
-        1 => 1,
-        2 => 2,
-        0 | 3..=4294967295 => 0,
-    }
+    (st % 4) as usize
 }
 
-// Whether `len` bytes from `a` on end just where `e` begins; the sum may pass 2^64 - 1, so the difference is compared.
-fn touches(a: u64, len: u64, e: u64) -> bool
-    ensures { λ x. ⌜ x ≡ eqb (a + len) e ⌝ }
+// Eight bytes as a number, the first the lowest: the compiler makes one load of it.
+fn eight(a: u8, b: u8, c: u8, d: u8, e: u8, f: u8, g: u8, h: u8) -> u64
+    ensures { λ x. ⌜ x ≡ a + b * 256 + c * 65536 + d * 16777216 + e * 4294967296 + f * 1099511627776 + g * 281474976710656 + h * 72057594037927936 ⌝ }
 {
-    if e < a {
-        return false;
-    }
-    e - a == len
+    (a as u64)
+        + (b as u64) * 256
+        + (c as u64) * 65536
+        + (d as u64) * 16777216
+        + (e as u64) * 4294967296
+        + (f as u64) * 1099511627776
+        + (g as u64) * 281474976710656
+        + (h as u64) * 72057594037927936
+}
+
+// The eight bytes at `at`.
+fn word(s: &[u8], at: usize) -> u64
+    requires { ⌜ at + 8 ≤ length (now s) ⌝ }
+    ensures { λ x. ⌜ x ≡ leNumber (take 8 (drop at (now (s .entry)))) ⌝ }
+{
+    eight(
+        s[at],
+        s[at + 1],
+        s[at + 2],
+        s[at + 3],
+        s[at + 4],
+        s[at + 5],
+        s[at + 6],
+        s[at + 7],
+    )
 }
 
 // Whether rows p and i have the same device.
@@ -68,76 +83,78 @@ fn same_device(devs: &[u8], p: usize, i: usize) -> bool
     requires { ⌜ (16 * p + 16 ≤ length (now devs)) × (16 * i + 16 ≤ length (now devs)) ⌝ }
     ensures { λ x. ⌜ x ≡ sameBytes (take 16 (drop (16 * p) (now (devs .entry)))) (take 16 (drop (16 * i) (now (devs .entry)))) ⌝ }
 {
-    if xdr::be64(devs, 16 * p) != xdr::be64(devs, 16 * i) {
+    if word(devs, 16 * p) != word(devs, 16 * i) {
         return false;
     }
-    xdr::be64(devs, 16 * p + 8) == xdr::be64(devs, 16 * i + 8)
+    word(devs, 16 * p + 8) == word(devs, 16 * i + 8)
 }
 
-// Whether p begins, in the file and in storage, just where the run ends, and is of its state; of holes only the file counts.
-pub(crate) fn touching(o: Run, p: Piece) -> bool
-    ensures { λ x. ⌜ x ≡ touchingOf o p ⌝ }
+// Whether p begins, in the file and in storage, just where the latest run of its state ends, and has its device; of holes only the file counts.
+pub(crate) fn joins(devs: &[u8], o: Run, p: Piece) -> bool
+    requires { ⌜ (16 * o .row + 16 ≤ length (now devs)) × (16 * p .row + 16 ≤ length (now devs)) ⌝ }
+    ensures { λ x. ⌜ x ≡ joinsRun (now (devs .entry)) o p ⌝ }
 {
-    let st = p.state;
-    if o.state != st {
+    if o.end != p.offset {
         return false;
     }
-    if !touches(o.offset, o.len, p.offset) {
-        return false;
-    }
-    if st == 3 {
+    if p.state == 3 {
         return true;
     }
-    touches(o.storage, o.len, p.storage)
-}
-
-// Whether a piece of this state in row i, which touches a run of row p or not, follows it: it has the same device, or is a hole.
-// It is a call by itself, of numbers alone, so that the compiler keeps the loops that ask it small.
-pub(crate) fn follows_on(devs: &[u8], p: usize, i: usize, touching: bool, st: u32) -> bool
-    requires { ⌜ (16 * p + 16 ≤ length (now devs)) × (16 * i + 16 ≤ length (now devs)) ⌝ }
-    ensures { λ x. ⌜ x ≡ (touching && (eqb st 3 || sameBytes (take 16 (drop (16 * p) (now (devs .entry)))) (take 16 (drop (16 * i) (now (devs .entry)))))) ⌝ }
-{
-    if !touching {
+    if o.until != p.storage {
         return false;
     }
-    if st == 3 {
-        return true;
-    }
-    same_device(devs, p, i)
+    same_device(devs, o.row, p.row)
 }
 
-// The run with p: longer by p, or a new one in place n that p starts.
-pub(crate) fn next_run(o: Run, p: Piece, n: usize, more: bool) -> Run
-    requires { ⌜ (more ≡ true → o .len + p .len < 2 ^ 64) ⌝ }
-    ensures { λ x. ⌜ x ≡ nextRun o p n more ⌝ }
+// The run with p. A hole's place in storage may pass 2^64 - 1; nobody asks for it.
+pub(crate) fn longer(o: Run, p: Piece) -> Run
+    requires { ⌜ p .offset + p .len < 2 ^ 64 ⌝ }
+    ensures { λ x. ⌜ x ≡ longerRun o p ⌝ }
 {
-    if more {
-        return Run {
-            slot: o.slot,
-            row: o.row,
-            offset: o.offset,
-            len: o.len + p.len,
-            storage: o.storage,
-            state: o.state,
-        };
+    Run {
+        slot: o.slot,
+        row: o.row,
+        offset: o.offset,
+        end: p.offset + p.len,
+        until: std::num::wrapping_add_u64(p.storage, p.len),
     }
+}
+
+// The run that p starts, in place n.
+pub(crate) fn started(p: Piece, n: usize) -> Run
+    requires { ⌜ p .offset + p .len < 2 ^ 64 ⌝ }
+    ensures { λ x. ⌜ x ≡ startedRun n p ⌝ }
+{
     Run {
         slot: n,
         row: p.row,
         offset: p.offset,
-        len: p.len,
-        storage: p.storage,
-        state: p.state,
+        end: p.offset + p.len,
+        until: std::num::wrapping_add_u64(p.storage, p.len),
     }
 }
 
-// How many runs there are then.
-pub(crate) fn next_count(n: usize, more: bool) -> usize
-    requires { ⌜ n < 2 ^ 32 ⌝ }
-    ensures { λ x. ⌜ x ≡ nextCount n more ⌝ }
+// Stores the length of a run.
+pub(crate) fn put_longer(d: &mut [u8], o: Run)
+    requires { ⌜ o .offset ≤ o .end ⌝ }
+    ensures { λ _. ⌜ now (d .exit) ≡ storedLonger o (now (d .entry)) ⌝ }
 {
-    if more {
-        return n;
-    }
-    n + 1
+    placing::put_length(d, o.slot, o.end - o.offset);
+}
+
+// Stores the run that p starts in place n, a hole without device and storage.
+pub(crate) fn put_started(d: &mut [u8], n: usize, devs: &[u8], p: Piece)
+    ensures { λ _. ⌜ now (d .exit) ≡ storedStart (now (devs .entry)) n p (now (d .entry)) ⌝ }
+{
+    placing::put_extent(
+        d,
+        n,
+        devs,
+        p.row,
+        p.offset,
+        p.len,
+        p.storage,
+        p.state,
+        p.state == 3,
+    );
 }

@@ -1,6 +1,5 @@
 // Merging a list of extents that is lent as columns into a layout body (Ticket 9): uneven columns get 1 before all else; 2 above 4,096 extents; then rules 3 to 7;
-// 28 where more than 1,024 are left; last 8. In this order: the extent of a row; one pass that checks and counts; the stores of a run, and one pass that writes;
-// the call.
+// 28 where more than 1,024 are left; last 8. In this order: the extent of a row; one pass that checks and counts; one pass that writes; the call.
 use crate::joiner;
 use crate::joiner::Piece;
 use extents::Verdict;
@@ -8,15 +7,15 @@ use layouts::kinds::Kind;
 ghost use mathlib.Core.Path.{_≡_};
 ghost use mathlib.Core.List.{[]};
 ghost use Prim.Native.Nat.{_+_, _*_, _<_, _≤_};
-ghost use lib.ListN.{length, getD};
+ghost use lib.ListN.{length};
 ghost use lib.Seq.{sets};
 ghost use Rattle.extents.specs.Extents.{verdict};
 ghost use Rattle.extents.specs.declared.Verdict.the-variants.{Accepted};
 ghost use Rattle.layouts.specs.declared.kinds.Kind.the-variants.{Scsi};
 ghost use Rattle.layouts.specs.Columns.{Even};
-ghost use Rattle.merging.specs.Merged.{plain, merged};
-ghost use Rattle.joining.specs.Joiner.{extentBytes, extentsBytes, holeOf, storedAs, rowPiece};
-ghost use Rattle.joining.specs.Merge.{columnsOf, rowOf, columnList, comesTo, mergeColumns, mergedBy};
+ghost use Rattle.merging.specs.Merged.{merged};
+ghost use Rattle.joining.specs.Joiner.{bytesOf, rowPiece};
+ghost use Rattle.joining.specs.Merge.{columnsOf, columnList, comesTo, mergeColumns, mergedBy};
 
 // The extent of row i.
 fn row(offs: &[u64], lens: &[u64], stos: &[u64], sts: &[u32], i: usize) -> Piece
@@ -40,7 +39,7 @@ fn count(devs: &[u8], offs: &[u64], lens: &[u64], stos: &[u64], sts: &[u32]) -> 
 {
     let n = offs.len();
     let mut passed = extents::start();
-    let mut runs = [joiner::no_run(); 3];
+    let mut runs = [joiner::no_run(); 4];
     let mut count = 0;
     let mut i = 0;
     while i < n {
@@ -50,100 +49,44 @@ fn count(devs: &[u8], offs: &[u64], lens: &[u64], stos: &[u64], sts: &[u32]) -> 
             return Verdict::Refused(k, i);
         }
         passed = extents::push(passed, p.offset, p.offset + p.len, p.state);
-        let at = joiner::kind_place(p.state);
+        let at = joiner::state_place(p.state);
         let o = runs[at];
-        let near = joiner::touching(o, p);
-        let more = joiner::follows_on(devs, o.row, p.row, near, p.state);
-        runs[at] = joiner::next_run(o, p, count, more);
-        count = joiner::next_count(count, more);
+        if joiner::joins(devs, o, p) {
+            runs[at] = joiner::longer(o, p);
+        } else {
+            runs[at] = joiner::started(p, count);
+            count += 1;
+        }
         i += 1;
     }
     Verdict::Accepted(count)
 }
 
-// Stores a hole, the extent of row i: device and storage offset 0.
-fn put_hole(d: &mut [u8], at: usize, offs: &[u64], lens: &[u64], i: usize)
-    requires { ⌜ (at + 44 ≤ length (now d)) × (i < length (now offs)) × (i < length (now lens)) ⌝ }
-    ensures { λ _. ⌜ now (d .exit) ≡ sets (now (d .entry)) at (extentBytes (holeOf (getD (now (offs .entry)) i 0) (getD (now (lens .entry)) i 0))) ⌝ }
-{
-    xdr::put64(d, at, 0);
-    xdr::put64(d, at + 8, 0);
-    xdr::put64(d, at + 16, offs[i]);
-    xdr::put64(d, at + 24, lens[i]);
-    xdr::put64(d, at + 32, 0);
-    xdr::put32(d, at + 40, 3);
-}
-
-// Stores the run that row i starts, a hole without device and storage.
-fn put_run(
-    d: &mut [u8],
-    at: usize,
-    devs: &[u8],
-    offs: &[u64],
-    lens: &[u64],
-    stos: &[u64],
-    sts: &[u32],
-    i: usize,
-)
-    requires { ⌜ (at + 44 ≤ length (now d)) × (i < length (now offs)) ⌝ }
-    requires { ⌜ Even Scsi (columnsOf (now devs) (now offs) (now lens) (now stos) (now sts)) ⌝ }
-    ensures { λ _. ⌜ now (d .exit) ≡ sets (now (d .entry)) at (extentBytes (plain (rowOf (now (devs .entry)) (now (offs .entry)) (now (lens .entry)) (now (stos .entry)) (now (sts .entry)) i))) ⌝ }
-{
-    let none = [0u32; 0];
-    if sts[i] == 3 {
-        put_hole(d, at, offs, lens, i);
-    } else {
-        layouts::columns::put_row(Kind::Scsi, 0, d, at, devs, offs, &none, lens, stos, sts, i);
-    }
-}
-
-// Stores what row i changes of the body: the length of the run in place `slot`, if that is longer by it, or the run that it starts there.
-fn store(
-    d: &mut [u8],
-    devs: &[u8],
-    offs: &[u64],
-    lens: &[u64],
-    stos: &[u64],
-    sts: &[u32],
-    i: usize,
-    slot: usize,
-    len: u64,
-    more: bool,
-)
-    requires { ⌜ (4 + 44 * slot + 44 ≤ length (now d)) × (i < length (now offs)) ⌝ }
-    requires { ⌜ Even Scsi (columnsOf (now devs) (now offs) (now lens) (now stos) (now sts)) ⌝ }
-    ensures { λ _. ⌜ now (d .exit) ≡ storedAs more slot len (rowOf (now (devs .entry)) (now (offs .entry)) (now (lens .entry)) (now (stos .entry)) (now (sts .entry)) i) (now (d .entry)) ⌝ }
-{
-    let at = 4 + 44 * slot;
-    if more {
-        xdr::put64(d, at + 24, len);
-    } else {
-        put_run(d, at, devs, offs, lens, stos, sts, i);
-    }
-}
-
-// Stores the merged list, after the count.
+// Stores the merged list, after the count: each run when it starts, and its length when a piece lengthens it.
 fn fill(d: &mut [u8], devs: &[u8], offs: &[u64], lens: &[u64], stos: &[u64], sts: &[u32])
     requires { ⌜ 4 + 44 * length (merged (columnList (now devs) (now offs) (now lens) (now stos) (now sts))) ≤ length (now d) ⌝ }
     requires { ⌜ Even Scsi (columnsOf (now devs) (now offs) (now lens) (now stos) (now sts)) ⌝ }
     requires { ⌜ verdict [] 0 (columnList (now devs) (now offs) (now lens) (now stos) (now sts)) ≡ Accepted (length (now offs)) ⌝ }
     requires { ⌜ length (now offs) ≤ 4096 ⌝ }
-    ensures { λ _. ⌜ now (d .exit) ≡ sets (now (d .entry)) 4 (extentsBytes (merged (columnList (now (devs .entry)) (now (offs .entry)) (now (lens .entry)) (now (stos .entry)) (now (sts .entry))))) ⌝ }
+    ensures { λ _. ⌜ now (d .exit) ≡ sets (now (d .entry)) 4 (bytesOf (merged (columnList (now (devs .entry)) (now (offs .entry)) (now (lens .entry)) (now (stos .entry)) (now (sts .entry))))) ⌝ }
 {
     let n = offs.len();
-    let mut runs = [joiner::no_run(); 3];
+    let mut runs = [joiner::no_run(); 4];
     let mut count = 0;
     let mut i = 0;
     while i < n {
         let p = row(offs, lens, stos, sts, i);
-        let at = joiner::kind_place(p.state);
+        let at = joiner::state_place(p.state);
         let o = runs[at];
-        let near = joiner::touching(o, p);
-        let more = joiner::follows_on(devs, o.row, p.row, near, p.state);
-        let next = joiner::next_run(o, p, count, more);
-        store(d, devs, offs, lens, stos, sts, i, next.slot, next.len, more);
-        runs[at] = next;
-        count = joiner::next_count(count, more);
+        if joiner::joins(devs, o, p) {
+            let next = joiner::longer(o, p);
+            joiner::put_longer(d, next);
+            runs[at] = next;
+        } else {
+            joiner::put_started(d, count, devs, p);
+            runs[at] = joiner::started(p, count);
+            count += 1;
+        }
         i += 1;
     }
 }

@@ -51,6 +51,11 @@ unfolding handleSize bodySize heldIn
 held-inside Scsi s i h = omega arith
 held-inside Rdma s i h = omega arith
 
+pub held-there : (k : Kind) (s : Bytes) (i : ℕ) → bodySize k i + extentSize k ≤ length s → i < heldIn k s
+unfolding handleSize bodySize heldIn
+held-there Scsi s i h = omega arith
+held-there Rdma s i h = omega arith
+
 -- a handle for the extent at a place below n
 pub handle-there : (k : Kind) (i n : ℕ) → i < n → handleCount k (i + 1) ≤ handleCount k n
 unfolding handleCount

@@ -52,11 +52,11 @@ device-numbers k d at r h = sets-then d at 16 (at + 16) (r .extent .device) _ h 
 
 -- ---- the stores of a list
 
-length-row : (k : Kind) (r : Row) → length (r .extent .device) ≡ 16 → length (rowBytes k r) ≡ extentSize k
+pub length-row : (k : Kind) (r : Row) → length (r .extent .device) ≡ 16 → length (rowBytes k r) ≡ extentSize k
 unfolding rowBytes
 length-row k r h = simp (length-append, length-bytes, h) (omega arith)
 
-bytes-more : (k : Kind) (l : List Row) (r : Row) → rowsBytes k (l ++ (r ∷ [])) ≡ rowsBytes k l ++ rowBytes k r
+pub bytes-more : (k : Kind) (l : List Row) (r : Row) → rowsBytes k (l ++ (r ∷ [])) ≡ rowsBytes k l ++ rowBytes k r
 unfolding rowsBytes
 bytes-more k [] r = append-nil (rowBytes k r)
 bytes-more k (a ∷ l) r = rw (bytes-more k l r, append-assoc)

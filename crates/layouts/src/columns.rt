@@ -82,7 +82,7 @@ fn scan(
 }
 
 // Stores the extent at place i; `h` is the size of a handle.
-pub fn put_row(
+fn put_row(
     kind: Kind,
     h: usize,
     d: &mut [u8],

@@ -1,13 +1,16 @@
 // Where the fields of an extent lie in a body of each kind: nothing else of this crate, and nobody above it, knows.
-// In this order: sizes by kind; the numbers of an extent; its handle; its device id; the stores of all.
+// In this order: sizes by kind; the numbers of an extent; its handle; its device id; the stores of all, from columns; the stores of a SCSI extent by value.
 use crate::kinds::Kind;
 ghost use mathlib.Core.Path.{_≡_};
+ghost use mathlib.Core.Bool.{cond};
 ghost use Prim.Native.Nat.{_+_, _^_, _≤_, _<_};
 ghost use lib.ListN.{length, take, drop, getD};
 ghost use lib.Seq.{sets};
 ghost use Rattle.xdr.specs.Be.{beBytes};
-ghost use Rattle.layouts.specs.Layout.{handleSize, bodySize, heldIn, rowOf, numbersOf, numbersBytes};
+ghost use Rattle.layouts.specs.declared.kinds.Kind.the-variants.{Scsi};
+ghost use Rattle.layouts.specs.Layout.{handleSize, bodySize, heldIn, rowOf, numbersOf, numbersBytes, rowBytes};
 ghost use Rattle.layouts.specs.Columns.{handleCount};
+ghost use Rattle.layouts.specs.Placing.{scsi, placed};
 
 // How many bytes a handle takes.
 pub fn handle_size(kind: Kind) -> usize
@@ -144,4 +147,49 @@ pub fn put_numbers(
     xdr::put64(d, rest + 8, lengths[i]);
     xdr::put64(d, rest + 16, storages[i]);
     xdr::put32(d, rest + 24, states[i]);
+}
+
+// Stores the device id of an extent, or zeros for it and for the storage offset of one that is bare.
+fn put_name(d: &mut [u8], at: usize, devices: &[u8], from: usize, bare: bool)
+    requires { ⌜ (at + 44 ≤ length (now d)) × (from + 16 ≤ length (now devices)) ⌝ }
+    ensures { λ _. ⌜ now (d .exit) ≡ cond bare (sets (sets (sets (now (d .entry)) at (beBytes 8 0)) (at + 8) (beBytes 8 0)) (at + 32) (beBytes 8 0)) (sets (now (d .entry)) at (take 16 (drop from (now (devices .entry))))) ⌝ }
+{
+    if bare {
+        xdr::put64(d, at, 0);
+        xdr::put64(d, at + 8, 0);
+        xdr::put64(d, at + 32, 0);
+    } else {
+        put_device(d, at, devices, from);
+    }
+}
+
+// Stores the storage offset of an extent that is not bare.
+fn put_storage(d: &mut [u8], at: usize, x: u64, bare: bool)
+    requires { ⌜ at + 44 ≤ length (now d) ⌝ }
+    ensures { λ _. ⌜ now (d .exit) ≡ cond bare (now (d .entry)) (sets (now (d .entry)) (at + 32) (beBytes 8 x)) ⌝ }
+{
+    if bare {
+        return;
+    }
+    xdr::put64(d, at + 32, x);
+}
+
+// Stores a SCSI extent. A branch stands between any two numbers: the compiler joins the stores of one number, and not of several in a row.
+pub fn put_extent(d: &mut [u8], at: usize, devices: &[u8], from: usize, n: Numbers, bare: bool)
+    requires { ⌜ (at + 44 ≤ length (now d)) × (from + 16 ≤ length (now devices)) ⌝ }
+    ensures { λ _. ⌜ now (d .exit) ≡ sets (now (d .entry)) at (rowBytes Scsi (scsi (placed (take 16 (drop from (now (devices .entry)))) n bare))) ⌝ }
+{
+    xdr::put64(d, at + 16, n.offset);
+    put_name(d, at, devices, from, bare);
+    xdr::put64(d, at + 24, n.len);
+    put_storage(d, at, n.storage, bare);
+    xdr::put32(d, at + 40, n.state);
+}
+
+// Stores the length of the SCSI extent at `at`.
+pub fn put_length(d: &mut [u8], at: usize, len: u64)
+    requires { ⌜ at + 44 ≤ length (now d) ⌝ }
+    ensures { λ _. ⌜ now (d .exit) ≡ sets (now (d .entry)) (at + 24) (beBytes 8 len) ⌝ }
+{
+    xdr::put64(d, at + 24, len);
 }

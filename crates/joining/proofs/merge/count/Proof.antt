@@ -1,11 +1,12 @@
 -- count meets its contract by the turns of the pass that checks and counts.
 use Prim.Native.Nat.{_-_}
-use mathlib.Core.Path.{sym, _∙_}
-use lib.ListN.{length, getD}
+use mathlib.Core.Path.{_≡_, sym, _∙_}
+use mathlib.Core.Logic.{⊎-elim}
+use lib.ListN.{length}
 use Rattle.extents.proofs.OnePass.{accepted-end}
-use Rattle.joining.specs.Joiner.{Runs, zeroRun}
+use Rattle.joining.specs.Joiner.{Runs, fed}
 use Rattle.joining.proofs.Loops.{Counting, count-starts, count-stops, count-ready, count-goes-on, count-ends}
-use Rattle.joining.proofs.Pieces.{follows-is, run-device, length-fits, fed-is}
+use Rattle.joining.proofs.Pieces.{run-device, fed-longer, fed-started}
 use native.Mathlib.Omega.{arith}
 use borrow.Author.Needs.{needs}
 use Rattle.joining.proofs.merge.count.Statement.{statement}
@@ -50,8 +51,8 @@ add-push c =
 push-requires : tie.Need-push-requires Inv-loop μ-loop
 push-requires c κs = search needs
 
-kind-place-requires : tie.Need-kind-place-requires Inv-loop μ-loop
-kind-place-requires c κs = search needs
+state-place-requires : tie.Need-state-place-requires Inv-loop μ-loop
+state-place-requires c κs = search needs
 
 mul-o : tie.Need-mul-o Inv-loop μ-loop
 mul-o c = omega arith
@@ -59,29 +60,21 @@ mul-o c = omega arith
 array-copy-out-o : tie.Need-array-copy-out-o Inv-loop μ-loop
 array-copy-out-o c = omega arith
 
-touching-requires : tie.Need-touching-requires Inv-loop μ-loop
-touching-requires c κs = search needs
-
-follows-on-requires : tie.Need-follows-on-requires Inv-loop μ-loop
-follows-on-requires c κs =
-    let a = c .before .before .before .before .before .before .before .before .before .before .before .before .before .before .before .before .before .args in
-    let m = c .before .before .before .before .before .before .before .before .before .loop in
+joins-requires : tie.Need-joins-requires Inv-loop μ-loop
+joins-requires c κs =
+    let a = c .before .before .before .before .before .before .before .before .before .before .before .before .before .before .before .before .args in
+    let m = c .before .before .before .before .before .before .before .before .loop in
     let r : Runs = record { count = m .count; latest = m .runs } in
-    let p = c .before .before .before .before .before .before .before .row .result in
-    let h = count-ready (a .devs .now) (a .offs .now) (a .lens .now) (a .stos .now) (a .sts .now) (length (a .offs .now)) (m .inv) (omega (arith, c .before .before .before .before .before .before .before .before)) (omega (arith, c .before .before .before .before .before .before .before .before .before .before .before .before .before .before .before .before .before .pre .1)) (omega (arith, c .before .before .before .before .before .before .before .before .before .before .before .before .before .before .before .before .before .pre .0 .all-devices)) p (c .before .before .before .before .before .before .before .row .ensures)
-    (accepted-end (m .passed) (p .offset) (p .len) (p .storage) (p .state) (sym (c .before .before .before .before .before .before .refuse .ensures) ∙ c .before .before .before .before .before .if1 .left)) in
-    (run-device (a .devs .now) r p h (c .before .before .kind-place .result) (c .before .before .kind-place .ensures .0), h .device-there)
+    let p = c .before .before .before .before .before .before .row .result in
+    let fits = accepted-end (m .passed) (p .offset) (p .len) (p .storage) (p .state) (sym (c .before .before .before .before .before .refuse .ensures) ∙ c .before .before .before .before .if1 .left) in
+    let h = count-ready (a .devs .now) (a .offs .now) (a .lens .now) (a .stos .now) (a .sts .now) (length (a .offs .now)) (m .inv) (omega (arith, c .before .before .before .before .before .before .before)) (omega (arith, c .before .before .before .before .before .before .before .before .before .before .before .before .before .before .before .before .pre .1)) (omega (arith, c .before .before .before .before .before .before .before .before .before .before .before .before .before .before .before .before .pre .0 .all-devices)) p (c .before .before .before .before .before .before .row .ensures) fits in
+    (run-device (a .devs .now) r p (c .before .state-place .result) (c .before .state-place .ensures .0) h, h .device-there)
 
-next-run-requires : tie.Need-next-run-requires Inv-loop μ-loop
-next-run-requires c κs =
-    let a = c .before .before .before .before .before .before .before .before .before .before .before .before .before .before .before .before .before .before .args in
+longer-requires : tie.Need-longer-requires Inv-loop μ-loop
+longer-requires c κs =
     let m = c .before .before .before .before .before .before .before .before .before .before .loop in
-    let r : Runs = record { count = m .count; latest = m .runs } in
     let p = c .before .before .before .before .before .before .before .before .row .result in
-    let h = count-ready (a .devs .now) (a .offs .now) (a .lens .now) (a .stos .now) (a .sts .now) (length (a .offs .now)) (m .inv) (omega (arith, c .before .before .before .before .before .before .before .before .before)) (omega (arith, c .before .before .before .before .before .before .before .before .before .before .before .before .before .before .before .before .before .before .pre .1)) (omega (arith, c .before .before .before .before .before .before .before .before .before .before .before .before .before .before .before .before .before .before .pre .0 .all-devices)) p (c .before .before .before .before .before .before .before .before .row .ensures)
-    (accepted-end (m .passed) (p .offset) (p .len) (p .storage) (p .state) (sym (c .before .before .before .before .before .before .before .refuse .ensures) ∙ c .before .before .before .before .before .before .if1 .left)) in
-    let t = follows-is (a .devs .now) (getD (m .runs) (c .before .before .before .kind-place .result) zeroRun) p (c .before .touching .result) (c .follows-on .result) (c .before .touching .ensures) (c .follows-on .ensures) in
-    length-fits (a .devs .now) r p h (c .before .before .before .kind-place .result) (c .before .before .before .kind-place .ensures .0) (c .follows-on .result) t
+    accepted-end (m .passed) (p .offset) (p .len) (p .storage) (p .state) (sym (c .before .before .before .before .before .before .before .refuse .ensures) ∙ c .before .before .before .before .before .before .if1 .left)
 
 mul-runs : tie.Need-mul-runs Inv-loop μ-loop
 mul-runs c = omega arith
@@ -89,35 +82,39 @@ mul-runs c = omega arith
 array-set-from-runs : tie.Need-array-set-from-runs Inv-loop μ-loop
 array-set-from-runs c = omega arith
 
-next-count-requires : tie.Need-next-count-requires Inv-loop μ-loop
-next-count-requires c κs =
-    let a = c .before .before .before .before .before .before .before .before .before .before .before .before .before .before .before .before .before .before .before .args in
-    let m = c .before .before .before .before .before .before .before .before .before .before .before .loop in
-    let r : Runs = record { count = m .count; latest = m .runs } in
-    let p = c .before .before .before .before .before .before .before .before .before .row .result in
-    let h = count-ready (a .devs .now) (a .offs .now) (a .lens .now) (a .stos .now) (a .sts .now) (length (a .offs .now)) (m .inv) (omega (arith, c .before .before .before .before .before .before .before .before .before .before)) (omega (arith, c .before .before .before .before .before .before .before .before .before .before .before .before .before .before .before .before .before .before .before .pre .1)) (omega (arith, c .before .before .before .before .before .before .before .before .before .before .before .before .before .before .before .before .before .before .before .pre .0 .all-devices)) p (c .before .before .before .before .before .before .before .before .before .row .ensures)
-    (accepted-end (m .passed) (p .offset) (p .len) (p .storage) (p .state) (sym (c .before .before .before .before .before .before .before .before .refuse .ensures) ∙ c .before .before .before .before .before .before .before .if1 .left)) in
-    h .few
+started-requires : tie.Need-started-requires Inv-loop μ-loop
+started-requires c κs =
+    let m = c .before .before .before .before .before .before .before .before .before .before .loop in
+    let p = c .before .before .before .before .before .before .before .before .row .result in
+    accepted-end (m .passed) (p .offset) (p .len) (p .storage) (p .state) (sym (c .before .before .before .before .before .before .before .refuse .ensures) ∙ c .before .before .before .before .before .before .if1 .left)
+
+mul-runs-2 : tie.Need-mul-runs-2 Inv-loop μ-loop
+mul-runs-2 c = omega arith
+
+array-set-from-runs-2 : tie.Need-array-set-from-runs-2 Inv-loop μ-loop
+array-set-from-runs-2 c = omega arith
+
+add-count : tie.Need-add-count Inv-loop μ-loop
+add-count c = omega (arith, c .before .before .before .before .before .before .before .before .before .before .before .loop .inv .few, c .before .before .before .before .before .before .before .before .before .before)
 
 add-i : tie.Need-add-i Inv-loop μ-loop
-add-i c =
-    omega (arith, c .before .before .before .before .before .before .before .before .before .before .before)
+add-i c = omega (arith, c .before .before .before .before .before .before .before .before .before)
 
 loop-less : tie.Need-loop-less Inv-loop μ-loop
-loop-less c = omega arith
+loop-less c = omega (arith, c .before .before .before .before .before .before .before .before .before)
 
 loop-again : tie.Need-loop-again Inv-loop μ-loop
 loop-again c =
-    let a = c .before .before .before .before .before .before .before .before .before .before .before .before .before .before .before .before .before .before .before .before .args in
-    let m = c .before .before .before .before .before .before .before .before .before .before .before .before .loop in
+    let a = c .before .before .before .before .before .before .before .before .before .before .before .before .before .before .before .before .before .before .args in
+    let m = c .before .before .before .before .before .before .before .before .before .before .loop in
     let r : Runs = record { count = m .count; latest = m .runs } in
-    let p = c .before .before .before .before .before .before .before .before .before .before .row .result in
-    let h = count-ready (a .devs .now) (a .offs .now) (a .lens .now) (a .stos .now) (a .sts .now) (length (a .offs .now)) (m .inv) (omega (arith, c .before .before .before .before .before .before .before .before .before .before .before)) (omega (arith, c .before .before .before .before .before .before .before .before .before .before .before .before .before .before .before .before .before .before .before .before .pre .1)) (omega (arith, c .before .before .before .before .before .before .before .before .before .before .before .before .before .before .before .before .before .before .before .before .pre .0 .all-devices)) p (c .before .before .before .before .before .before .before .before .before .before .row .ensures)
-    (accepted-end (m .passed) (p .offset) (p .len) (p .storage) (p .state) (sym (c .before .before .before .before .before .before .before .before .before .refuse .ensures) ∙ c .before .before .before .before .before .before .before .before .if1 .left)) in
-    let t = follows-is (a .devs .now) (getD (m .runs) (c .before .before .before .before .before .kind-place .result) zeroRun) p (c .before .before .before .touching .result) (c .before .before .follows-on .result) (c .before .before .before .touching .ensures) (c .before .before .follows-on .ensures) in
-    count-goes-on (a .devs .now) (a .offs .now) (a .lens .now) (a .stos .now) (a .sts .now) (length (a .offs .now)) (m .inv) (omega (arith, c .before .before .before .before .before .before .before .before .before .before .before)) (omega (arith, c .before .before .before .before .before .before .before .before .before .before .before .before .before .before .before .before .before .before .before .before .pre .0 .all-devices)) p (c .before .before .before .before .before .before .before .before .before .before .row .ensures) (c .before .before .before .before .before .before .before .before .before .refuse .result) (c .before .before .before .before .before .before .before .before .before .refuse .ensures) (c .before .before .before .before .before .before .before .before .if1 .left)
-    (c .before .before .before .before .before .before .push .result) (c .before .before .before .before .before .before .push .ensures) _
-    (fed-is (a .devs .now) r p h (c .before .before .before .before .before .kind-place .result) (c .before .before .before .before .before .kind-place .ensures .0) (c .before .before .follows-on .result) t (c .before .next-run .result) (c .before .next-run .ensures) (c .next-count .result) (c .next-count .ensures))
+    let p = c .before .before .before .before .before .before .before .before .row .result in
+    let k = c .before .before .before .state-place .result in
+    let q = c .before .before .before .state-place .ensures .0 in
+    let more : Runs = record { count = c .if2 .count; latest = c .if2 .runs } in
+    let is : more ≡ fed (a .devs .now) r p = ⊎-elim (λ w. rw (w .2, w .3) (fed-longer (a .devs .now) r p k q (sym (c .before .joins .ensures) ∙ w .0 .taken) (w .1 .result) (w .1 .ensures))) (λ w. rw (w .2, w .3) (fed-started (a .devs .now) r p k q (sym (c .before .joins .ensures) ∙ w .0 .left) (w .1 .result) (w .1 .ensures))) (c .if2 .came) in
+    count-goes-on (a .devs .now) (a .offs .now) (a .lens .now) (a .stos .now) (a .sts .now) (length (a .offs .now)) (m .inv) (omega (arith, c .before .before .before .before .before .before .before .before .before)) (omega (arith, c .before .before .before .before .before .before .before .before .before .before .before .before .before .before .before .before .before .before .pre .0 .all-devices)) p (c .before .before .before .before .before .before .before .before .row .ensures) (c .before .before .before .before .before .before .before .refuse .result) (c .before .before .before .before .before .before .before .refuse .ensures) (c .before .before .before .before .before .before .if1 .left)
+    (c .before .before .before .before .push .result) (c .before .before .before .before .push .ensures) more is
 
 returns-2 : tie.Need-returns-2 Inv-loop μ-loop
 returns-2 c =
@@ -138,15 +135,17 @@ count-spec =
     returns
     add-push
     push-requires
-    kind-place-requires
+    state-place-requires
     mul-o
     array-copy-out-o
-    touching-requires
-    follows-on-requires
-    next-run-requires
+    joins-requires
+    longer-requires
     mul-runs
     array-set-from-runs
-    next-count-requires
+    started-requires
+    mul-runs-2
+    array-set-from-runs-2
+    add-count
     add-i
     loop-less
     loop-again

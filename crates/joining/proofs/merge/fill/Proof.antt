@@ -1,13 +1,14 @@
 -- fill meets its contract by the turns of the pass that writes.
 use Prim.Native.Nat.{_-_}
-use mathlib.Core.Path.{_∙_}
-use lib.ListN.{length, getD}
+use mathlib.Core.Path.{_≡_, sym, _∙_}
+use mathlib.Core.Logic.{⊎-elim}
+use lib.ListN.{length}
 use lib.Seq.{sets}
 use Rattle.joining.specs.Merge.{columnList}
 use Rattle.merging.specs.Merged.{merged}
-use Rattle.joining.specs.Joiner.{extentsBytes, Runs, zeroRun}
-use Rattle.joining.proofs.Loops.{Filling, fill-starts, fill-feeds, row-stored, fill-goes-on, fill-ends}
-use Rattle.joining.proofs.Pieces.{follows-is, run-device, length-fits, fed-is, wrote-is, next-room}
+use Rattle.joining.specs.Joiner.{bytesOf, Runs, fed, wrote}
+use Rattle.joining.proofs.Loops.{Filling, fill-starts, fill-ready, fill-goes-on, fill-ends}
+use Rattle.joining.proofs.Pieces.{run-device, longer-forward, fed-longer, fed-started, wrote-longer, wrote-started}
 use native.Mathlib.Omega.{arith}
 use borrow.Author.Needs.{needs}
 use Rattle.joining.proofs.merge.fill.Statement.{statement}
@@ -15,7 +16,7 @@ use Rattle.joining.proofs.merge.fill.Tie as tie
 
 abbrev Inv-loop : tie.InvT-loop
 Inv-loop d₀ devs offs lens stos sts n runs₀ count₀ i₀ d runs count i =
-    Filling devs offs lens stos sts (length offs) (length d₀) (sets d₀ 4 (extentsBytes (merged (columnList devs offs lens stos sts)))) d (record { count = count; latest = runs }) i
+    Filling devs offs lens stos sts (length offs) (length d₀) (sets d₀ 4 (bytesOf (merged (columnList devs offs lens stos sts)))) d (record { count = count; latest = runs }) i
 
 abbrev μ-loop : tie.MeasureT-loop
 μ-loop d₀ devs offs lens stos sts n runs₀ count₀ i₀ d runs count i = length offs - i
@@ -32,8 +33,8 @@ loop-holds c =
 row-requires : tie.Need-row-requires Inv-loop μ-loop
 row-requires c κs = search needs
 
-kind-place-requires : tie.Need-kind-place-requires Inv-loop μ-loop
-kind-place-requires c κs = search needs
+state-place-requires : tie.Need-state-place-requires Inv-loop μ-loop
+state-place-requires c κs = search needs
 
 mul-o : tie.Need-mul-o Inv-loop μ-loop
 mul-o c = omega arith
@@ -41,37 +42,32 @@ mul-o c = omega arith
 array-copy-out-o : tie.Need-array-copy-out-o Inv-loop μ-loop
 array-copy-out-o c = omega arith
 
-touching-requires : tie.Need-touching-requires Inv-loop μ-loop
-touching-requires c κs = search needs
-
-follows-on-requires : tie.Need-follows-on-requires Inv-loop μ-loop
-follows-on-requires c κs =
-    let a = c .before .before .before .before .before .before .before .before .before .before .before .before .before .args in
-    let m = c .before .before .before .before .before .loop in
+joins-requires : tie.Need-joins-requires Inv-loop μ-loop
+joins-requires c κs =
+    let a = c .before .before .before .before .before .before .before .before .before .before .before .before .args in
+    let m = c .before .before .before .before .loop in
     let r : Runs = record { count = m .count; latest = m .runs } in
-    let p = c .before .before .before .row .result in
-    let f = fill-feeds (a .devs .now) (a .offs .now) (a .lens .now) (a .stos .now) (a .sts .now) (length (a .offs .now)) (m .inv) (omega (arith, c .before .before .before .before)) p (c .before .before .before .row .ensures) in
-    (run-device (a .devs .now) r p (f .ready) (c .before .before .kind-place .result) (c .before .before .kind-place .ensures .0), f .ready .device-there)
+    let p = c .before .before .row .result in
+    let f = fill-ready (a .devs .now) (a .offs .now) (a .lens .now) (a .stos .now) (a .sts .now) (length (a .offs .now)) (m .inv) (omega (arith, c .before .before .before)) p (c .before .before .row .ensures) in
+    (run-device (a .devs .now) r p (c .before .state-place .result) (c .before .state-place .ensures .0) f, f .device-there)
 
-next-run-requires : tie.Need-next-run-requires Inv-loop μ-loop
-next-run-requires c κs =
+longer-requires : tie.Need-longer-requires Inv-loop μ-loop
+longer-requires c κs =
     let a = c .before .before .before .before .before .before .before .before .before .before .before .before .before .before .args in
     let m = c .before .before .before .before .before .before .loop in
     let r : Runs = record { count = m .count; latest = m .runs } in
     let p = c .before .before .before .before .row .result in
-    let f = fill-feeds (a .devs .now) (a .offs .now) (a .lens .now) (a .stos .now) (a .sts .now) (length (a .offs .now)) (m .inv) (omega (arith, c .before .before .before .before .before)) p (c .before .before .before .before .row .ensures) in
-    let t = follows-is (a .devs .now) (getD (m .runs) (c .before .before .before .kind-place .result) zeroRun) p (c .before .touching .result) (c .follows-on .result) (c .before .touching .ensures) (c .follows-on .ensures) in
-    length-fits (a .devs .now) r p (f .ready) (c .before .before .before .kind-place .result) (c .before .before .before .kind-place .ensures .0) (c .follows-on .result) t
+    let f = fill-ready (a .devs .now) (a .offs .now) (a .lens .now) (a .stos .now) (a .sts .now) (length (a .offs .now)) (m .inv) (omega (arith, c .before .before .before .before .before)) p (c .before .before .before .before .row .ensures) in
+    f .in-file
 
-store-requires : tie.Need-store-requires Inv-loop μ-loop
-store-requires c κs =
+put-longer-requires : tie.Need-put-longer-requires Inv-loop μ-loop
+put-longer-requires c κs =
     let a = c .before .before .before .before .before .before .before .before .before .before .before .before .before .before .before .before .args in
     let m = c .before .before .before .before .before .before .before .before .loop in
     let r : Runs = record { count = m .count; latest = m .runs } in
     let p = c .before .before .before .before .before .before .row .result in
-    let f = fill-feeds (a .devs .now) (a .offs .now) (a .lens .now) (a .stos .now) (a .sts .now) (length (a .offs .now)) (m .inv) (omega (arith, c .before .before .before .before .before .before .before)) p (c .before .before .before .before .before .before .row .ensures) in
-    let t = follows-is (a .devs .now) (getD (m .runs) (c .before .before .before .before .before .kind-place .result) zeroRun) p (c .before .before .before .touching .result) (c .before .before .follows-on .result) (c .before .before .before .touching .ensures) (c .before .before .follows-on .ensures) in
-    ((next-room (a .devs .now) r p (f .ready) (c .before .before .before .before .before .kind-place .result) (c .before .before .before .before .before .kind-place .ensures .0) (c .before .before .follows-on .result) t (c .before .next-run .result) (c .before .next-run .ensures) (length (m .d)) f, omega (arith, c .before .before .before .before .before .before .before)), c .before .before .before .before .before .before .before .before .before .before .before .before .before .before .before .before .pre .1 .0)
+    let f = fill-ready (a .devs .now) (a .offs .now) (a .lens .now) (a .stos .now) (a .sts .now) (length (a .offs .now)) (m .inv) (omega (arith, c .before .before .before .before .before .before .before)) p (c .before .before .before .before .before .before .row .ensures) in
+    rw (c .before .longer .ensures) (longer-forward (a .devs .now) r p (c .before .before .before .before .before .state-place .result) (c .before .before .before .before .before .state-place .ensures .0) f (sym (c .before .before .before .joins .ensures) ∙ c .before .before .if1 .taken))
 
 mul-runs : tie.Need-mul-runs Inv-loop μ-loop
 mul-runs c = omega arith
@@ -79,34 +75,52 @@ mul-runs c = omega arith
 array-set-from-runs : tie.Need-array-set-from-runs Inv-loop μ-loop
 array-set-from-runs c = omega arith
 
-next-count-requires : tie.Need-next-count-requires Inv-loop μ-loop
-next-count-requires c κs =
+put-started-requires : tie.Need-put-started-requires Inv-loop μ-loop
+put-started-requires c κs = search needs
+
+started-requires : tie.Need-started-requires Inv-loop μ-loop
+started-requires c κs =
+    let a = c .before .before .before .before .before .before .before .before .before .before .before .before .before .before .before .before .before .before .args in
+    let m = c .before .before .before .before .before .before .before .before .before .before .loop in
+    let r : Runs = record { count = m .count; latest = m .runs } in
+    let p = c .before .before .before .before .before .before .before .before .row .result in
+    let f = fill-ready (a .devs .now) (a .offs .now) (a .lens .now) (a .stos .now) (a .sts .now) (length (a .offs .now)) (m .inv) (omega (arith, c .before .before .before .before .before .before .before .before .before)) p (c .before .before .before .before .before .before .before .before .row .ensures) in
+    f .in-file
+
+mul-runs-2 : tie.Need-mul-runs-2 Inv-loop μ-loop
+mul-runs-2 c = omega arith
+
+array-set-from-runs-2 : tie.Need-array-set-from-runs-2 Inv-loop μ-loop
+array-set-from-runs-2 c = omega arith
+
+add-count : tie.Need-add-count Inv-loop μ-loop
+add-count c =
     let a = c .before .before .before .before .before .before .before .before .before .before .before .before .before .before .before .before .before .before .before .args in
     let m = c .before .before .before .before .before .before .before .before .before .before .before .loop in
     let r : Runs = record { count = m .count; latest = m .runs } in
     let p = c .before .before .before .before .before .before .before .before .before .row .result in
-    let f = fill-feeds (a .devs .now) (a .offs .now) (a .lens .now) (a .stos .now) (a .sts .now) (length (a .offs .now)) (m .inv) (omega (arith, c .before .before .before .before .before .before .before .before .before .before)) p (c .before .before .before .before .before .before .before .before .before .row .ensures) in
-    f .ready .few
+    let f = fill-ready (a .devs .now) (a .offs .now) (a .lens .now) (a .stos .now) (a .sts .now) (length (a .offs .now)) (m .inv) (omega (arith, c .before .before .before .before .before .before .before .before .before .before)) p (c .before .before .before .before .before .before .before .before .before .row .ensures) in
+    omega (arith, f .few)
 
 add-i : tie.Need-add-i Inv-loop μ-loop
-add-i c =
-    omega (arith, c .before .before .before .before .before .before .before .before .before .before .before)
+add-i c = omega (arith, c .before .before .before .before .before)
 
 loop-less : tie.Need-loop-less Inv-loop μ-loop
-loop-less c = omega arith
+loop-less c = omega (arith, c .before .before .before .before .before)
 
 loop-again : tie.Need-loop-again Inv-loop μ-loop
 loop-again c =
-    let a = c .before .before .before .before .before .before .before .before .before .before .before .before .before .before .before .before .before .before .before .before .args in
-    let m = c .before .before .before .before .before .before .before .before .before .before .before .before .loop in
+    let a = c .before .before .before .before .before .before .before .before .before .before .before .before .before .before .args in
+    let m = c .before .before .before .before .before .before .loop in
     let r : Runs = record { count = m .count; latest = m .runs } in
-    let p = c .before .before .before .before .before .before .before .before .before .before .row .result in
-    let f = fill-feeds (a .devs .now) (a .offs .now) (a .lens .now) (a .stos .now) (a .sts .now) (length (a .offs .now)) (m .inv) (omega (arith, c .before .before .before .before .before .before .before .before .before .before .before)) p (c .before .before .before .before .before .before .before .before .before .before .row .ensures) in
-    let t = follows-is (a .devs .now) (getD (m .runs) (c .before .before .before .before .before .before .before .before .before .kind-place .result) zeroRun) p (c .before .before .before .before .before .before .before .touching .result) (c .before .before .before .before .before .before .follows-on .result) (c .before .before .before .before .before .before .before .touching .ensures) (c .before .before .before .before .before .before .follows-on .ensures) in
-    let x = c .before .before .before .before .before .before .follows-on .result in
-    let q = c .before .before .before .before .before .next-run .result in
-    fill-goes-on (a .devs .now) (a .offs .now) (a .lens .now) (a .stos .now) (a .sts .now) (length (a .offs .now)) (m .inv) (omega (arith, c .before .before .before .before .before .before .before .before .before .before .before)) p (c .before .before .before .before .before .before .before .before .before .before .row .ensures) _ (fed-is (a .devs .now) r p (f .ready) (c .before .before .before .before .before .before .before .before .before .kind-place .result) (c .before .before .before .before .before .before .before .before .before .kind-place .ensures .0) x t q (c .before .before .before .before .before .next-run .ensures) (c .next-count .result) (c .next-count .ensures))
-    (c .before .before .before .store .last .0) (c .before .before .before .store .ensures ∙ row-stored (a .devs .now) (a .offs .now) (a .lens .now) (a .stos .now) (a .sts .now) (length (a .offs .now)) p (m .i) (c .before .before .before .before .before .before .before .before .before .before .row .ensures) x (q .slot) (q .len) (m .d) ∙ wrote-is (a .devs .now) r p (f .ready) (c .before .before .before .before .before .before .before .before .before .kind-place .result) (c .before .before .before .before .before .before .before .before .before .kind-place .ensures .0) x t q (c .before .before .before .before .before .next-run .ensures) (m .d))
+    let p = c .before .before .before .before .row .result in
+    let k = c .before .before .before .state-place .result in
+    let q = c .before .before .before .state-place .ensures .0 in
+    let j = sym (c .before .joins .ensures) in
+    let more : Runs = record { count = c .if1 .count; latest = c .if1 .runs } in
+    let is : more ≡ fed (a .devs .now) r p = ⊎-elim (λ w. rw (w .7, w .8) (fed-longer (a .devs .now) r p k q (j ∙ w .0 .taken) (w .1 .result) (w .1 .ensures))) (λ w. rw (w .7, w .8) (fed-started (a .devs .now) r p k q (j ∙ w .0 .left) (w .5 .result) (w .5 .ensures))) (c .if1 .came) in
+    let stored : c .if1 .d ≡ wrote (a .devs .now) r (m .d) p = ⊎-elim (λ w. w .6 ∙ w .3 .ensures ∙ wrote-longer (a .devs .now) r p k q (j ∙ w .0 .taken) (w .1 .result) (w .1 .ensures) (m .d)) (λ w. w .6 ∙ w .2 .ensures ∙ wrote-started (a .devs .now) r p k q (j ∙ w .0 .left) (m .d)) (c .if1 .came) in
+    fill-goes-on (a .devs .now) (a .offs .now) (a .lens .now) (a .stos .now) (a .sts .now) (length (a .offs .now)) (m .inv) (omega (arith, c .before .before .before .before .before)) p (c .before .before .before .before .row .ensures) more is (c .if1 .d) stored
 
 same-length : tie.Need-same-length Inv-loop μ-loop
 same-length c = c .before .loop .inv .long
@@ -125,16 +139,19 @@ fill-spec =
     no-run-requires
     loop-holds
     row-requires
-    kind-place-requires
+    state-place-requires
     mul-o
     array-copy-out-o
-    touching-requires
-    follows-on-requires
-    next-run-requires
-    store-requires
+    joins-requires
+    longer-requires
+    put-longer-requires
     mul-runs
     array-set-from-runs
-    next-count-requires
+    put-started-requires
+    started-requires
+    mul-runs-2
+    array-set-from-runs-2
+    add-count
     add-i
     loop-less
     loop-again

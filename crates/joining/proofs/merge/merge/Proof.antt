@@ -1,6 +1,5 @@
 -- merge meets its contract by the laws of its answers and of its stores.
 use mathlib.Core.Path.{_≡_, refl, sym, ap, _∙_}
-use mathlib.Core.List.{_++_}
 use native.Mathlib.Omega.{arith}
 use borrow.Author.Tests.{not-true, not-false}
 use lib.ListN.{length}
@@ -13,9 +12,8 @@ use Rattle.layouts.specs.Columns.{roomy}
 use Rattle.layouts.proofs.Stores.{sets-then}
 use Rattle.layouts.proofs.Rows.{even-said}
 use Rattle.merging.specs.Merged.{merged}
-use Rattle.joining.specs.Joiner.{extentsBytes}
+use Rattle.joining.specs.Joiner.{bytesOf}
 use Rattle.joining.specs.Merge.{columnsOf, rowOf, columnList, fewEnough}
-use Rattle.joining.proofs.Scsi.{rows-bytes}
 use Rattle.joining.proofs.Answers.{uneven, too-many, judged, too-long, no-room, room-for, came-to}
 use borrow.Author.Needs.{needs}
 use Rattle.joining.proofs.merge.merge.Statement.{statement}
@@ -103,9 +101,8 @@ returns-6 c =
     let es = merged (columnList (a .devs .now) (a .offs .now) (a .lens .now) (a .stos .now) (a .sts .now)) in (
       room-for (g .0 .0) (length (a .d .now)) (omega arith) (omega arith) ∙ ap (λ (v : Verdict). roomy Scsi (fewEnough v) (length (a .d .now))) (sym (g .1))
           ∙ judged (a .devs .now) (a .offs .now) (a .lens .now) (a .stos .now) (a .sts .now) (length (a .d .now)) (sym (c .before .before .before .before .before .before .before .before .before .before .before .before .before .before .before .before .same-count .ensures) ∙ not-false _ (c .before .before .before .before .before .before .before .before .before .before .before .before .before .before .before .if1 .left)) (omega (arith, c .before .before .before .before .before .before .before .before .before .before .before .before .before .before)) (c .before .before .before .before .before .before .before .before .before .before .before .before .before .count .result) (c .before .before .before .before .before .before .before .before .before .before .before .before .before .count .ensures),
-      c .before .before .fill .ensures ∙ ap (λ l. sets l 4 (extentsBytes es)) (c .before .before .before .before .before .before .put32 .ensures)
-          ∙ sets-then (a .d .now) 0 4 4 (beBytes 4 (g .0 .0)) (extentsBytes es) (length-bytes 4 (g .0 .0)) refl
-          ∙ ap (λ l. sets (a .d .now) 0 (beBytes 4 (g .0 .0) ++ l)) (sym (rows-bytes es)),
+      c .before .before .fill .ensures ∙ ap (λ l. sets l 4 (bytesOf es)) (c .before .before .before .before .before .before .put32 .ensures)
+          ∙ sets-then (a .d .now) 0 4 4 (beBytes 4 (g .0 .0)) (bytesOf es) (length-bytes 4 (g .0 .0)) refl,
     )
 
 pub merge-spec : {M : Type 1} → statement M
