@@ -99,9 +99,9 @@ static void nothing(void) {}
     { \
         for (int i = 0; i < WALKS; i++) { \
             uint64_t at = 0, device; \
-            uint32_t records = 0, devices = 0, place, status; \
-            while (P##report_next(body, n, &at, &records, &devices, &place, &device, &status) == 1) \
-                bench_sum[FORM] += status + place + device; \
+            uint32_t records = 0, devices = 0, status; \
+            while (P##report_next(body, n, &at, &records, &devices, &device, &status) == 1) \
+                bench_sum[FORM] += status + device; \
         } \
     } \
     static void P##statistics(void) \

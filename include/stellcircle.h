@@ -130,18 +130,18 @@ uint32_t sc_layoutreturn_check(const uint8_t *request, size_t request_len, uint3
 uint32_t sc_report_check(const uint8_t *body, size_t body_len);
 
 /* Walks the device errors of a body in their order. `at`, `records` and `devices` are the cursor: set all three to 0 before the first call
- * and hand them back unchanged. Answers 1 with a device error: `place` is the place of its error record (0, 1, ..), `device` is where in the
- * body the device's 16 bytes begin, `status` is its status. After the last one it answers what sc_report_check answers (0 or 10036): the
- * cursor then stays as it is, and the other three are 0.
- * Device errors come before the fault of a malformed body is reached: call sc_report_check first where they must count all or not at all.
+ * and hand them back unchanged. Answers 1 with a device error: `device` is where in the body the device's 16 bytes begin, `status`
+ * is its status. After the last one it answers what sc_report_check answers (0 or 10036): the cursor then stays as it is, and the other two are 0.
+ * The device errors of the error records that stand whole before the fault of a malformed body come before it: call sc_report_check first where
+ * they must count all or not at all.
  *
  *     uint64_t at = 0, device;
- *     uint32_t records = 0, devices = 0, place, status, end;
- *     while ((end = sc_report_next(body, len, &at, &records, &devices, &place, &device, &status)) == 1)
+ *     uint32_t records = 0, devices = 0, status, end;
+ *     while ((end = sc_report_next(body, len, &at, &records, &devices, &device, &status)) == 1)
  *         blame(body + device, status);
  */
-uint32_t sc_report_next(const uint8_t *body, size_t body_len, uint64_t *at, uint32_t *records, uint32_t *devices, uint32_t *place,
-                        uint64_t *device, uint32_t *status);
+uint32_t sc_report_next(const uint8_t *body, size_t body_len, uint64_t *at, uint32_t *records, uint32_t *devices, uint64_t *device,
+                        uint32_t *status);
 
 /* Walks the statistics records of a body in their order. `at` and `left` are the cursor: set both to 0 before the first call and hand them back
  * unchanged. Answers 1 with a record: `device` is where in the body the device's 16 bytes begin, `read` and `written` are the record's own

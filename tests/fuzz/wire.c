@@ -148,12 +148,11 @@ static void statistics(const uint8_t *body, size_t len, uint32_t status)
 
 static void errors(const uint8_t *body, size_t len, uint32_t status)
 {
-    uint32_t records = 0, devices = 0, plain_records = 0, plain_devices = 0, place, plain_place, error, plain_error, answer;
+    uint32_t records = 0, devices = 0, plain_records = 0, plain_devices = 0, error, plain_error, answer;
     uint64_t at = 0, plain_at = 0, device, plain_device;
     do {
-        answer = sc_report_next(body, len, &at, &records, &devices, &place, &device, &error);
-        same("device error answer", answer, plain_report_next(body, len, &plain_at, &plain_records, &plain_devices, &plain_place, &plain_device, &plain_error));
-        same("device error record", place, plain_place);
+        answer = sc_report_next(body, len, &at, &records, &devices, &device, &error);
+        same("device error answer", answer, plain_report_next(body, len, &plain_at, &plain_records, &plain_devices, &plain_device, &plain_error));
         same("device error device", device, plain_device);
         same("device error status", error, plain_error);
         same("device error cursor", at == plain_at && records == plain_records && devices == plain_devices, true);

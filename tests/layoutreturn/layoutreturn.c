@@ -35,9 +35,8 @@ static size_t bytes_of(const char *hex, uint8_t *out)
     return n;
 }
 
-/* A device error: the place of its record, where its device begins, its status. */
+/* A device error: where its device begins, its status. */
 struct error {
-    uint32_t place;
     size_t device;
     uint32_t status;
 };
@@ -48,24 +47,24 @@ struct statistic {
     uint64_t read, written;
 };
 
-typedef uint32_t next(const uint8_t *, size_t, uint64_t *, uint32_t *, uint32_t *, uint32_t *, uint64_t *, uint32_t *);
+typedef uint32_t next(const uint8_t *, size_t, uint64_t *, uint32_t *, uint32_t *, uint64_t *, uint32_t *);
 typedef uint32_t statistics_next(const uint8_t *, size_t, uint64_t *, uint32_t *, uint64_t *, uint64_t *, uint64_t *);
 
 /* The device errors of a body as the library or plain C walks them. Answers their count, and the answer at which the walk ends through `end`. */
 static size_t walk(next *f, const uint8_t *body, size_t len, struct error *e, uint32_t *end)
 {
     uint64_t at = 0, device;
-    uint32_t records = 0, devices = 0, place, status;
+    uint32_t records = 0, devices = 0, status;
     size_t n = 0;
-    while ((*end = f(body, len, &at, &records, &devices, &place, &device, &status)) == 1) {
+    while ((*end = f(body, len, &at, &records, &devices, &device, &status)) == 1) {
         if (n < MOST_ERRORS)
-            e[n] = (struct error){place, device, status};
+            e[n] = (struct error){device, status};
         n++;
     }
     uint64_t at2 = at;
     uint32_t records2 = records, devices2 = devices;
-    if (f(body, len, &at2, &records2, &devices2, &place, &device, &status) != *end || at2 != at || records2 != records || devices2 != devices ||
-        place != 0 || device != 0 || status != 0)
+    if (f(body, len, &at2, &records2, &devices2, &device, &status) != *end || at2 != at || records2 != records || devices2 != devices ||
+        device != 0 || status != 0)
         differs("walk", n, "the end of a walk does not stay");
     return n;
 }
@@ -202,7 +201,7 @@ static void beside_plain(const char *where, unsigned long line, const uint8_t *r
     if (count != count2)
         differs(where, line, "the walk has another count than plain C");
     for (size_t i = 0; i < count && i < count2 && i < MOST_ERRORS; i++)
-        if (e[i].place != f[i].place || e[i].device != f[i].device || e[i].status != f[i].status)
+        if (e[i].device != f[i].device || e[i].status != f[i].status)
             differs(where, line, "a device error differs from plain C");
     statistics_beside_plain(where, line, body, len, check);
 }
@@ -377,7 +376,7 @@ static size_t put_errors(uint8_t *d, size_t at, struct made *m)
         at = append32(d, at, devices);
         for (uint32_t j = 0; j < devices; j++) {
             uint32_t status = chance(3) == 0 ? 0 : chance(20000);
-            m->e[m->errors++] = (struct error){r, at - BODY, status};
+            m->e[m->errors++] = (struct error){at - BODY, status};
             for (int i = 0; i < 4; i++)
                 at = append32(d, at, chance(3));
             at = append32(d, at, status);

@@ -42,7 +42,7 @@ uint32_t FN(report_check)(const uint8_t *body, size_t body_len)
     return at == 0 ? BADXDR : statistics_check(body, body_len, at);
 }
 
-uint32_t FN(report_next)(const uint8_t *s, size_t n, uint64_t *at, uint32_t *records, uint32_t *devices, uint32_t *place, uint64_t *device, uint32_t *status)
+uint32_t FN(report_next)(const uint8_t *s, size_t n, uint64_t *at, uint32_t *records, uint32_t *devices, uint64_t *device, uint32_t *status)
 {
     uint64_t a = *at;
     uint32_t r = *records, d = *devices;
@@ -51,7 +51,7 @@ uint32_t FN(report_next)(const uint8_t *s, size_t n, uint64_t *at, uint32_t *rec
         a = n < 4 ? 0 : 4;
         d = 0;
     }
-    *place = *status = 0;
+    *status = 0;
     *device = 0;
     size_t left = a < n ? n - a : 0;
     while (d == 0) {
@@ -62,12 +62,12 @@ uint32_t FN(report_next)(const uint8_t *s, size_t n, uint64_t *at, uint32_t *rec
         d = be32(s + a + 32);
         a += ERROR_RECORD;
         left -= ERROR_RECORD;
+        if (left < DEVICE_ERROR * (size_t)d)
+            return BADXDR;
         r--;
     }
     if (left < DEVICE_ERROR)
         return BADXDR;
-    uint32_t total = be32(s);
-    *place = r < total ? total - r - 1 : 0;
     *device = a;
     *status = be32(s + a + 16);
     *at = a + DEVICE_ERROR;

@@ -54,7 +54,7 @@ struct plain_epochs {
                              uint8_t *, size_t, uint64_t *); \
     uint32_t P##layoutreturn_check(const uint8_t *, size_t, uint32_t *, uint64_t *, uint64_t *); \
     uint32_t P##report_check(const uint8_t *, size_t); \
-    uint32_t P##report_next(const uint8_t *, size_t, uint64_t *, uint32_t *, uint32_t *, uint32_t *, uint64_t *, uint32_t *); \
+    uint32_t P##report_next(const uint8_t *, size_t, uint64_t *, uint32_t *, uint32_t *, uint64_t *, uint32_t *); \
     uint32_t P##statistics_next(const uint8_t *, size_t, uint64_t *, uint32_t *, uint64_t *, uint64_t *, uint64_t *); \
     uint32_t P##layoutreturn_reply(uint8_t *, size_t, uint32_t); \
     void P##record_fresh(struct plain_record *); \

@@ -18,7 +18,7 @@ static volatile uint32_t answer;
 enum { EXTENTS = 1024, EXTENT = 48 };
 static uint8_t devices[16 * EXTENTS], body[4 + EXTENT * EXTENTS];
 static uint64_t offsets[EXTENTS], lengths[EXTENTS], storages[EXTENTS], place, at, left, device, offset, length, storage;
-static uint32_t handles[EXTENTS], states[EXTENTS], kind, records, errors, position, status;
+static uint32_t handles[EXTENTS], states[EXTENTS], kind, records, errors, status;
 static struct sc_epochs epochs;
 
 static uint32_t layoutreturn(const uint8_t *s, size_t len)
@@ -63,7 +63,7 @@ static void check_report(void) { answer = sc_report_check(request + 52, sizeof r
 static void next_error(void)
 {
     at = 0;
-    answer = sc_report_next(request + 52, sizeof request - 52, &at, &records, &errors, &position, &device, &status);
+    answer = sc_report_next(request + 52, sizeof request - 52, &at, &records, &errors, &device, &status);
 }
 static void next_statistic(void)
 {

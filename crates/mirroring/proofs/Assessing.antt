@@ -25,8 +25,8 @@ use Rattle.mirroring.specs.declared.totals.Totals.{Totals}
 use Rattle.mirroring.proofs.Summing.{adding, totals-are}
 
 -- ---- one device error
-pub error-given : {x : DeviceError} {i h l st : ℕ} (ms : List Mirror) (a : Assessment) → Given x i h l st → withErrorOf ms a h l st ≡ withError ms a x
-error-given {x} {i} {h} {l} {st} ms a g =
+pub error-given : {x : DeviceError} {h l st : ℕ} (ms : List Mirror) (a : Assessment) → Given x h l st → withErrorOf ms a h l st ≡ withError ms a x
+error-given {x} {h} {l} {st} ms a g =
     ap (λ (d : Device). withErrorOf ms a (d .high) (d .low) st) (sym (g .device))
     ∙ ap (withErrorOf ms a (deviceOf x .high) (deviceOf x .low)) (sym (g .status))
 

@@ -5,14 +5,16 @@ use crate::mirrors::PLACES;
 use crate::mirrors::place;
 use crate::totals::Totals;
 use places::Found;
+use reports::cursor::Cursor;
 use reports::report::Entry;
+use reports::report::Reading;
 use reports::statistics::Item;
-use reports::statistics::Tail;
 ghost use mathlib.Core.Path.{_≡_};
 ghost use mathlib.Core.Bool.{cond};
-ghost use Prim.Native.Nat.{_<_};
-ghost use lib.ListN.{set};
-ghost use Rattle.reports.specs.Report.{reportOf, outcome};
+ghost use Prim.Native.Nat.{_+_, _*_, _≤_};
+ghost use lib.ListN.{length, drop, set};
+ghost use Rattle.reports.specs.Report.{reportOf, over, outcome};
+ghost use Rattle.reports.specs.ReportSteps.{errorsIn};
 ghost use Rattle.reports.specs.StatisticsSteps.{statisticsFrom, tally};
 ghost use Rattle.mirroring.specs.Blame.{blaming, statusOnly, withError, withErrorOf, counted, countedOf, assessmentOf};
 
@@ -35,7 +37,7 @@ pub struct Assessment {
 // What the device errors say, and the cursor at the first statistics record.
 struct ErrorsAssessed {
     assessment: Assessment,
-    next: Tail,
+    next: Cursor,
 }
 
 // A flag, once it is raised or as it was.
@@ -134,6 +136,40 @@ impl Assessment {
     }
 }
 
+// The device errors of one record: `n` of them from `from` on, which are all there.
+fn record_errors(
+    so_far: Assessment,
+    mirrors: [Mirror; PLACES],
+    body: &[u8],
+    from: usize,
+    n: u32,
+) -> Assessment
+    requires { ⌜ from + 24 * n ≤ length (now body) ⌝ }
+    ensures { λ r. ⌜ r ≡ over (withError mirrors) «so_far» (errorsIn n (drop from (now (body .entry)))) ⌝ }
+{
+    let mut a = so_far;
+    let mut at = from;
+    let mut left = n;
+    while left != 0 {
+        match reports::report::device(body, at) {
+            Reading::Error {
+                high,
+                low,
+                status,
+                next,
+            } => {
+                a = a.device_error(mirrors, high, low, status);
+                at = next;
+                left -= 1;
+            }
+            Reading::Missing => {
+                return a;
+            }
+        }
+    }
+    a
+}
+
 // The device errors of a report's body. Where they are malformed, so is what is left.
 fn errors(mirrors: [Mirror; PLACES], body: &[u8]) -> ErrorsAssessed
     ensures { λ r. ⌜ tally (counted mirrors) (statusOnly 10036) (r .assessment) (statisticsFrom (now (body .entry)) (r .next)) ≡ outcome (withError mirrors) (counted mirrors) (statusOnly 10036) (statusOnly 0) (reportOf (now (body .entry))) ⌝ }
@@ -141,18 +177,9 @@ fn errors(mirrors: [Mirror; PLACES], body: &[u8]) -> ErrorsAssessed
     let mut a = Assessment::only(0);
     let mut c = reports::report::start(body);
     loop {
-        match reports::report::step(body, c) {
-            Entry::Device {
-                record: _,
-                high,
-                low,
-                status,
-                next,
-            } => {
-                a = a.device_error(mirrors, high, low, status);
-                c = next;
-            }
-            Entry::Record(next) => {
+        match reports::report::next(body, c) {
+            Entry::Record { at, devices, next } => {
+                a = record_errors(a, mirrors, body, at, devices);
                 c = next;
             }
             Entry::Statistics(next) => {
@@ -164,7 +191,7 @@ fn errors(mirrors: [Mirror; PLACES], body: &[u8]) -> ErrorsAssessed
             Entry::Malformed => {
                 return ErrorsAssessed {
                     assessment: a,
-                    next: reports::statistics::none(body),
+                    next: reports::cursor::none(body),
                 };
             }
         }

@@ -32,8 +32,8 @@ after n s = blank 7 ++ (n ∷ s)
 -- which ends where the bytes do; a statistics record; the same with a padding byte that is not zero; with a boolean of 2; with a count of 2; with a count of 0
 pub answers :
     map reportOf (one ∷ two ∷ blank 8 ∷ blank 9 ∷ (blank 7 ++ (1 ∷ [])) ∷ (255 ∷ 255 ∷ 255 ∷ 255 ∷ blank 76) ∷ after 1 (statistic 0 1) ∷ after 1 (statistic 1 1) ∷ after 1 (statistic 0 2) ∷ after 2 (statistic 0 1) ∷ after 0 (statistic 0 1) ∷ [])
-    ≡ Whole (record { inRecord = 0; device = blank 7 ++ (7 ∷ (blank 7 ++ (9 ∷ []))); status = 5 } ∷ []) []
-    ∷ Whole (record { inRecord = 1; device = blank 16; status = 0 } ∷ record { inRecord = 1; device = blank 16; status = 0 } ∷ []) []
+    ≡ Whole (record { device = blank 7 ++ (7 ∷ (blank 7 ++ (9 ∷ []))); status = 5 } ∷ []) []
+    ∷ Whole (record { device = blank 16; status = 0 } ∷ record { device = blank 16; status = 0 } ∷ []) []
     ∷ Whole [] []
     ∷ Malformed
     ∷ Malformed

@@ -18,17 +18,21 @@ use Rattle.reports.specs.Statistics.{Statistic, ioInfo, nfstime, ioLaten
 use Rattle.reports.specs.Report.{Report, DeviceError, ioerr, reportOf, statusOf, withoutErrors, over, outcome}
 use Rattle.reports.specs.Report as report
 use Rattle.reports.specs.Walk.{TailWalk as Walk, tail-ends as ends, tail-gives as gives, Stated}
-use Rattle.reports.specs.ReportSteps as steps
-use Rattle.reports.specs.StatisticsSteps.{tailOf, counting, noTail, tailAt, tailPast, statisticsStart, givenBy, nextOf, statisticsFrom, statisticIn, statisticAt, afterNext, tally}
+use Rattle.reports.specs.ReportSteps.{startPast, statisticsStart}
+use Rattle.reports.specs.Cursors.{nowhere, cursorAt}
+use Rattle.reports.specs.StatisticsSteps.{tailOf, counting, givenBy, nextOf, stepBy, stepOf, statisticsFrom, statisticIn, statisticAt, afterNext, tally}
 use Rattle.xdr.specs.declared.fields.Past.{Past}
 use Rattle.xdr.specs.declared.fields.Past.the-variants as past
-use Rattle.reports.specs.declared.statistics.Tail.{Tail}
+use Rattle.reports.specs.declared.cursor.Cursor.{Cursor}
+use Rattle.reports.specs.declared.statistics.Stepped.{Stepped}
+use Rattle.reports.specs.declared.statistics.Stepped.the-variants as stepped
 use Rattle.reports.specs.declared.statistics.Item.{Item}
 use Rattle.reports.specs.declared.statistics.Item.the-variants.{Given, End, Malformed}
 use Rattle.reports.proofs.Devices.{halves-taken}
-use Rattle.xdr.proofs.Readers.{Leads, no-bytes, number-first, opaque-first, boolean-first, then, by-test, any-place}
+use Rattle.xdr.proofs.Readers.{Leads, no-bytes, number-first, opaque-first, boolean-first, then, by-test}
 use Rattle.xdr.proofs.Ends.{EndOf, end-drop, end-of-end, end-shorter, Ends, Leaves, number-ends, give-ends, boolean-ends, bounded-ends, then-ends, counted-ends, reached, further, unread, goes-on, goes-nowhere}
-use Rattle.reports.proofs.Statuses.{counted-status}
+use Rattle.reports.proofs.Statuses.{counted-status, statistics-status}
+use Rattle.reports.proofs.Cursors.{nothing-there, rows-begin}
 use Rattle.reports.proofs.ReportModel.{rest-is, no-errors-read, ioerr-ends}
 
 -- ---- structures of fixed size
@@ -157,7 +161,7 @@ shown u =
         (refl, end-of-end l (end-drop 80 u), omega arith)
 
 -- ---- the law of a walk
-after-if : (s : List ℕ) (c : Tail) (b : Bool) (x y : Item) → afterNext s c (cond b x y) ≡ cond b (afterNext s c x) (afterNext s c y)
+after-if : (s : List ℕ) (c : Cursor) (b : Bool) (x y : Item) → afterNext s c (cond b x y) ≡ cond b (afterNext s c x) (afterNext s c y)
 after-if s c true x y = refl
 after-if s c false x y = refl
 
@@ -169,8 +173,8 @@ one-counted y (Got ys t) = by-end (eqb (length t) 0)
     by-end true = refl
     by-end false = refl
 
-at-record : (s : List ℕ) (c : Tail) (n : ℕ)
-    → tailOf (inTurn 0 n (λ _. iostats) (drop (c .at) s))
+at-record : (s : List ℕ) (c : Cursor) (n : ℕ)
+    → tailOf (inTurn n iostats (drop (c .at) s))
     ≡ afterNext s c (cond (eqb n 0) (cond (eqb (length s - c .at) 0) End Malformed) (givenBy s n (iostats (drop (c .at) s))))
 unfolding inTurn statisticsFrom
 at-record s c zero = rw length-drop (sym (after-if s c (eqb (length s - c .at) 0) End Malformed))
@@ -179,73 +183,61 @@ at-record s c (suc n) =
     rw z (by-record (iostats (drop (c .at) s)) (shown (drop (c .at) s)))
   where
     by-record : (r : Read Statistic) → Shown (drop (c .at) s) r
-        → tailOf (onward r (λ y. inTurn 1 n (λ _. iostats) >>= λ ys. give (y ∷ ys))) ≡ afterNext s c (givenBy s (suc n) r)
+        → tailOf (onward r (λ y. inTurn n iostats >>= λ ys. give (y ∷ ys))) ≡ afterNext s c (givenBy s (suc n) r)
     by-record Bad h = refl
     by-record (Got y t) h =
         let p : suc n - 1 ≡ n = omega arith in
         let q : drop (length s - length t) s ≡ t = end-of-end (h .1) (end-drop (c .at) s) .lies in
-        one-counted y (inTurn 1 n (λ _. iostats) t) ∙ rw (p, q, ← h .0, any-place iostats 1 0 n t)
+        one-counted y (inTurn n iostats t) ∙ rw (p, q, ← h .0)
 
 -- the records from a cursor on are what stands there and then the records from the next cursor on
-pub unrolled : (s : List ℕ) (c : Tail) → statisticsFrom s c ≡ afterNext s c (nextOf s c)
+pub unrolled : (s : List ℕ) (c : Cursor) → statisticsFrom s c ≡ afterNext s c (nextOf s c)
 unfolding statisticsFrom nextOf
 unrolled s c = at-record s c (c .left)
 
 -- from a cursor on there are statistics records and no device errors, or the records are malformed
-pub only-statistics : (P : Report → Type 0) → ((ys : List Statistic) → P (report.Whole [] ys)) → P report.Malformed → (s : List ℕ) (c : Tail) → P (statisticsFrom s c)
+pub only-statistics : (P : Report → Type 0) → ((ys : List Statistic) → P (report.Whole [] ys)) → P report.Malformed → (s : List ℕ) (c : Cursor) → P (statisticsFrom s c)
 unfolding statisticsFrom
-only-statistics P w m s c = by-read (inTurn 0 (c .left) (λ _. iostats) (drop (c .at) s))
+only-statistics P w m s c = by-read (inTurn (c .left) iostats (drop (c .at) s))
   where
     by-read : (r : Read (List Statistic)) → P (tailOf r)
     by-read Bad = m
     by-read (Got ys t) = by-test P (eqb (length t) 0) (report.Whole [] ys) report.Malformed (λ _. w ys) (λ _. m)
 
 -- ---- where the walk begins
-nothing-there : (s : List ℕ) → statisticsFrom s (noTail s) ≡ report.Malformed
-unfolding statisticsFrom inTurn
-nothing-there s = rw (drop-length, iostats-read)
+no-bytes-read : iostats [] ≡ Bad
+no-bytes-read = iostats-read []
 
-pub tail-begins : (s : List ℕ) (at : ℕ) → statisticsFrom s (tailAt s at) ≡ tailOf (counted (λ _. iostats) (drop at s))
-unfolding tailAt number statisticsFrom
-tail-begins s at = rw length-drop (by-size (ltb (length s - at) 4))
-  where
-    by-size : (b : Bool) → statisticsFrom s (cond b (noTail s) (record { at = at + 4; left = beNat 4 (drop at s) }))
-        ≡ tailOf (onward (cond b Bad (Got (beNat 4 (drop at s)) (drop 4 (drop at s)))) (λ n. inTurn 0 n (λ _. iostats)))
-    by-size true = nothing-there s
-    by-size false = rw drop-drop
+pub tail-begins : (s : List ℕ) (at : ℕ) → statisticsFrom s (cursorAt s at) ≡ tailOf (counted iostats (drop at s))
+unfolding statisticsFrom
+tail-begins s at = ap tailOf (rows-begin iostats no-bytes-read s at)
+
+nowhere-begins : (s : List ℕ) → statisticsFrom s (nowhere s) ≡ report.Malformed
+unfolding statisticsFrom
+nowhere-begins s = ap tailOf (nothing-there iostats no-bytes-read s)
 
 -- the walk of a body begins with all its statistics records
 pub begins : (s : List ℕ) → statisticsFrom s (statisticsStart s) ≡ withoutErrors (reportOf s)
 unfolding statisticsStart
 begins s = by-errors (counted ioerr s) refl (counted-ends ioerr ioerr-ends .leaves s)
   where
-    by-errors : (r : Read (List (List DeviceError))) → counted ioerr s ≡ r → Leaves s r → statisticsFrom s (tailPast s (pastOf (length s) r)) ≡ withoutErrors (reportOf s)
-    by-errors Bad e l = nothing-there s ∙ sym (ap withoutErrors (no-errors-read s e))
+    by-errors : (r : Read (List (List DeviceError))) → counted ioerr s ≡ r → Leaves s r → statisticsFrom s (startPast s (pastOf (length s) r)) ≡ withoutErrors (reportOf s)
+    by-errors Bad e l = nowhere-begins s ∙ sym (ap withoutErrors (no-errors-read s e))
     by-errors (Got rs t) e l = tail-begins s (length s - length t) ∙ rw (l .lies) (sym (rest-is s e))
 
--- by the place that the code finds past the error records
-module _ (s : List ℕ) {r : Past} (i : r ≡ pastOf (length s) (counted ioerr s)) where
-  pub starts-past : {at : ℕ} → r ≡ past.At at → {c : Tail} → c ≡ tailAt s at → c ≡ statisticsStart s
-  unfolding statisticsStart
-  starts-past h e = e ∙ ap (tailPast s) (sym h ∙ i)
-
-  pub starts-nowhere : r ≡ past.Malformed → {c : Tail} → c ≡ noTail s → c ≡ statisticsStart s
-  unfolding statisticsStart
-  starts-nowhere h e = e ∙ ap (tailPast s) (sym h ∙ i)
-
 -- ---- what the code's tests say of a step
-module _ (s : List ℕ) (c : Tail) where
+module _ (s : List ℕ) (c : Cursor) where
   module _ (z : c .left ≡ 0) where
-    pub at-end : length s - c .at ≡ 0 → End ≡ nextOf s c
+    pub at-end : length s - c .at ≡ 0 → stepped.End ≡ stepOf s c
     unfolding nextOf
     at-end h = simp (eq-eqb (c .left) 0 z, eq-eqb (length s - c .at) 0 h)
 
-    pub at-spare : (length s - c .at ≡ 0 → ⊥) → Malformed ≡ nextOf s c
+    pub at-spare : (length s - c .at ≡ 0 → ⊥) → stepped.Malformed ≡ stepOf s c
     unfolding nextOf
     at-spare h = simp (eq-eqb (c .left) 0 z, ne-eqb (length s - c .at) 0 h)
 
   module _ (z : c .left ≡ 0 → ⊥) where
-    pub at-cut : length s - c .at < 80 → Malformed ≡ nextOf s c
+    pub at-cut : length s - c .at < 80 → stepped.Malformed ≡ stepOf s c
     unfolding nextOf
     at-cut h = rw (ne-eqb (c .left) 0 z, iostats-read, lt-ltb (length (drop (c .at) s)) 80 (rw length-drop h))
 
@@ -254,57 +246,99 @@ module _ (s : List ℕ) (c : Tail) where
       unfolding nextOf
       record-at = rw (ne-eqb (c .left) 0 z, iostats-read, le-ltb (length (drop (c .at) s)) 80 (rw length-drop h), drop-drop 80 (c .at) s)
 
-      pub at-bad-update : r ≡ past.Malformed → Malformed ≡ nextOf s c
+      pub at-bad-update : r ≡ past.Malformed → stepped.Malformed ≡ stepOf s c
       at-bad-update g = rw (record-at, unread (length s) (layoutupdate (drop (c .at + 80) s)) (sym g ∙ i))
 
-      pub at-given : {e : ℕ} → r ≡ past.At e → {hi lo rd wr : ℕ} → hi ≡ beNat 8 (drop (c .at + 64) s) → lo ≡ beNat 8 (drop (c .at + 72) s)
-          → rd ≡ beNat 8 (drop (c .at + 40) s) → wr ≡ beNat 8 (drop (c .at + 56) s)
-          → Given hi lo rd wr (record { at = e; left = c .left - 1 }) ≡ nextOf s c
-      at-given {e} g {hi} {lo} {rd} {wr} p q u w =
+      pub at-record-end : {e : ℕ} → r ≡ past.At e → stepped.On (record { at = e; left = c .left - 1 }) ≡ stepOf s c
+      at-record-end {e} g =
           let t = layoutupdate (drop (c .at + 80) s) in
           let l = update-ends .leaves (drop (c .at + 80) s) in
           let f = further s (c .at + 80) t l (sym g ∙ i) (omega arith) in
           let y : length s - (length s - e) ≡ e = omega (arith, f .1) in
-          let k : c .at + 64 + 8 ≡ c .at + 72 = omega arith in
-          let d : halves (take 16 (drop 64 (drop (c .at) s))) ≡ record { high = hi; low = lo } =
-          halves-taken (drop 64 (drop (c .at) s)) ∙ rw (drop-drop 64 (c .at) s, drop-drop 8 (c .at + 64) s, k, p, q)
-          in
-          let rd-is : beNat 8 (drop 40 (drop (c .at) s)) ≡ rd = rw (drop-drop 40 (c .at) s, u) in
-          let wr-is : beNat 8 (drop 56 (drop (c .at) s)) ≡ wr = rw (drop-drop 56 (c .at) s, w) in
-          rw (record-at, reached s (c .at + 80) t l (sym g ∙ i) .is, length-drop, y, ap (λ (x : Device). x .high) d, ap (λ (x : Device). x .low) d, rd-is, wr-is)
+          rw (record-at, reached s (c .at + 80) t l (sym g ∙ i) .is, length-drop, y)
 
 -- ---- a step takes at least 80 bytes and stays within the bytes: a walk of s makes at most length s / 80 + 1 steps, whatever the count says
-pub record Forward (s : List ℕ) (c next : Tail) : Type 0 where
+pub record Forward (s : List ℕ) (c next : Cursor) : Type 0 where
   pub further : c .at + 80 ≤ next .at
   pub within : next .at ≤ length s
 
-abbrev Stepped : List ℕ → Tail → Item → Type 0
-Stepped s c (Given h l r w next) = Forward s c next × Stated (statisticAt s c) h l r w
-Stepped s c End = Unit
-Stepped s c Malformed = Unit
+abbrev Stands : List ℕ → Cursor → Item → Type 0
+Stands s c (Given h l r w next) = Forward s c next × Stated (statisticAt s c) h l r w
+Stands s c End = Unit
+Stands s c Malformed = Unit
 
-stepped-by : (s : List ℕ) (c : Tail) (r : Read Statistic) → Shown (drop (c .at) s) r → Stepped s c (givenBy s (c .left) r)
-stepped-by s c Bad h = tt
-stepped-by s c (Got y t) h =
+stands-by : (s : List ℕ) (c : Cursor) (r : Read Statistic) → Shown (drop (c .at) s) r → Stands s c (givenBy s (c .left) r)
+stands-by s c Bad h = tt
+stands-by s c (Got y t) h =
     let k : length t + 80 ≤ length s - c .at = rw length-drop at (h .2) in
     (record { further = omega arith; within = omega arith }, rw (← h .0) (record { device = refl; read = refl; written = refl }))
 
-stepped : (s : List ℕ) (c : Tail) → Stepped s c (nextOf s c)
+stands : (s : List ℕ) (c : Cursor) → Stands s c (nextOf s c)
 unfolding nextOf
-stepped s c =
-    by-test (Stepped s c) (eqb (c .left) 0) _ _ (λ _. by-test (Stepped s c) (eqb (length s - c .at) 0) End Malformed (λ _. tt) (λ _. tt))
-    (λ _. stepped-by s c (iostats (drop (c .at) s)) (shown (drop (c .at) s)))
+stands s c =
+    by-test (Stands s c) (eqb (c .left) 0) _ _ (λ _. by-test (Stands s c) (eqb (length s - c .at) 0) End Malformed (λ _. tt) (λ _. tt))
+    (λ _. stands-by s c (iostats (drop (c .at) s)) (shown (drop (c .at) s)))
 
-module _ (s : List ℕ) (c : Tail) {h l r w : ℕ} {next : Tail} (e : nextOf s c ≡ Given h l r w next) where
+module _ (s : List ℕ) (c : Cursor) {h l r w : ℕ} {next : Cursor} (e : nextOf s c ≡ Given h l r w next) where
   pub goes-forward : Forward s c next
-  goes-forward = (rw e at (stepped s c)) .0
+  goes-forward = (rw e at (stands s c)) .0
 
   pub stated : Stated (statisticAt s c) h l r w
-  stated = (rw e at (stepped s c)) .1
+  stated = (rw e at (stands s c)) .1
+
+-- ---- a step, and the record that it passes, whatever its numbers are
+record Passed (s : List ℕ) (c next : Cursor) : Type 0 where
+  hi : ℕ
+  lo : ℕ
+  rd : ℕ
+  wr : ℕ
+  is : nextOf s c ≡ Given hi lo rd wr next
+
+abbrev Told : List ℕ → Cursor → Stepped → Type 0
+Told s c (stepped.On next) = Passed s c next
+Told s c stepped.End = nextOf s c ≡ End
+Told s c stepped.Malformed = nextOf s c ≡ Malformed
+
+told-by : (s : List ℕ) (c : Cursor) (x : Item) → nextOf s c ≡ x → Told s c (stepBy x)
+told-by s c (Given hi lo rd wr next) e = record { hi = hi; lo = lo; rd = rd; wr = wr; is = e }
+told-by s c End e = e
+told-by s c Malformed e = e
+
+module _ (s : List ℕ) (c : Cursor) where
+  told : Told s c (stepOf s c)
+  told = told-by s c (nextOf s c) refl
+
+  passed : {next : Cursor} → stepOf s c ≡ stepped.On next → Passed s c next
+  passed e = rw e at told
+
+  pub step-forward : {next : Cursor} → stepOf s c ≡ stepped.On next → Forward s c next
+  step-forward e = goes-forward s c (passed e .is)
+
+  pub next-end : stepOf s c ≡ stepped.End → End ≡ nextOf s c
+  next-end e = sym (rw e at told)
+
+  pub next-malformed : stepOf s c ≡ stepped.Malformed → Malformed ≡ nextOf s c
+  next-malformed e = sym (rw e at told)
+
+  -- its numbers are those that stand in their places
+  pub next-given : {next : Cursor} → stepOf s c ≡ stepped.On next → {hi lo rd wr : ℕ} → hi ≡ beNat 8 (drop (c .at + 64) s) → lo ≡ beNat 8 (drop (c .at + 72) s)
+      → rd ≡ beNat 8 (drop (c .at + 40) s) → wr ≡ beNat 8 (drop (c .at + 56) s) → Given hi lo rd wr next ≡ nextOf s c
+  next-given e {hi} {lo} {rd} {wr} p q u w =
+      let g = passed e in
+      let t = stated s c (g .is) in
+      let k : c .at + 64 + 8 ≡ c .at + 72 = omega arith in
+      let d : halves (take 16 (drop 64 (drop (c .at) s))) ≡ record { high = hi; low = lo } =
+      halves-taken (drop 64 (drop (c .at) s)) ∙ rw (drop-drop 64 (c .at) s, drop-drop 8 (c .at + 64) s, k, p, q)
+      in
+      let x : g .hi ≡ hi = ap (λ (y : Device). y .high) (sym (t .device) ∙ d) in
+      let y : g .lo ≡ lo = ap (λ (y : Device). y .low) (sym (t .device) ∙ d) in
+      let r : g .rd ≡ rd = sym (t .read) ∙ rw (drop-drop 40 (c .at) s, u) in
+      let v : g .wr ≡ wr = sym (t .written) ∙ rw (drop-drop 56 (c .at) s, w) in
+      sym (g .is ∙ rw (x, y, r, v))
 
 -- ---- what a caller folds over the records: with the invariant `tally f bad a (statisticsFrom s c) ≡ answer` a turn keeps the answer, and each way
 -- out gives it
-turn : (s : List ℕ) (c : Tail) {e : Item} → nextOf s c ≡ e → statisticsFrom s c ≡ afterNext s c e
+turn : (s : List ℕ) (c : Cursor) {e : Item} → nextOf s c ≡ e → statisticsFrom s c ≡ afterNext s c e
 turn s c h = unrolled s c ∙ ap (afterNext s c) h
 
 one-tallied : {A : Type 0} (f : A → Statistic → A) (bad a : A) (y : Statistic) (p : Report) → tally f bad a (counting y p) ≡ tally f bad (f a y) p
@@ -312,8 +346,8 @@ unfolding tally over
 one-tallied f bad a y (report.Whole xs ys) = refl
 one-tallied f bad a y report.Malformed = refl
 
-module _ {A : Type 0} (f : A → Statistic → A) (bad a : A) (s : List ℕ) (c : Tail) {answer : A} (inv : tally f bad a (statisticsFrom s c) ≡ answer) where
-  pub tally-given : {h l r w : ℕ} {next : Tail} → nextOf s c ≡ Given h l r w next → tally f bad (f a (statisticAt s c)) (statisticsFrom s next) ≡ answer
+module _ {A : Type 0} (f : A → Statistic → A) (bad a : A) (s : List ℕ) (c : Cursor) {answer : A} (inv : tally f bad a (statisticsFrom s c) ≡ answer) where
+  pub tally-given : {h l r w : ℕ} {next : Cursor} → nextOf s c ≡ Given h l r w next → tally f bad (f a (statisticAt s c)) (statisticsFrom s next) ≡ answer
   tally-given {next = next} e = sym (one-tallied f bad a (statisticAt s c) (statisticsFrom s next)) ∙ sym (ap (tally f bad a) (turn s c e)) ∙ inv
 
   pub tally-end : nextOf s c ≡ End → a ≡ answer
@@ -324,33 +358,33 @@ module _ {A : Type 0} (f : A → Statistic → A) (bad a : A) (s : List ℕ) (c 
   unfolding tally
   tally-malformed e = sym (ap (tally f bad a) (turn s c e)) ∙ inv
 
-pub tally-nothing : {A : Type 0} (g : A → Statistic → A) (bad a : A) (s : List ℕ) {c : Tail} → c ≡ noTail s → tally g bad a (statisticsFrom s c) ≡ bad
+pub tally-nothing : {A : Type 0} (g : A → Statistic → A) (bad a : A) (s : List ℕ) {c : Cursor} → c ≡ nowhere s → tally g bad a (statisticsFrom s c) ≡ bad
 unfolding tally
-tally-nothing g bad a s e = ap (λ (x : Tail). tally g bad a (statisticsFrom s x)) e ∙ ap (tally g bad a) (nothing-there s)
+tally-nothing g bad a s e = ap (λ (x : Cursor). tally g bad a (statisticsFrom s x)) e ∙ ap (tally g bad a) (nowhere-begins s)
 
 -- what is left of a report whose error records are passed is its statistics records
-pub tally-rest : {A : Type 0} (f : A → DeviceError → A) (g : A → Statistic → A) (bad a : A) (s : List ℕ) (c : Tail)
+pub tally-rest : {A : Type 0} (f : A → DeviceError → A) (g : A → Statistic → A) (bad a : A) (s : List ℕ) (c : Cursor)
     → outcome f g bad a (statisticsFrom s c) ≡ tally g bad a (statisticsFrom s c)
 unfolding outcome tally over
 tally-rest f g bad a s c = only-statistics (λ p. outcome f g bad a p ≡ tally g bad a p) (λ ys. refl) refl s c
 
--- ---- the status of the records, which is that of a fold that keeps nothing
-pub status-begins : (s : List ℕ) (at : ℕ) {c : Tail} → c ≡ tailAt s at → statusOf (statisticsFrom s c) ≡ statusOf (steps.statistics (drop at s))
-unfolding steps.statistics
-status-begins s at e = ap (λ (x : Tail). statusOf (statisticsFrom s x)) e ∙ ap statusOf (tail-begins s at)
+-- ---- the status of the records: with the invariant `statusOf (statisticsFrom s c) ≡ answer` a step keeps the answer, and each way out gives it
+module _ (s : List ℕ) (c : Cursor) {answer : ℕ} (inv : statusOf (statisticsFrom s c) ≡ answer) where
+  pub status-on : {next : Cursor} → stepOf s c ≡ stepped.On next → statusOf (statisticsFrom s next) ≡ answer
+  status-on {next} e = sym (counted-status (statisticAt s c) (statisticsFrom s next)) ∙ sym (ap statusOf (turn s c (passed s c e .is))) ∙ inv
 
-module _ (s : List ℕ) (c : Tail) {answer : ℕ} (inv : statusOf (statisticsFrom s c) ≡ answer) where
-  pub status-given : {h l r w : ℕ} {next : Tail} → nextOf s c ≡ Given h l r w next → statusOf (statisticsFrom s next) ≡ answer
-  status-given {next = next} e = sym (counted-status (statisticAt s c) (statisticsFrom s next)) ∙ sym (ap statusOf (turn s c e)) ∙ inv
+  pub status-end : stepOf s c ≡ stepped.End → 0 ≡ answer
+  status-end e = sym (ap statusOf (turn s c (sym (next-end s c e)))) ∙ inv
 
-  pub status-end : nextOf s c ≡ End → 0 ≡ answer
-  status-end e = sym (ap statusOf (turn s c e)) ∙ inv
+  pub status-malformed : stepOf s c ≡ stepped.Malformed → 10036 ≡ answer
+  status-malformed e = sym (ap statusOf (turn s c (sym (next-malformed s c e)))) ∙ inv
 
-  pub status-malformed : nextOf s c ≡ Malformed → 10036 ≡ answer
-  status-malformed e = sym (ap statusOf (turn s c e)) ∙ inv
+-- of a body: that of its statistics records, from where they begin
+pub status-whole : (s : List ℕ) {c : Cursor} → c ≡ statisticsStart s → statusOf (statisticsFrom s c) ≡ statusOf (reportOf s)
+status-whole s e = ap (λ (x : Cursor). statusOf (statisticsFrom s x)) e ∙ ap statusOf (begins s) ∙ statistics-status (reportOf s)
 
 -- ---- the walk as a list: the records that the steps from a cursor on give, where they end well, are those of the report
-visits : (s : List ℕ) {c : Tail} {ys : List Statistic} → Walk s c ys → statisticsFrom s c ≡ report.Whole [] ys
+visits : (s : List ℕ) {c : Cursor} {ys : List Statistic} → Walk s c ys → statisticsFrom s c ≡ report.Whole [] ys
 visits s {c} (ends e) = turn s c e
 visits s {c} (gives e w) = turn s c e ∙ ap (counting (statisticAt s c)) (visits s w)
 
@@ -366,8 +400,8 @@ same-rest y (report.Whole xs zs) ys P e k =
     rw q at (k zs (ap (λ (x : List DeviceError). report.Whole x zs) z))
 same-rest y report.Malformed ys P e k = let z : _≡_ {A = ℕ} 0 1 = cc in absurd (omega arith)
 
-step-on : (n : ℕ) (s : List ℕ) (c : Tail) (ys : List Statistic) → length s - c .at < suc n → statisticsFrom s c ≡ report.Whole [] ys
-    → ((next : Tail) (zs : List Statistic) → length s - next .at < n → statisticsFrom s next ≡ report.Whole [] zs → Walk s next zs)
+step-on : (n : ℕ) (s : List ℕ) (c : Cursor) (ys : List Statistic) → length s - c .at < suc n → statisticsFrom s c ≡ report.Whole [] ys
+    → ((next : Cursor) (zs : List Statistic) → length s - next .at < n → statisticsFrom s next ≡ report.Whole [] zs → Walk s next zs)
     → (t : Item) → nextOf s c ≡ t → Walk s c ys
 step-on n s c ys h e go (Given hi lo rd wr next) q =
     let f = goes-forward s c q in
@@ -377,7 +411,7 @@ step-on n s c ys h e go End q =
     rw z at (ends {c = c} q)
 step-on n s c ys h e go Malformed q = let z : _≡_ {A = ℕ} 0 1 = cc (turn s c q) in absurd (omega arith)
 
-walked : (n : ℕ) (s : List ℕ) (c : Tail) (ys : List Statistic) → length s - c .at < n → statisticsFrom s c ≡ report.Whole [] ys → Walk s c ys
+walked : (n : ℕ) (s : List ℕ) (c : Cursor) (ys : List Statistic) → length s - c .at < n → statisticsFrom s c ≡ report.Whole [] ys → Walk s c ys
 walked zero s c ys h e = absurd (omega arith)
 walked (suc n) s c ys h e = step-on n s c ys h e (λ next zs. walked n s next zs) (nextOf s c) refl
 

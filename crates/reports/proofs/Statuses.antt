@@ -1,13 +1,14 @@
--- The status of a report: one device error or one statistics record more, and either half alone, have the same status.
+-- The status of a report: device errors or a statistics record more, and either half alone, have the same status.
 use mathlib.Core.Path.{_≡_, refl}
+use mathlib.Core.List.{List}
 use Rattle.reports.specs.Statistics.{Statistic}
 use Rattle.reports.specs.Report.{Report, Whole, Malformed, DeviceError, statusOf, withoutStatistics, withoutErrors}
 use Rattle.reports.specs.StatisticsSteps.{counting}
 use Rattle.reports.specs.ReportSteps.{naming}
 
-pub named-status : (x : DeviceError) (p : Report) → statusOf (naming x p) ≡ statusOf p
-named-status x (Whole xs ys) = refl
-named-status x Malformed = refl
+pub named-status : (xs : List DeviceError) (p : Report) → statusOf (naming xs p) ≡ statusOf p
+named-status xs (Whole ys zs) = refl
+named-status xs Malformed = refl
 
 pub counted-status : (y : Statistic) (p : Report) → statusOf (counting y p) ≡ statusOf p
 counted-status y (Whole xs ys) = refl

@@ -11,27 +11,26 @@ use lib.Dec.{eqb}
 use Rattle.xdr.specs.Reader.{Read, Got, Bad, Reader, _>>=_, give, number, opaque, counted}
 use Rattle.reports.specs.Statistics.{Statistic, iostats}
 
--- a device error: the place of its error record in the report, the device's sixteen bytes, and the status
+-- a device error: the device's sixteen bytes, and the status
 pub record DeviceError : Type 0 where
-  pub inRecord : ℕ
   pub device : List ℕ
   pub status : ℕ
 
--- device_error4, in the error record at place i; the operation is not judged
-unfoldable pub deviceError : ℕ → Reader DeviceError
-deviceError i = do
+-- device_error4; the operation is not judged
+unfoldable pub deviceError : Reader DeviceError
+deviceError = do
   device ← opaque 16
   status ← number 4
   operation ← number 4
-  give (record { inRecord = i; device = device; status = status })
+  give (record { device = device; status = status })
 
--- ff_ioerr4, at place i: its device errors; offset, length and stateid are not judged
-unfoldable pub ioerr : ℕ → Reader (List DeviceError)
-ioerr i = do
+-- ff_ioerr4: its device errors; offset, length and stateid are not judged
+unfoldable pub ioerr : Reader (List DeviceError)
+ioerr = do
   offset ← number 8
   len ← number 8
   stateid ← opaque 16
-  counted (λ _. deviceError i)
+  counted deviceError
 
 -- ff_layoutreturn4: its error records, then its statistics records
 pub record Contents : Type 0 where
@@ -41,7 +40,7 @@ pub record Contents : Type 0 where
 unfoldable pub layoutreturn : Reader Contents
 layoutreturn = do
   records ← counted ioerr
-  statistics ← counted (λ _. iostats)
+  statistics ← counted iostats
   give (record { records = records; statistics = statistics })
 
 -- ---- step 5

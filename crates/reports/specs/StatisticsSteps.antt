@@ -1,23 +1,21 @@
 -- MODEL of the code: the walk of the statistics records. Walk.antt states that the steps from the start visit the statistics records of `reportOf`.
---     tailAt, tailPast           the cursor at a body's first statistics record
---     nextOf                     what `next` answers
+--     stepOf, nextOf             what `step` and `next` answer
 --     statisticsFrom             the statistics records from a cursor on; `afterNext` says the same by what stands there
 --     tally                      what a caller makes of them
 use Prim.Native.Nat.{ℕ, _+_, _-_}
 use mathlib.Core.List.{List, [], _∷_}
 use mathlib.Core.Bool.{cond}
 use lib.ListN.{length, take, drop}
-use lib.Dec.{ltb, eqb}
+use lib.Dec.{eqb}
 use Rattle.xdr.specs.Be.{beNat}
 use Rattle.reports.specs.Device.{halves}
-use Rattle.xdr.specs.Reader.{Read, Got, Bad, inTurn, counted}
-use Rattle.xdr.specs.Past.{pastOf}
+use Rattle.xdr.specs.Reader.{Read, Got, Bad, inTurn}
 use Rattle.reports.specs.Statistics.{Statistic, iostats}
 use Rattle.reports.specs.Report as report
-use Rattle.reports.specs.Report.{Report, ioerr, over}
-use Rattle.xdr.specs.declared.fields.Past.{Past}
-use Rattle.xdr.specs.declared.fields.Past.the-variants as past
-use Rattle.reports.specs.declared.statistics.Tail.{Tail}
+use Rattle.reports.specs.Report.{Report, over}
+use Rattle.reports.specs.declared.cursor.Cursor.{Cursor}
+use Rattle.reports.specs.declared.statistics.Stepped.{Stepped}
+use Rattle.reports.specs.declared.statistics.Stepped.the-variants as stepped
 use Rattle.reports.specs.declared.statistics.Item.{Item}
 use Rattle.reports.specs.declared.statistics.Item.the-variants.{Given, End, Malformed}
 
@@ -31,41 +29,35 @@ counting y (report.Whole xs ys) = report.Whole xs (y ∷ ys)
 counting y report.Malformed = report.Malformed
 
 -- ---- the code's answers
--- a cursor at which nothing is well formed: a record is to come, and there are no bytes
-abbrev pub noTail : List ℕ → Tail
-noTail s = record { at = length s; left = 1 }
-
-unfoldable pub tailAt : List ℕ → ℕ → Tail
-tailAt s at = cond (ltb (length s - at) 4) (noTail s) (record { at = at + 4; left = beNat 4 (drop at s) })
-
-abbrev pub tailPast : List ℕ → Past → Tail
-tailPast s past.Malformed = noTail s
-tailPast s (past.At at) = tailAt s at
-
--- the cursor past the error records of a body
-unfoldable pub statisticsStart : List ℕ → Tail
-statisticsStart s = tailPast s (pastOf (length s) (counted ioerr s))
-
 abbrev pub givenBy : List ℕ → ℕ → Read Statistic → Item
 givenBy s n Bad = Malformed
 givenBy s n (Got y t) =
     Given (halves (y .device) .high) (halves (y .device) .low) (y .read) (y .written) (record { at = length s - length t; left = n - 1 })
 
-unfoldable pub nextOf : List ℕ → Tail → Item
+unfoldable pub nextOf : List ℕ → Cursor → Item
 nextOf s c = cond (eqb (c .left) 0) (cond (eqb (length s - c .at) 0) End Malformed) (givenBy s (c .left) (iostats (drop (c .at) s)))
 
+-- the same but for the record's numbers
+abbrev pub stepBy : Item → Stepped
+stepBy (Given h l r w next) = stepped.On next
+stepBy End = stepped.End
+stepBy Malformed = stepped.Malformed
+
+abbrev pub stepOf : List ℕ → Cursor → Stepped
+stepOf s c = stepBy (nextOf s c)
+
 -- ---- the statistics records from a cursor on
-unfoldable pub statisticsFrom : List ℕ → Tail → Report
-statisticsFrom s c = tailOf (inTurn 0 (c .left) (λ _. iostats) (drop (c .at) s))
+unfoldable pub statisticsFrom : List ℕ → Cursor → Report
+statisticsFrom s c = tailOf (inTurn (c .left) iostats (drop (c .at) s))
 
 -- the record that the first 80 bytes begin: its device and its counts stand in fixed places
 abbrev pub statisticIn : List ℕ → Statistic
 statisticIn s = record { device = take 16 (drop 64 s); read = beNat 8 (drop 40 s); written = beNat 8 (drop 56 s) }
 
-abbrev pub statisticAt : List ℕ → Tail → Statistic
+abbrev pub statisticAt : List ℕ → Cursor → Statistic
 statisticAt s c = statisticIn (drop (c .at) s)
 
-abbrev pub afterNext : List ℕ → Tail → Item → Report
+abbrev pub afterNext : List ℕ → Cursor → Item → Report
 afterNext s c (Given h l r w next) = counting (statisticAt s c) (statisticsFrom s next)
 afterNext s c End = report.Whole [] []
 afterNext s c Malformed = report.Malformed

@@ -1,21 +1,23 @@
 // The statistics records of a LAYOUTRETURN's body (RFC 8435, 9.2; Ticket 3).
-// In order: the cursor and what stands at one; a record; `begin` and `next`, by which a caller walks the records; `check`, their status.
+// In order: what stands at a cursor; a record; `step`, by which every walk goes; `next`, which reads the record's numbers too; `check`, the records' status.
+use crate::cursor::Cursor;
 use xdr::fields::Past;
 use xdr::fields::left;
 use xdr::fields::past_opaque;
 ghost use mathlib.Core.Path.{_≡_};
-ghost use Prim.Native.Nat.{_+_, _≤_};
 ghost use lib.ListN.{length, drop};
 ghost use Rattle.reports.specs.Report.{statusOf};
 ghost use Rattle.reports.specs.Statistics.{layoutupdate};
-ghost use Rattle.reports.specs.ReportSteps as steps;
-ghost use Rattle.reports.specs.StatisticsSteps.{noTail, tailAt, nextOf};
+ghost use Rattle.reports.specs.StatisticsSteps.{stepOf, nextOf, statisticsFrom};
 ghost use Rattle.xdr.specs.Past.{pastOf};
 
-// A place among the statistics records: where the next byte is, and the records still to come.
-pub struct Tail {
-    pub at: usize,
-    pub left: u32,
+// What stands at a cursor, but for the record's numbers.
+enum Stepped {
+    // A record, and the cursor past it.
+    On(Cursor),
+    // No record is to come, and nothing follows.
+    End,
+    Malformed,
 }
 
 // What stands at a cursor.
@@ -26,7 +28,7 @@ pub enum Item {
         low: u64,
         read: u64,
         written: u64,
-        next: Tail,
+        next: Cursor,
     },
     // No record is to come, and nothing follows.
     End,
@@ -55,83 +57,67 @@ fn past_update(s: &[u8], at: usize) -> Past
     Past::At(latency + 144)
 }
 
-// A cursor at which nothing is well formed.
-pub fn none(s: &[u8]) -> Tail
-    ensures { λ r. ⌜ r ≡ noTail (now (s .entry)) ⌝ }
-{
-    Tail {
-        at: s.len(),
-        left: 1,
-    }
-}
-
-// The cursor at the first record, of those whose count is at `at`.
-pub(crate) fn begin(s: &[u8], at: usize) -> Tail
-    ensures { λ r. ⌜ r ≡ tailAt (now (s .entry)) at ⌝ }
-{
-    if left(s, at) < 4 {
-        return none(s);
-    }
-    Tail {
-        at: at + 4,
-        left: xdr::be32(s, at),
-    }
-}
-
-// What stands at the cursor. Each step takes at least 80 bytes, whatever the count says.
-pub fn next(s: &[u8], c: Tail) -> Item
-    ensures { λ r. ⌜ r ≡ nextOf (now (s .entry)) c ⌝ }
+// One step of a walk. It takes at least 80 bytes, whatever the count says.
+fn step(s: &[u8], c: Cursor) -> Stepped
+    ensures { λ r. ⌜ r ≡ stepOf (now (s .entry)) c ⌝ }
 {
     let at = c.at;
     let n = c.left;
     let room = left(s, at);
     if n == 0 {
         if room == 0 {
-            return Item::End;
+            return Stepped::End;
         }
-        return Item::Malformed;
+        return Stepped::Malformed;
     }
     if room < 80 {
-        return Item::Malformed;
+        return Stepped::Malformed;
     }
     let Past::At(end) = past_update(s, at + 80) else {
-        return Item::Malformed;
+        return Stepped::Malformed;
     };
-    Item::Given {
-        high: xdr::be64(s, at + 64),
-        low: xdr::be64(s, at + 72),
-        read: xdr::be64(s, at + 40),
-        written: xdr::be64(s, at + 56),
-        next: Tail {
-            at: end,
-            left: n - 1,
-        },
+    Stepped::On(Cursor {
+        at: end,
+        left: n - 1,
+    })
+}
+
+// What stands at the cursor.
+pub fn next(s: &[u8], c: Cursor) -> Item
+    ensures { λ r. ⌜ r ≡ nextOf (now (s .entry)) c ⌝ }
+{
+    match step(s, c) {
+        Stepped::On(after) => {
+            let at = c.at;
+            Item::Given {
+                high: xdr::be64(s, at + 64),
+                low: xdr::be64(s, at + 72),
+                read: xdr::be64(s, at + 40),
+                written: xdr::be64(s, at + 56),
+                next: after,
+            }
+        }
+        Stepped::End => Item::End,
+        Stepped::Malformed => Item::Malformed,
     }
 }
 
-// The status of what is left after the last error record: 0, or 10036 where the statistics records are malformed or something follows them.
-pub(crate) fn check(s: &[u8], at: usize) -> u32
-    ensures { λ r. ⌜ r ≡ statusOf (steps.statistics (drop at (now (s .entry)))) ⌝ }
+// The status of what is left from a cursor on: 0, or 10036 where the statistics records are malformed or something follows them.
+pub fn check(s: &[u8], from: Cursor) -> u32
+    ensures { λ r. ⌜ r ≡ statusOf (statisticsFrom (now (s .entry)) from) ⌝ }
 {
-    let mut c = begin(s, at);
+    let mut c = from;
     loop {
-        let n = c.left;
-        let room = left(s, c.at);
-        if n == 0 {
-            if room == 0 {
+        match step(s, c) {
+            Stepped::On(after) => {
+                c = after;
+            }
+            Stepped::End => {
                 return 0;
             }
-            return statuses::BADXDR;
+            Stepped::Malformed => {
+                return statuses::BADXDR;
+            }
         }
-        if room < 80 {
-            return statuses::BADXDR;
-        }
-        let Past::At(end) = past_update(s, c.at + 80) else {
-            return statuses::BADXDR;
-        };
-        c = Tail {
-            at: end,
-            left: n - 1,
-        };
     }
 }

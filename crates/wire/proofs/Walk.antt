@@ -10,20 +10,20 @@ use borrow.Author.Tests.{eq-eqb, ne-eqb, eqb-true, eqb-false}
 use Rattle.reports.specs.Statistics.{Statistic}
 use Rattle.reports.specs.Report.{Report, Whole, Malformed, DeviceError, reportOf, statusOf, withoutStatistics, withoutErrors}
 use Rattle.reports.specs.StatisticsSteps.{counting, nextOf, statisticsFrom}
-use Rattle.reports.specs.ReportSteps.{naming, nextAt, errorsFrom, endOf}
-use Rattle.reports.specs.declared.report.Cursor.{Cursor}
-use Rattle.reports.specs.declared.report.Found.{Found}
-use Rattle.reports.specs.declared.report.Found.the-variants.{Error, Done}
-use Rattle.reports.specs.declared.statistics.Tail.{Tail}
+use Rattle.reports.specs.ReportSteps.{naming, endOf}
+use Rattle.reports.specs.declared.cursor.Cursor.{Cursor}
 use Rattle.reports.specs.declared.statistics.Item.{Item}
 use Rattle.reports.specs.declared.statistics.Item.the-variants as item
 use Rattle.reports.proofs.Statuses.{named-status, counted-status, errors-status, statistics-status}
-use Rattle.reports.proofs.Reports.{next-forward, next-done}
 use Rattle.reports.proofs.StatisticsWalk.{goes-forward}
-use Rattle.reports.proofs.Walk.{errors-whole, statistics-whole, done-status}
-use Rattle.wire.specs.Handed.{Numbers, resumedAt, numbersOf, handed, afterHanded, StatisticNumbers, resumedTail, statisticNumbers, handedStatistic, afterStatistic}
+use Rattle.reports.proofs.Walk.{errors-whole, statistics-whole}
+use Rattle.wire.specs.Handed.{firstAt, Numbers, resumedAt, numbersOf, handed, StatisticNumbers, resumedTail, statisticNumbers, handedStatistic}
+use Rattle.wire.specs.declared.report.ErrorCursor.{ErrorCursor}
+use Rattle.wire.specs.declared.report.Answer.{Answer}
+use Rattle.wire.specs.declared.report.Answer.the-variants.{Error, Done}
 use Rattle.wire.specs.Walk.{Calls, ends, gives, errorCall, errorsLeft, seen, statisticCall, statisticsLeft, seenStatistic, HandsOut, HandedOut}
-use Rattle.wire.proofs.Handed.{handed-begins, resumes, handed-over, statistics-begin, tail-resumes, statistic-over}
+use Rattle.wire.proofs.First.{errorsOn, first-onward, first-ends}
+use Rattle.wire.proofs.Handed.{handed-begins, resumes, afterHanded, handed-over, statistics-begin, tail-resumes, afterStatistic, statistic-over}
 
 -- ---- any calls: `from` is the half of the report from a cursor on, `whole` one that holds xs, and `size` what is left
 record Laws {C N X : Type 0} (call : C → N) (answer : N → ℕ) (left : N → C) (sees : N → X) (adding : X → Report → Report) (whole : List X → Report) (from : C → Report) (size : C → ℕ) : Type 0 where
@@ -85,48 +85,48 @@ module _ {C N X : Type 0} {call : C → N} {answer : N → ℕ} {left : N → C}
 
 -- ---- device errors
 module _ (s : List ℕ) where
-  abbrev resumed : Cursor → Cursor
+  abbrev resumed : ErrorCursor → ErrorCursor
   resumed c = resumedAt s (c .at) (c .records) (c .devices)
 
-  error-given : (c : Cursor) → errorCall s c .answer ≡ 1 → errorsFrom s (resumed c) ≡ naming (seen s (errorCall s c)) (errorsFrom s (resumed (errorsLeft (errorCall s c))))
+  error-given : (c : ErrorCursor) → errorCall s c .answer ≡ 1 → errorsOn s (resumed c) ≡ naming (seen s (errorCall s c) ∷ []) (errorsOn s (resumed (errorsLeft (errorCall s c))))
   error-given c e =
       let n = errorCall s c in
       let h = handed-over s (c .at) (c .records) (c .devices) in
       h .walks ∙ ap (afterHanded s n) (eq-eqb (n .answer) 1 e)
-      ∙ ap (λ (k : ℕ). naming (record { inRecord = n .place; device = take 16 (drop (n .device) s); status = k }) (errorsFrom s (resumed (errorsLeft n)))) (h .status e)
+      ∙ ap (λ (k : ℕ). naming (record { device = take 16 (drop (n .device) s); status = k } ∷ []) (errorsOn s (resumed (errorsLeft n)))) (h .status e)
 
-  error-ended : (c : Cursor) → (errorCall s c .answer ≡ 1 → ⊥) → errorsFrom s (resumed c) ≡ endOf (errorCall s c .answer)
+  error-ended : (c : ErrorCursor) → (errorCall s c .answer ≡ 1 → ⊥) → errorsOn s (resumed c) ≡ endOf (errorCall s c .answer)
   error-ended c z =
       let n = errorCall s c in
       handed-over s (c .at) (c .records) (c .devices) .walks ∙ ap (afterHanded s n) (ne-eqb (n .answer) 1 z)
 
-  error-less : (c : Cursor) → errorCall s c .answer ≡ 1 → length s - resumed (errorsLeft (errorCall s c)) .at < length s - resumed c .at
+  error-less : (c : ErrorCursor) → errorCall s c .answer ≡ 1 → length s - resumed (errorsLeft (errorCall s c)) .at < length s - resumed c .at
   unfolding handed
-  error-less c = by (nextAt s (resumed c)) refl
+  error-less c = by (firstAt s (resumed c)) refl
     where
-      by : (f : Found) → nextAt s (resumed c) ≡ f → numbersOf (c .at) (c .records) (c .devices) f .answer ≡ 1
+      by : (f : Answer) → firstAt s (resumed c) ≡ f → numbersOf (c .at) (c .records) (c .devices) f .answer ≡ 1
           → length s - resumed (errorsLeft (numbersOf (c .at) (c .records) (c .devices) f)) .at < length s - resumed c .at
-      by (Error i h l st next) e q =
-          let g = next-forward s (resumed c) e in
+      by (Error i st next) e q =
+          let g = first-onward s (resumed c) e in
           rw (resumes s next (omega arith)) (omega arith)
-      by (Done k) e q = absurd (next-done s (resumed c) e q)
+      by (Done k) e q = absurd (first-ends s (resumed c) e .other q)
 
-  error-status : (c : Cursor) → (errorCall s c .answer ≡ 1 → ⊥) → statusOf (endOf (errorCall s c .answer)) ≡ errorCall s c .answer
+  error-status : (c : ErrorCursor) → (errorCall s c .answer ≡ 1 → ⊥) → statusOf (endOf (errorCall s c .answer)) ≡ errorCall s c .answer
   unfolding handed
-  error-status c = by (nextAt s (resumed c)) refl
+  error-status c = by (firstAt s (resumed c)) refl
     where
-      by : (f : Found) → nextAt s (resumed c) ≡ f → (numbersOf (c .at) (c .records) (c .devices) f .answer ≡ 1 → ⊥)
+      by : (f : Answer) → firstAt s (resumed c) ≡ f → (numbersOf (c .at) (c .records) (c .devices) f .answer ≡ 1 → ⊥)
           → statusOf (endOf (numbersOf (c .at) (c .records) (c .devices) f .answer)) ≡ numbersOf (c .at) (c .records) (c .devices) f .answer
-      by (Error i h l st next) e z = absurd (z refl)
-      by (Done k) e z = done-status s (resumed c) e
+      by (Error i st next) e z = absurd (z refl)
+      by (Done k) e z = first-ends s (resumed c) e .status
 
-  error-laws : Laws (errorCall s) (λ (n : Numbers). n .answer) errorsLeft (seen s) naming (λ xs. Whole xs []) (λ c. errorsFrom s (resumed c)) (λ c. length s - resumed c .at)
+  error-laws : Laws (errorCall s) (λ (n : Numbers). n .answer) errorsLeft (seen s) (λ x. naming (x ∷ [])) (λ xs. Whole xs []) (λ c. errorsOn s (resumed c)) (λ c. length s - resumed c .at)
   error-laws = record {
     given = error-given;
     less = error-less;
     ended = error-ended;
     status = error-status;
-    added-status = named-status;
+    added-status = λ x. named-status (x ∷ []);
     added = λ x xs. refl;
     none = refl;
     whole-status = λ xs. refl;
@@ -135,10 +135,10 @@ module _ (s : List ℕ) where
 
 -- ---- statistics records
 module _ (s : List ℕ) where
-  abbrev resumed′ : Tail → Tail
+  abbrev resumed′ : Cursor → Cursor
   resumed′ c = resumedTail s (c .at) (c .left)
 
-  statistic-less : (c : Tail) → statisticCall s c .answer ≡ 1 → length s - resumed′ (statisticsLeft (statisticCall s c)) .at < length s - resumed′ c .at
+  statistic-less : (c : Cursor) → statisticCall s c .answer ≡ 1 → length s - resumed′ (statisticsLeft (statisticCall s c)) .at < length s - resumed′ c .at
   unfolding handedStatistic
   statistic-less c = by (nextOf s (resumed′ c)) refl
     where
@@ -150,7 +150,7 @@ module _ (s : List ℕ) where
       by item.End e q = omega arith
       by item.Malformed e q = omega arith
 
-  statistic-status : (c : Tail) → (statisticCall s c .answer ≡ 1 → ⊥) → statusOf (endOf (statisticCall s c .answer)) ≡ statisticCall s c .answer
+  statistic-status : (c : Cursor) → (statisticCall s c .answer ≡ 1 → ⊥) → statusOf (endOf (statisticCall s c .answer)) ≡ statisticCall s c .answer
   unfolding handedStatistic
   statistic-status c = by (nextOf s (resumed′ c))
     where

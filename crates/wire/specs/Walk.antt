@@ -11,8 +11,8 @@ use mathlib.Core.List.{List, [], _∷_}
 use lib.ListN.{take, drop}
 use Rattle.reports.specs.Statistics.{Statistic}
 use Rattle.reports.specs.Report.{Whole, DeviceError, reportOf, statusOf}
-use Rattle.reports.specs.declared.report.Cursor.{Cursor}
-use Rattle.reports.specs.declared.statistics.Tail.{Tail}
+use Rattle.reports.specs.declared.cursor.Cursor.{Cursor}
+use Rattle.wire.specs.declared.report.ErrorCursor.{ErrorCursor}
 use Rattle.wire.specs.Handed.{Numbers, handed, StatisticNumbers, handedStatistic}
 
 -- the next call gets the cursor that the last one left
@@ -21,31 +21,31 @@ pub data Calls {C N X : Type 0} (call : C → N) (answer : N → ℕ) (left : N 
   gives : {c : C} {k : ℕ} {xs : List X} → answer (call c) ≡ 1 → Calls call answer left sees (left (call c)) xs k → Calls call answer left sees c (sees (call c) ∷ xs) k
 
 -- ---- device errors
-abbrev pub errorCall : List ℕ → Cursor → Numbers
+abbrev pub errorCall : List ℕ → ErrorCursor → Numbers
 errorCall s c = handed s (c .at) (c .records) (c .devices)
 
-abbrev pub errorsLeft : Numbers → Cursor
+abbrev pub errorsLeft : Numbers → ErrorCursor
 errorsLeft n = record { at = n .at; records = n .records; devices = n .devices }
 
--- the place of its record, the sixteen bytes of the body at `device`, and its status
+-- the sixteen bytes of the body at `device`, and its status
 abbrev pub seen : List ℕ → Numbers → DeviceError
-seen s n = record { inRecord = n .place; device = take 16 (drop (n .device) s); status = n .status }
+seen s n = record { device = take 16 (drop (n .device) s); status = n .status }
 
-abbrev pub ErrorCalls : List ℕ → Cursor → List DeviceError → ℕ → Type 0
+abbrev pub ErrorCalls : List ℕ → ErrorCursor → List DeviceError → ℕ → Type 0
 ErrorCalls s c xs k = Calls (errorCall s) (λ n. n .answer) errorsLeft (seen s) c xs k
 
 -- ---- statistics records
-abbrev pub statisticCall : List ℕ → Tail → StatisticNumbers
+abbrev pub statisticCall : List ℕ → Cursor → StatisticNumbers
 statisticCall s c = handedStatistic s (c .at) (c .left)
 
-abbrev pub statisticsLeft : StatisticNumbers → Tail
+abbrev pub statisticsLeft : StatisticNumbers → Cursor
 statisticsLeft n = record { at = n .at; left = n .left }
 
 -- the sixteen bytes of the body at `device`, and its bytes read and written
 abbrev pub seenStatistic : List ℕ → StatisticNumbers → Statistic
 seenStatistic s n = record { device = take 16 (drop (n .device) s); read = n .read; written = n .written }
 
-abbrev pub StatisticCalls : List ℕ → Tail → List Statistic → ℕ → Type 0
+abbrev pub StatisticCalls : List ℕ → Cursor → List Statistic → ℕ → Type 0
 StatisticCalls s c ys k = Calls (statisticCall s) (λ n. n .answer) statisticsLeft (seenStatistic s) c ys k
 
 -- ---- the claim

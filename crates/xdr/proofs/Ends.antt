@@ -86,13 +86,13 @@ bounded-ends limit =
     (λ size. then-ends (opaque-ends size)
     (λ bytes. then-ends (opaque-ends (padding size)) (λ pad. only-ends (sameBytes pad (zeros (padding size))) bytes))))
 
-pub turn-ends : {A : Type 0} (p : ℕ → Reader A) → ((i : ℕ) → Ends (p i)) → (i n : ℕ) → Ends (inTurn i n p)
+pub turn-ends : {A : Type 0} (p : Reader A) → Ends p → (n : ℕ) → Ends (inTurn n p)
 unfolding inTurn
-turn-ends p h i zero = give-ends []
-turn-ends p h i (suc n) = then-ends (h i) (λ x. then-ends (turn-ends p h (suc i) n) (λ xs. give-ends (x ∷ xs)))
+turn-ends p h zero = give-ends []
+turn-ends p h (suc n) = then-ends h (λ x. then-ends (turn-ends p h n) (λ xs. give-ends (x ∷ xs)))
 
-pub counted-ends : {A : Type 0} (p : ℕ → Reader A) → ((i : ℕ) → Ends (p i)) → Ends (counted p)
-counted-ends p h = then-ends (number-ends 4) (λ n. turn-ends p h 0 n)
+pub counted-ends : {A : Type 0} (p : Reader A) → Ends p → Ends (counted p)
+counted-ends p h = then-ends (number-ends 4) (λ n. turn-ends p h n)
 
 -- ---- places
 placeOf : ℕ → Past → ℕ

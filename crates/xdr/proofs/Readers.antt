@@ -1,5 +1,4 @@
--- Structures of fields of fixed size: a reader that begins with them tests once that all their bytes are there. Then opaque fields of variable size, and
--- rows of values.
+-- Structures of fields of fixed size: a reader that begins with them tests once that all their bytes are there. Then opaque fields of variable size.
 use Prim.Native.Nat.{ℕ, zero, suc, _+_, _-_, _*_, _≤_, _<_}
 use mathlib.Core.Path.{_≡_, refl, sym, ap, _∙_}
 use mathlib.Core.List.{List, [], _∷_}
@@ -10,7 +9,7 @@ use lib.ListN.{length, take, drop, length-drop}
 use lib.Seq.{drop-drop}
 use lib.Dec.{ltb, leb, eqb}
 use Rattle.xdr.specs.Be.{beNat}
-use Rattle.xdr.specs.Reader.{sameBytes, zeros, padding, Read, Got, Bad, Reader, onward, _>>=_, give, only, number, opaque, boolean, bounded, inTurn}
+use Rattle.xdr.specs.Reader.{sameBytes, zeros, padding, Read, Got, Bad, Reader, onward, _>>=_, give, only, number, opaque, boolean, bounded}
 
 -- ---- tests that say the same
 -- fewer bytes than v are left after w of them exactly where there are fewer than w + v
@@ -133,14 +132,3 @@ pub rest-tests : (limit n : ℕ) (u : List ℕ) → boundedRest limit n u
 unfolding boundedRest opaque
 rest-tests limit n u =
     rw (after-only (leb n limit), at-most n limit, after-test (ltb (length u) n), after-test (ltb (length (drop n u)) (padding n)))
-
--- ---- rows: places do not matter to a reader that is not told them
-pub any-place : {A : Type 0} (p : Reader A) (i j n : ℕ) (s : List ℕ) → inTurn i n (λ _. p) s ≡ inTurn j n (λ _. p) s
-unfolding inTurn
-any-place p i j zero s = refl
-any-place {A} p i j (suc n) s = by (p s) (any-place p (suc i) (suc j) n)
-  where
-    by : (r : Read A) → ((t : List ℕ) → inTurn (suc i) n (λ _. p) t ≡ inTurn (suc j) n (λ _. p) t)
-        → onward r (λ x. inTurn (suc i) n (λ _. p) >>= λ xs. give (x ∷ xs)) ≡ onward r (λ x. inTurn (suc j) n (λ _. p) >>= λ xs. give (x ∷ xs))
-    by Bad go = refl
-    by (Got x t) go = rw (go t)

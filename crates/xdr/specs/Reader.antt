@@ -71,16 +71,16 @@ bounded limit = do
   pad ← opaque (padding size)
   only (sameBytes pad (zeros (padding size))) bytes
 
--- n values in a row, each by a reader that is told its place; the first has place i
-unfoldable pub inTurn : {A : Type 0} → ℕ → ℕ → (ℕ → Reader A) → Reader (List A)
-inTurn i zero p = give []
-inTurn i (suc n) p = do
-  x ← p i
-  xs ← inTurn (suc i) n p
+-- n values in a row
+unfoldable pub inTurn : {A : Type 0} → ℕ → Reader A → Reader (List A)
+inTurn zero p = give []
+inTurn (suc n) p = do
+  x ← p
+  xs ← inTurn n p
   give (x ∷ xs)
 
--- a count, and that many values with the places 0, 1, ..
-abbrev pub counted : {A : Type 0} → (ℕ → Reader A) → Reader (List A)
+-- a count, and that many values
+abbrev pub counted : {A : Type 0} → Reader A → Reader (List A)
 counted p = do
   n ← number 4
-  inTurn 0 n p
+  inTurn n p

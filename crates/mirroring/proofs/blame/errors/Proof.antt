@@ -5,9 +5,8 @@ use native.Mathlib.Omega.{arith}
 use lib.ListN.{length}
 use Rattle.reports.specs.Report.{reportOf, outcome}
 use Rattle.reports.specs.ReportSteps.{reportFrom}
-use Rattle.reports.proofs.Reports.{device-forward, device-given, record-forward, fold-begins, fold-device, fold-record, fold-statistics, fold-malformed}
+use Rattle.reports.proofs.Reports.{goes-on, fold-begins, fold-record, fold-statistics, fold-malformed}
 use Rattle.reports.proofs.StatisticsWalk.{tally-nothing}
-use Rattle.mirroring.proofs.Assessing.{error-given}
 use Rattle.mirroring.specs.Blame.{statusOnly, withError, counted}
 use borrow.Author.Needs.{needs}
 use Rattle.mirroring.proofs.blame.errors.Statement.{statement}
@@ -31,50 +30,37 @@ loop-holds c =
     let a = c .before .before .before .args in
     rw (c .before .only .ensures) (fold-begins (withError (a .mirrors)) (counted (a .mirrors)) _ _ (a .body .now) (c .start .ensures))
 
-step-requires : tie.Need-step-requires Inv-loop μ-loop
-step-requires c κs = search needs
+next-requires : tie.Need-next-requires Inv-loop μ-loop
+next-requires c κs = search needs
 
-enum-known-high : tie.Need-enum-known-high Inv-loop μ-loop
-enum-known-high c = search needs
+enum-known-at : tie.Need-enum-known-at Inv-loop μ-loop
+enum-known-at c = search needs
 
-device-error-requires : tie.Need-device-error-requires Inv-loop μ-loop
-device-error-requires c κs = search needs
+record-errors-requires : tie.Need-record-errors-requires Inv-loop μ-loop
+record-errors-requires c κs =
+    let a = c .before .before .before .before .before .before .before .before .args in
+    omega (arith, goes-on (a .body .now) (c .before .before .before .before .loop .c) (sym (c .before .before .before .next .ensures) ∙ c .before .at .given .1))
 
 loop-less : tie.Need-loop-less Inv-loop μ-loop
 loop-less c =
     let a = c .before .before .before .before .before .before .before .before .before .args in
-    omega (arith, device-forward (a .body .now) (c .before .before .before .before .before .loop .c) (sym (c .before .before .before .before .step .ensures) ∙ c .before .before .high .given .1))
+    omega (arith, goes-on (a .body .now) (c .before .before .before .before .before .loop .c) (sym (c .before .before .before .before .next .ensures) ∙ c .before .before .at .given .1))
 
 loop-again : tie.Need-loop-again Inv-loop μ-loop
 loop-again c =
     let a = c .before .before .before .before .before .before .before .before .before .args in
     let l = c .before .before .before .before .before .loop in
-    let e = sym (c .before .before .before .before .step .ensures) ∙ c .before .before .high .given .1 in
-    rw (c .device-error .ensures ∙ error-given (a .mirrors) (l .a) (device-given (a .body .now) (l .c) e))
-    (fold-device (withError (a .mirrors)) (counted (a .mirrors)) (statusOnly 10036) (l .a) (a .body .now) (l .c) (l .inv) e)
+    rw (c .record-errors .ensures)
+    (fold-record (withError (a .mirrors)) (counted (a .mirrors)) (statusOnly 10036) (l .a) (a .body .now) (l .c) (l .inv) (sym (c .before .before .before .before .next .ensures) ∙ c .before .before .at .given .1))
 
 enum-known-next : tie.Need-enum-known-next Inv-loop μ-loop
 enum-known-next c = search needs
-
-loop-less-2 : tie.Need-loop-less-2 Inv-loop μ-loop
-loop-less-2 c =
-    let a = c .before .before .before .before .before .before .before .before .args in
-    omega (arith, record-forward (a .body .now) (c .before .before .before .before .loop .c) (sym (c .before .before .before .step .ensures) ∙ c .before .next .given .1))
-
-loop-again-2 : tie.Need-loop-again-2 Inv-loop μ-loop
-loop-again-2 c =
-    let a = c .before .before .before .before .before .before .before .before .args in
-    let l = c .before .before .before .before .loop in
-    fold-record (withError (a .mirrors)) (counted (a .mirrors)) (statusOnly 10036) (l .a) (a .body .now) (l .c) (l .inv) (sym (c .before .before .before .step .ensures) ∙ c .before .next .given .1)
-
-enum-known-next-2 : tie.Need-enum-known-next-2 Inv-loop μ-loop
-enum-known-next-2 c = search needs
 
 returns : tie.Need-returns Inv-loop μ-loop
 returns c =
     let a = c .before .before .before .before .before .before .before .before .args in
     let l = c .before .before .before .before .loop in
-    fold-statistics (withError (a .mirrors)) (counted (a .mirrors)) (statusOnly 10036) (l .a) (a .body .now) (l .c) (l .inv) (sym (c .before .before .before .step .ensures) ∙ c .before .next2 .given .1)
+    fold-statistics (withError (a .mirrors)) (counted (a .mirrors)) (statusOnly 10036) (l .a) (a .body .now) (l .c) (l .inv) (sym (c .before .before .before .next .ensures) ∙ c .before .next2 .given .1)
 
 enum-told : tie.Need-enum-told Inv-loop μ-loop
 enum-told c = search needs
@@ -87,7 +73,7 @@ returns-2 c =
     let a = c .before .before .before .before .before .before .before .before .args in
     let l = c .before .before .before .before .loop in
     tally-nothing (counted (a .mirrors)) (statusOnly 10036) (l .a) (a .body .now) (c .none .ensures)
-    ∙ fold-malformed (withError (a .mirrors)) (counted (a .mirrors)) (statusOnly 10036) (l .a) (a .body .now) (l .c) (l .inv) (sym (c .before .before .before .step .ensures) ∙ c .before .enum-told .given .1)
+    ∙ fold-malformed (withError (a .mirrors)) (counted (a .mirrors)) (statusOnly 10036) (l .a) (a .body .now) (l .c) (l .inv) (sym (c .before .before .before .next .ensures) ∙ c .before .enum-told .given .1)
 
 pub errors-spec : {M : Type 1} → statement M
 errors-spec =
@@ -98,15 +84,12 @@ errors-spec =
     only-requires
     start-requires
     loop-holds
-    step-requires
-    enum-known-high
-    device-error-requires
+    next-requires
+    enum-known-at
+    record-errors-requires
     loop-less
     loop-again
     enum-known-next
-    loop-less-2
-    loop-again-2
-    enum-known-next-2
     returns
     enum-told
     none-requires

@@ -1,91 +1,75 @@
--- Rests on the laws of the first device error from a cursor on. The measure is what is left of the bytes, whatever the count says.
-use Prim.Native.Nat.{_-_}
-use lib.ListN.{length}
-use mathlib.Core.Path.{_≡_, refl, sym, _∙_}
-use Rattle.reports.specs.ReportSteps.{nextAt}
-use Rattle.reports.specs.declared.report.Cursor.{Cursor}
-use Rattle.reports.proofs.Reports.{next-over, next-cut, next-on}
+-- Rests on what the code's tests say of a step.
+use Rattle.reports.proofs.Reports.{no-record, record-short, record-over, record-found}
 use native.Mathlib.Omega.{arith}
 use borrow.Author.Needs.{needs}
 use Rattle.reports.proofs.report.next.Statement.{statement}
 use Rattle.reports.proofs.report.next.Tie as tie
 
-abbrev Inv-loop : tie.InvT-loop
-Inv-loop s at₀ records₀ devices₀ at records devices =
-    nextAt s (record { at = at; records = records; devices = devices }) ≡ nextAt s (record { at = at₀; records = records₀; devices = devices₀ })
+begin-requires : tie.Need-begin-requires
+begin-requires c κs = search needs
 
-abbrev μ-loop : tie.MeasureT-loop
-μ-loop s at₀ records₀ devices₀ at records devices = length s - at
-
-loop-holds : tie.Need-loop-holds Inv-loop μ-loop
-loop-holds c =
-    refl
-
-check-requires : tie.Need-check-requires Inv-loop μ-loop
-check-requires c κs = search needs
-
-returns : tie.Need-returns Inv-loop μ-loop
+returns : tie.Need-returns
 returns c =
-    let s = c .before .before .before .before .before .args .s .now in
-    let l = c .before .before .before .loop in
-    let k : Cursor = record { at = l .at; records = l .records; devices = l .devices } in
-    next-over s k (omega arith) (omega arith) (c .check .ensures) ∙ l .inv
+    let a = c .before .before .before .args in
+    no-record (a .s .now) (a .c) (omega arith) (c .begin .ensures)
 
-left-requires : tie.Need-left-requires Inv-loop μ-loop
+left-requires : tie.Need-left-requires
 left-requires c κs = search needs
 
-returns-2 : tie.Need-returns-2 Inv-loop μ-loop
+returns-2 : tie.Need-returns-2
 returns-2 c =
-    let s = c .before .before .before .before .before .before .args .s .now in
-    let l = c .before .before .before .before .loop in
-    let k : Cursor = record { at = l .at; records = l .records; devices = l .devices } in
-    next-cut s k (omega arith) (λ h. omega arith) (omega arith) ∙ l .inv
+    let a = c .before .before .before .before .args in
+    record-short (a .s .now) (a .c) (λ h. omega arith) (omega arith)
 
-add-be32 : tie.Need-add-be32 Inv-loop μ-loop
-add-be32 c = omega arith
+add-be32 : tie.Need-add-be32
+add-be32 c = search needs
 
-be32-requires : tie.Need-be32-requires Inv-loop μ-loop
+be32-requires : tie.Need-be32-requires
 be32-requires c κs = search needs
 
-add-at : tie.Need-add-at Inv-loop μ-loop
-add-at c = omega arith
+cast-size : tie.Need-cast-size
+cast-size c = search needs
 
-sub-records : tie.Need-sub-records Inv-loop μ-loop
-sub-records c = omega arith
+mul-size : tie.Need-mul-size
+mul-size c = search needs
 
-loop-less : tie.Need-loop-less Inv-loop μ-loop
-loop-less c = omega arith
-
-loop-again : tie.Need-loop-again Inv-loop μ-loop
-loop-again c =
-    let s = c .before .before .before .before .before .before .before .args .s .now in
-    let l = c .before .before .before .before .before .loop in
-    let k : Cursor = record { at = l .at; records = l .records; devices = l .devices } in
-    sym (next-on s k (omega arith) (λ h. omega arith) (omega arith) (c .be32 .ensures)) ∙ l .inv
-
-device-at-requires : tie.Need-device-at-requires Inv-loop μ-loop
-device-at-requires c κs = search needs
-
-returns-3 : tie.Need-returns-3 Inv-loop μ-loop
+returns-3 : tie.Need-returns-3
 returns-3 c =
-    c .device-at .ensures ∙ c .before .before .loop .inv
+    let a = c .before .before .before .before .before .before .args in
+    record-over (a .s .now) (a .c) (λ h. omega arith) (omega arith) (c .before .be32 .ensures) (omega arith)
+
+add-t10 : tie.Need-add-t10
+add-t10 c = search needs
+
+add-t11 : tie.Need-add-t11
+add-t11 c = search needs
+
+add-t12 : tie.Need-add-t12
+add-t12 c = search needs
+
+sub-t13 : tie.Need-sub-t13
+sub-t13 c = search needs
+
+returns-4 : tie.Need-returns-4
+returns-4 c =
+    let a = c .before .before .before .before .before .before .args in
+    record-found (a .s .now) (a .c) (λ h. omega arith) (omega arith) (c .before .be32 .ensures) (omega arith)
 
 pub next-spec : {M : Type 1} → statement M
 next-spec =
     tie.close
     (tie.spec
-    Inv-loop
-    μ-loop
-    loop-holds
-    check-requires
+    begin-requires
     returns
     left-requires
     returns-2
     add-be32
     be32-requires
-    add-at
-    sub-records
-    loop-less
-    loop-again
-    device-at-requires
-    returns-3)
+    cast-size
+    mul-size
+    returns-3
+    add-t10
+    add-t11
+    add-t12
+    sub-t13
+    returns-4)

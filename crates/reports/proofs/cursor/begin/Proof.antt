@@ -3,11 +3,11 @@ use mathlib.Core.Path.{_∙_}
 use borrow.Author.Tests.{lt-ltb, le-ltb}
 use Prim.Native.Nat.{_-_}
 use lib.ListN.{length}
-use Rattle.reports.specs.StatisticsSteps.{tailAt}
+use Rattle.reports.specs.Cursors.{cursorAt}
 use native.Mathlib.Omega.{arith}
 use borrow.Author.Needs.{needs}
-use Rattle.reports.proofs.statistics.begin.Statement.{statement}
-use Rattle.reports.proofs.statistics.begin.Tie as tie
+use Rattle.reports.proofs.cursor.begin.Statement.{statement}
+use Rattle.reports.proofs.cursor.begin.Tie as tie
 
 left-requires : tie.Need-left-requires
 left-requires c κs = search needs
@@ -16,7 +16,7 @@ none-requires : tie.Need-none-requires
 none-requires c κs = search needs
 
 returns : tie.Need-returns
-unfolding tailAt
+unfolding cursorAt
 returns c =
     let a = c .before .before .before .before .args in
     simp (lt-ltb (length (a .s .now) - a .at) 4 (omega arith), c .none .ensures)
@@ -28,7 +28,7 @@ be32-requires : tie.Need-be32-requires
 be32-requires c κs = search needs
 
 returns-2 : tie.Need-returns-2
-unfolding tailAt
+unfolding cursorAt
 returns-2 c =
     let a = c .before .before .before .before .args in
     simp (le-ltb (length (a .s .now) - a .at) 4 (omega arith), c .be32 .ensures)
