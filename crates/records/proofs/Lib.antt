@@ -10,16 +10,20 @@
 --     Passed           a CHANGE of crate walks' `Changed`:  if s.status == 0 { h(r, i, s); }
 --     Cleared          f(r: &mut T)  { h(r);  r.head = e(); }
 -- What these rest on, beside crate walks:
+--     Alone            a function whose one parameter is the record: its contract, and how its walk ends
+--     Placed           a function that is handed the record, a place and a struct: the same
 --     Within           the call of a function that is handed the record where it lies
 --     Again            a slice that is lent again for a call, and comes back
 --     Lists            a field that is an array as a list; tests that are known
 pub mod Again
+pub mod Alone
 pub mod Cleared
 pub mod Each
 pub mod Headed
 pub mod Listed
 pub mod Lists
 pub mod Passed
+pub mod Placed
 pub mod Pulled
 pub mod Raised
 pub mod Within

@@ -1,4 +1,5 @@
--- What the laws of this crate share: tests that are known, and a field that is an array, of which `Element.antt` of crate walks knows where it lies.
+-- What the laws of this crate share: the type of a struct in the MIR, tests that are known, and a field that is an array, of which `Element.antt` of crate walks knows where it lies.
+--     ty               a struct in the MIR
 --     holds, fails, no-less, not-less      a test that is known
 --     Lists El         the list of a record with another list there is that list, and the last list that is put there stays
 -- Assumes nothing.
@@ -8,8 +9,13 @@ use mathlib.Core.List.{List}
 use Prim.Native.Nat.{ℕ, _<_, _≤_}
 use native.Mathlib.Omega.{arith}
 use lib.Dec.{T as Tᵇ, ltb, ltb→lt}
-use denote.Struct.Declared.{Declared}
+use mir.Syntax.{Ty}
+use denote.Struct.Struct.{layout}
+use denote.Struct.Declared.{Declared, shape}
 use Rattle.walks.proofs.Element.{Elements}
+
+abbrev pub ty : Declared → Ty
+ty T = layout (shape T)
 
 pub holds : (t : Bool) → Tᵇ t → t ≡ true
 holds true _ = refl
