@@ -8,7 +8,7 @@ use Prim.Native.Nat.{ℕ, _+_, _%_, _^_, _<_, _≤_}
 use native.Mathlib.Omega.{arith}
 use lib.ListN.{getD, set, length}
 use lib.Dec.{eqb, ltb}
-use borrow.Author.Tests.{lt-ltb, le-ltb, ltb-true, ltb-false, ne-eqb, eqb-true}
+use borrow.Author.Tests.{lt-ltb, le-ltb, ltb-true, ltb-false, ne-eqb}
 use Rattle.places.specs.Lists.{chosen}
 use Rattle.places.proofs.Loops.{Counting, Filling, counting-none, counting-skip, counting-more, counting-room, counted, filling-none, filling-skip, filling-more, filled, filling-length}
 use Rattle.records.proofs.Listed.{next, goes, kept}

@@ -6,6 +6,7 @@ use mathlib.Core.Bool.{Bool, true, cond}
 use Prim.Native.Nat.{ℕ, _+_, _%_, _^_}
 use lib.ListN.{length, set}
 use lib.Dec.{ltb}
+use Rattle.statuses.specs.Names.{Status, FileNumber}
 use Rattle.files.specs.File.{sourceOf}
 use Rattle.files.specs.declared.file.File.{File}
 use Rattle.recovery.specs.Record.{isWanted, numberOf}
@@ -13,23 +14,23 @@ use Rattle.recovery.specs.declared.listing.Listing.{Listing}
 use Rattle.capi.specs.declared.listing.Tally.{Tally}
 
 -- ---- what is carried, and both slices
-abbrev pub tally : ℕ → ℕ → ℕ → Listing → Tally
+abbrev pub tally : Status → ℕ → ℕ → Listing → Tally
 tally s n t k = record { status = s; count = n; total = t; which = k }
 
 abbrev pub begun : Listing → Tally
 begun k = tally 0 0 0 k
 
 abbrev pub Carried : Type 0
-Carried = Tally × List ℕ × List ℕ
+Carried = Tally × List FileNumber × List ℕ
 
-abbrev pub carried : Tally → List ℕ → List ℕ → Carried
+abbrev pub carried : Tally → List FileNumber → List ℕ → Carried
 carried c a b = (c, a, b)
 
 -- ---- a file that is written to the next place, unless a slice is too short for the whole list
 abbrev pub isShort : ℕ → ℕ → ℕ → Bool
 isShort n a b = cond (ltb a n) true (ltb b n)
 
-unfoldable pub writtenOf : File → Tally → List ℕ → List ℕ → Carried
+unfoldable pub writtenOf : File → Tally → List FileNumber → List ℕ → Carried
 writtenOf f c a b =
     cond (isShort (c .total) (length a) (length b)) (carried (tally 28 (c .count) (c .total) (c .which)) a b)
     (cond (ltb (c .count) (c .total)) (carried (tally (c .status) (c .count + 1) (c .total) (c .which)) (set a (c .count) (numberOf f)) (set b (c .count) (sourceOf f)))
@@ -39,7 +40,7 @@ writtenOf f c a b =
 abbrev pub counting : ℕ → Bool → ℕ
 counting t hit = cond hit ((t + 1) % 2 ^ 64) t
 
-unfoldable pub turnOf : File → ℕ → Tally → List ℕ → List ℕ → Carried
+unfoldable pub turnOf : File → ℕ → Tally → List FileNumber → List ℕ → Carried
 turnOf f i c a b =
     cond (ltb i 64) (carried (tally (c .status) (c .count) (counting (c .total) (isWanted (c .which) f)) (c .which)) a b)
     (cond (isWanted (c .which) f) (writtenOf f c a b) (carried c a b))

@@ -447,6 +447,7 @@ pub extern "C" fn sc_record_layoutreturn(
     s.status
 }
 
+// The two lists. There is a loop for each, so that the compiler makes the turns a part of it.
 #[no_mangle]
 pub extern "C" fn sc_record_resilver(
     r: &Record,
@@ -460,7 +461,7 @@ pub extern "C" fn sc_record_resilver(
     let mut i: usize = 0;
     while i < 128 {
         c = listing::turn(r.files[i % 64], i, c, files, sources);
-        i = i + 1;
+        i += 1;
     }
     *count = c.count;
     c.status
@@ -479,7 +480,7 @@ pub extern "C" fn sc_record_offered(
     let mut i: usize = 0;
     while i < 128 {
         c = listing::turn(r.files[i % 64], i, c, files, sources);
-        i = i + 1;
+        i += 1;
     }
     *count = c.count;
     c.status

@@ -55,7 +55,7 @@ fn counted(total: usize, hit: bool) -> usize
 fn short(n: usize, files: usize, sources: usize) -> bool
     ensures { λ z. ⌜ z ≡ isShort n files sources ⌝ }
 {
-    if files < n { true } else { sources < n }
+    files < n || sources < n
 }
 
 // A file that is on the list is written to the next place, or the list is refused.
@@ -64,13 +64,12 @@ fn written(f: File, c: Tally, files: &mut [u64], sources: &mut [u8]) -> Tally
 {
     let n = c.total;
     let which = c.which;
-    let refused = short(n, files.len(), sources.len());
-    if refused {
+    if short(n, files.len(), sources.len()) {
         return Tally {
             status: statuses::NOSPC,
             count: c.count,
             total: n,
-            which: which,
+            which,
         };
     }
     let k = c.count as usize;
@@ -79,7 +78,7 @@ fn written(f: File, c: Tally, files: &mut [u64], sources: &mut [u8]) -> Tally
             status: c.status,
             count: c.count,
             total: n,
-            which: which,
+            which,
         };
     }
     let source = f.source();
@@ -89,7 +88,7 @@ fn written(f: File, c: Tally, files: &mut [u64], sources: &mut [u8]) -> Tally
         status: c.status,
         count: c.count + 1,
         total: n,
-        which: which,
+        which,
     }
 }
 
@@ -105,7 +104,7 @@ pub(crate) fn turn(f: File, i: usize, c: Tally, files: &mut [u64], sources: &mut
             status: c.status,
             count: c.count,
             total: n,
-            which: which,
+            which,
         };
     }
     if !hit {
@@ -113,7 +112,7 @@ pub(crate) fn turn(f: File, i: usize, c: Tally, files: &mut [u64], sources: &mut
             status: c.status,
             count: c.count,
             total: c.total,
-            which: which,
+            which,
         };
     }
     written(f, c, files, sources)
