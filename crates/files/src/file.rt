@@ -149,7 +149,7 @@ impl File {
         self.answered(0, head)
     }
 
-    // Repaired: 70; 22 not marked; 10008 an intent is open.
+    // Repaired: 70; 22 not marked; 10008 an intent is open. The last answer is written out: through the helper the compiler copies the file once more.
     pub fn repaired(mut self, number: u64, head: Head) -> FileAnswered
         ensures { λ r. ⌜ r ≡ repairedFile number head self ⌝ }
     {
@@ -167,7 +167,11 @@ impl File {
         let ms = mirroring::mirrors::cleared(old);
         self.mirrors = ms;
         self.marked = false;
-        self.answered(0, head)
+        FileAnswered {
+            status: 0,
+            head,
+            file: self,
+        }
     }
 
     // Whether the file may be forgotten: 10013 in grace; 70; 10008 marked or an intent is open; or 0.

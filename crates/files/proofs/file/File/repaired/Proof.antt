@@ -36,12 +36,9 @@ returns-3 c = c .answered3 .ensures ∙ rw (sym (c .before .before .before .befo
 cleared-requires : tie.Need-cleared-requires
 cleared-requires c κs = search needs
 
-answered-requires-4 : tie.Need-answered-requires-4
-answered-requires-4 c κs = search needs
-
 returns-4 : tie.Need-returns-4
 unfolding repairedFile
-returns-4 c = c .answered4 .ensures ∙ rw (sym (c .before .before .before .before .before .before .before .before .before .is .ensures) ∙ not-false _ (c .before .before .before .before .before .before .before .before .if1 .left), c .before .before .before .before .before .before .if2 .left, sym (c .before .before .before .before .busy .ensures) ∙ c .before .before .before .if3 .left, c .before .cleared .ensures)
+returns-4 c = rw (sym (c .before .before .before .before .before .before .before .before .is .ensures) ∙ not-false _ (c .before .before .before .before .before .before .before .if1 .left), c .before .before .before .before .before .if2 .left, sym (c .before .before .before .busy .ensures) ∙ c .before .before .if3 .left, c .cleared .ensures)
 
 pub repaired-spec : {M : Type 1} → statement M
 repaired-spec =
@@ -56,5 +53,4 @@ repaired-spec =
     answered-requires-3
     returns-3
     cleared-requires
-    answered-requires-4
     returns-4)
