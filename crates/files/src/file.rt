@@ -149,19 +149,31 @@ impl File {
         self.answered(0, head)
     }
 
-    // Repaired: 70; 22 not marked; 10008 an intent is open. The last answer is written out: through the helper the compiler copies the file once more.
+    // Repaired: 70; 22 not marked; 10008 an intent is open. Its answers are written out: through the helper the compiler copies a file that stays.
     pub fn repaired(mut self, number: u64, head: Head) -> FileAnswered
         ensures { λ r. ⌜ r ≡ repairedFile number head self ⌝ }
     {
         if !self.is(number) {
-            return self.answered(statuses::STALE, head);
+            return FileAnswered {
+                status: statuses::STALE,
+                head,
+                file: self,
+            };
         }
         if !self.marked {
-            return self.answered(statuses::INVAL, head);
+            return FileAnswered {
+                status: statuses::INVAL,
+                head,
+                file: self,
+            };
         }
         let xs = self.intents;
         if intents::busy(xs) {
-            return self.answered(statuses::DELAY, head);
+            return FileAnswered {
+                status: statuses::DELAY,
+                head,
+                file: self,
+            };
         }
         let old = self.mirrors;
         let ms = mirroring::mirrors::cleared(old);
