@@ -112,7 +112,7 @@ Past [] = Unit {0}
 Past (p ∷ earlier) = Sound p × All (λ a. Before a p) earlier × Past earlier
 
 -- ---- tests
-or-rest : (a b : Bool) → (a || b) ≡ false → b ≡ false
+pub or-rest : (a b : Bool) → (a || b) ≡ false → b ≡ false
 or-rest true b h = absurd (true≢false h)
 or-rest false b h = h
 

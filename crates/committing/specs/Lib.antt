@@ -1,0 +1,5 @@
+pub mod Ranges
+pub mod Commit
+pub mod Committing
+pub mod Bare
+pub mod Seek
