@@ -1,5 +1,5 @@
 -- 22: the test range by range lets pass just the ranges that are aligned and of which every pair is in order: `committable-told`. In this order: one range, test by
--- test; what a range that passes is, and that such a one passes; all ranges, both ways; the claim; 10036, test by test.
+-- test; what a range that passes is, and that such a one passes; all ranges, both ways; range by range; the claim; 10036, test by test.
 use Prim.Native.Nat.{ℕ, _+_, _-_, _*_, _%_, _^_, _<_, _≤_}
 use mathlib.Core.Path.{_≡_, refl}
 use mathlib.Core.List.{List, [], _∷_}
@@ -10,9 +10,11 @@ use borrow.Author.Tests.{lt-ltb, le-ltb, eq-eqb, ne-eqb, ltb-false, eqb-true, eq
 use lib.Dec.{ltb, eqb}
 use lib.ListN.{length}
 use Rattle.xdr.specs.Be.{beNat}
+use Rattle.extents.specs.Extents.{listFrom}
 use Rattle.extents.proofs.OnePass.{or-left}
 use Rattle.merging.specs.Meaning.{All}
 use Rattle.merging.proofs.Rules.{or-rest, all-map, all-map₂}
+use Rattle.committing.proofs.Places.{from-next, from-done}
 use Rattle.committing.specs.Ranges.{Range, Within, malformed, Aligned, InOrder, AllPairs, Committable, unfit, anyUnfit, CommittableTold}
 
 -- ---- one range, test by test
@@ -81,7 +83,7 @@ pub record Passed (block before : ℕ) (rs : List Range) : Type 0 where
 apart-ordered : (a b : Range) → a .offset + a .len ≤ b .offset → InOrder a b
 apart-ordered a b h = record { sorted = omega arith; disjoint = λ x u v. omega (arith, u .below, v .from) }
 
-ordered-apart : (a b : Range) → 0 < a .len → 0 < b .len → InOrder a b → a .offset + a .len ≤ b .offset
+pub ordered-apart : (a b : Range) → 0 < a .len → 0 < b .len → InOrder a b → a .offset + a .len ≤ b .offset
 ordered-apart a b p q o = by (decLe (a .offset + a .len) (b .offset))
   where
     by : Dec (a .offset + a .len ≤ b .offset) → a .offset + a .len ≤ b .offset
@@ -110,6 +112,23 @@ none-unfit block before (r ∷ rs) p =
       after = all-map₂ (λ q a o. ordered-apart r q (p .each .0 .some) (a .some) o) rs (p .each .1) (p .pairs .0);
       pairs = p .pairs .1;
     }))
+
+-- ---- range by range, from place k on
+module _ (block : ℕ) (g : ℕ → Range) (m k before : ℕ) where
+  pub unfit-here : k < m → unfit block before (g k) ≡ true → true ≡ anyUnfit block before (listFrom g (m - k) k)
+  unfolding anyUnfit
+  unfit-here h q = rw (from-next g m k h, q)
+
+  pub fit-here : k < m → unfit block before (g k) ≡ false → anyUnfit block (g k .offset + g k .len) (listFrom g (m - (k + 1)) (k + 1)) ≡ anyUnfit block before (listFrom g (m - k) k)
+  unfolding anyUnfit
+  fit-here h q = rw (from-next g m k h, q)
+
+  pub all-fit : m ≤ k → false ≡ anyUnfit block before (listFrom g (m - k) k)
+  unfolding anyUnfit
+  all-fit h = rw (from-done g m k h)
+
+pub fit-ends : (block before : ℕ) (r : Range) → unfit block before r ≡ false → r .offset + r .len < 2 ^ 64
+fit-ends block before r h = omega (arith, passed block before r h .0 .in-file)
 
 -- ---- the claim
 from-zero : (rs : List Range) → All (From 0) rs

@@ -115,7 +115,7 @@ module _ (devs offs lens stos sts : List ℕ) (n : ℕ) where
         left = ap (wroteAll devs noRuns d) (pieces-all g n) ∙ wrote-all devs noRuns [] (piecesFrom g n 0) w d (rw same room) ∙ ap (λ (es : List Extent). sets d 4 (bytesOf es)) same;
       }
 
-  length-wrote : (r : Runs) (d : List ℕ) (p : Piece) → length (wrote devs r d p) ≡ length d
+  pub length-wrote : (r : Runs) (d : List ℕ) (p : Piece) → length (wrote devs r d p) ≡ length d
   unfolding wrote
   length-wrote r d p = by (joins devs r p)
     where

@@ -10,7 +10,7 @@ ghost use Rattle.xdr.specs.Reader.{sameBytes};
 ghost use Rattle.joining.specs.Joiner.{noRun, placeOf, leNumber, joinsRun, longerRun, startedRun, storedLonger, storedStart};
 
 // An extent, or a part of one, whose device stays where it lies: 16 bytes in row `row` of a column of devices.
-pub(crate) struct Piece {
+pub struct Piece {
     pub row: usize,
     pub offset: u64,
     pub len: u64,
@@ -20,7 +20,7 @@ pub(crate) struct Piece {
 
 // A run that the next piece of its state may lengthen: its place in the result, a row with its device, where it begins, and where it ends in the file and in
 // storage. No piece begins at 2^64 - 1: where there is no run, it ends there.
-pub(crate) struct Run {
+pub struct Run {
     pub slot: usize,
     pub row: usize,
     pub offset: u64,
@@ -28,7 +28,7 @@ pub(crate) struct Run {
     pub until: u64,
 }
 
-pub(crate) fn no_run() -> Run
+pub fn no_run() -> Run
     ensures { λ x. ⌜ x ≡ noRun ⌝ }
 {
     Run {
@@ -41,7 +41,7 @@ pub(crate) fn no_run() -> Run
 }
 
 // The place of the latest run of a state.
-pub(crate) fn state_place(st: u32) -> usize
+pub fn state_place(st: u32) -> usize
     ensures { λ x. ⌜ (x ≡ placeOf st) × (x < 4) ⌝ }
 {
     (st % 4) as usize
@@ -90,7 +90,7 @@ fn same_device(devs: &[u8], p: usize, i: usize) -> bool
 }
 
 // Whether p begins, in the file and in storage, just where the latest run of its state ends, and has its device; of holes only the file counts.
-pub(crate) fn joins(devs: &[u8], o: Run, p: Piece) -> bool
+pub fn joins(devs: &[u8], o: Run, p: Piece) -> bool
     requires { ⌜ (16 * o .row + 16 ≤ length (now devs)) × (16 * p .row + 16 ≤ length (now devs)) ⌝ }
     ensures { λ x. ⌜ x ≡ joinsRun (now (devs .entry)) o p ⌝ }
 {
@@ -107,7 +107,7 @@ pub(crate) fn joins(devs: &[u8], o: Run, p: Piece) -> bool
 }
 
 // The run with p. A hole's place in storage may pass 2^64 - 1; nobody asks for it.
-pub(crate) fn longer(o: Run, p: Piece) -> Run
+pub fn longer(o: Run, p: Piece) -> Run
     requires { ⌜ p .offset + p .len < 2 ^ 64 ⌝ }
     ensures { λ x. ⌜ x ≡ longerRun o p ⌝ }
 {
@@ -121,7 +121,7 @@ pub(crate) fn longer(o: Run, p: Piece) -> Run
 }
 
 // The run that p starts, in place n.
-pub(crate) fn started(p: Piece, n: usize) -> Run
+pub fn started(p: Piece, n: usize) -> Run
     requires { ⌜ p .offset + p .len < 2 ^ 64 ⌝ }
     ensures { λ x. ⌜ x ≡ startedRun n p ⌝ }
 {
@@ -135,7 +135,7 @@ pub(crate) fn started(p: Piece, n: usize) -> Run
 }
 
 // Stores the length of a run.
-pub(crate) fn put_longer(d: &mut [u8], o: Run)
+pub fn put_longer(d: &mut [u8], o: Run)
     requires { ⌜ o .offset ≤ o .end ⌝ }
     ensures { λ _. ⌜ now (d .exit) ≡ storedLonger o (now (d .entry)) ⌝ }
 {
@@ -143,7 +143,7 @@ pub(crate) fn put_longer(d: &mut [u8], o: Run)
 }
 
 // Stores the run that p starts in place n, a hole without device and storage.
-pub(crate) fn put_started(d: &mut [u8], n: usize, devs: &[u8], p: Piece)
+pub fn put_started(d: &mut [u8], n: usize, devs: &[u8], p: Piece)
     ensures { λ _. ⌜ now (d .exit) ≡ storedStart (now (devs .entry)) n p (now (d .entry)) ⌝ }
 {
     placing::put_extent(

@@ -53,7 +53,7 @@ pub fn same_count(
 }
 
 // Rules 3 to 7 on the list, in one pass; they look at no device id and at no handle.
-fn scan(
+pub fn scan(
     devices: &[u8],
     offsets: &[u64],
     handles: &[u32],
