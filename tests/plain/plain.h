@@ -52,6 +52,8 @@ struct plain_epochs {
                                   size_t, const uint32_t *, size_t, uint8_t *, size_t, uint64_t *); \
     uint32_t P##layout_merge(const uint8_t *, size_t, const uint64_t *, size_t, const uint64_t *, size_t, const uint64_t *, size_t, const uint32_t *, size_t, \
                              uint8_t *, size_t, uint64_t *); \
+    uint32_t P##layout_commit(const uint8_t *, size_t, uint64_t, const uint8_t *, size_t, const uint64_t *, size_t, const uint64_t *, size_t, \
+                              const uint64_t *, size_t, const uint32_t *, size_t, uint8_t *, size_t, uint64_t *); \
     uint32_t P##layoutreturn_check(const uint8_t *, size_t, uint32_t *, uint64_t *, uint64_t *); \
     uint32_t P##report_check(const uint8_t *, size_t); \
     uint32_t P##report_next(const uint8_t *, size_t, uint64_t *, uint32_t *, uint32_t *, uint64_t *, uint32_t *); \
