@@ -1,6 +1,7 @@
 //! The second program: speaks the lines of replay (man/stellcircle-replay.1) and prints the same, but is written from the paper alone, over maps and sets.
-//! In this order: refusals; the commands; what they print; one line; main. `words` reads words, `layout`, `merge`, `layoutreturn`, `ledger` and `epochs` hold the rules, `examples` the marked ones.
+//! In this order: refusals; the commands; what they print; one line; main. `words` reads words, `layout`, `merge`, `commit`, `layoutreturn`, `ledger` and `epochs` hold the rules, `examples` the marked ones.
 
+mod commit;
 mod epochs;
 mod layout;
 mod layoutreturn;
@@ -69,6 +70,10 @@ impl Desk {
             ("rdma", [b]) => Some(laid_out(Kind::Rdma, &bytes(b, MAX_BODY)?)),
             ("write", [r, e]) => Some(written(Kind::Scsi, room(r)?, &list(Kind::Scsi, &bytes(e, MAX_LIST)?)?)),
             ("merge", [r, e]) => Some(put(merge::merge(&list(Kind::Scsi, &bytes(e, MAX_LIST)?)?, room(r)?))),
+            ("commit", [b, r, c, e]) => {
+                let (block, room, commits, extents) = (number(b)?, room(r)?, bytes(c, MAX_BODY)?, bytes(e, MAX_LIST)?);
+                Some(put(commit::commit(&list(Kind::Scsi, &extents)?, block, &commits, room)))
+            }
             ("rdmawrite", [r, e]) => Some(written(Kind::Rdma, room(r)?, &list(Kind::Rdma, &bytes(e, MAX_LIST)?)?)),
             ("fresh", []) => {
                 *self = Desk::fresh(Edition::Current);

@@ -10,13 +10,16 @@ const HOLE: u32 = 3;
 
 /// What is said of a byte, but for the byte's own place: for a hole the state alone.
 #[derive(Clone, Copy, PartialEq, Eq, PartialOrd, Ord)]
-struct Stretch {
-    state: u32,
-    stored: Option<(u128, i128)>,
+pub struct Stretch {
+    pub state: u32,
+    pub stored: Option<(u128, i128)>,
 }
 
 /// The first byte and the one past the last.
-type Range = (u128, u128);
+pub type Range = (u128, u128);
+
+/// What is said of the file: for each stretch the ranges of its bytes.
+pub type Said = BTreeMap<Stretch, Vec<Range>>;
 
 /// The body of the merged list, or its first refusal.
 pub fn merge(list: &[Extent], room: usize) -> Result<Vec<u8>, Refusal> {
@@ -24,7 +27,16 @@ pub fn merge(list: &[Extent], room: usize) -> Result<Vec<u8>, Refusal> {
         return Err((2, 0));
     }
     judge_all(list)?;
-    let left = extents(said(list));
+    let mut said = Said::new();
+    for (range, stretch) in list.iter().map(says) {
+        said.entry(stretch).or_default().push(range);
+    }
+    shortest(said, room)
+}
+
+/// The body of the shortest list that says this, or its refusal.
+pub fn shortest(said: Said, room: usize) -> Result<Vec<u8>, Refusal> {
+    let left = extents(said);
     if left.len() > MOST_LEFT {
         return Err((28, 0));
     }
@@ -35,16 +47,12 @@ pub fn merge(list: &[Extent], room: usize) -> Result<Vec<u8>, Refusal> {
     Ok(body)
 }
 
-/// What the list says: for each stretch the ranges of its bytes.
-fn said(list: &[Extent]) -> BTreeMap<Stretch, Vec<Range>> {
-    let mut ranges: BTreeMap<Stretch, Vec<Range>> = BTreeMap::new();
-    for e in list {
-        let from = u128::from(e.offset);
-        let distance = i128::from(e.storage) - i128::from(e.offset);
-        let stored = (e.state != HOLE).then_some((e.device, distance));
-        ranges.entry(Stretch { state: e.state, stored }).or_default().push((from, from + u128::from(e.length)));
-    }
-    ranges
+/// What an extent says, and of which bytes.
+pub fn says(e: &Extent) -> (Range, Stretch) {
+    let from = u128::from(e.offset);
+    let distance = i128::from(e.storage) - i128::from(e.offset);
+    let stored = (e.state != HOLE).then_some((e.device, distance));
+    ((from, from + u128::from(e.length)), Stretch { state: e.state, stored })
 }
 
 /// The same bytes as ranges that do not touch, by rising first byte.
@@ -61,7 +69,7 @@ fn apart(mut ranges: Vec<Range>) -> Vec<Range> {
 }
 
 /// An extent for each range of each stretch, by rising offset, a read one before an invalid one.
-fn extents(said: BTreeMap<Stretch, Vec<Range>>) -> Vec<(Range, Stretch)> {
+fn extents(said: Said) -> Vec<(Range, Stretch)> {
     let mut left: Vec<(Range, Stretch)> = said.into_iter().flat_map(|(stretch, ranges)| apart(ranges).into_iter().map(move |range| (range, stretch))).collect();
     left.sort_unstable_by_key(|((from, _), stretch)| (*from, stretch.state));
     left
