@@ -18,7 +18,7 @@
 
 enum {
     MAX_REQUEST = 16384, /* bytes of a LAYOUTRETURN request or a mirror list */
-    MAX_BODY = 65536,    /* bytes of a layout body */
+    MAX_BODY = 65536,    /* bytes of a layout body or a commit list */
     MAX_ROOM = 65536,    /* places of a lent reply or list */
     MAX_LIST = 196608,   /* bytes of extents to write */
     MAX_LINE = 524288,   /* bytes of a line, the newline not counted */
@@ -616,29 +616,35 @@ static struct columns columns_of(const struct kind *k, struct lent extents)
     return c;
 }
 
-static void give_back_columns(const struct columns *c)
+/* Takes columns back: each number has to be that of the extents still. */
+static void give_back_columns(const struct kind *k, struct lent extents, const struct columns *c)
 {
+    const struct columns again = columns_of(k, extents);
     const struct lent all[] = {c->devices, c->offsets, c->handles, c->lengths, c->storages, c->states};
+    const struct lent kept[] = {again.devices, again.offsets, again.handles, again.lengths, again.storages, again.states};
     for (size_t i = 0; i < sizeof all / sizeof all[0]; i++) {
         check_lent(all[i], all[i].len, "bytes beside a column changed");
+        if (memcmp(bytes_of(all[i]), bytes_of(kept[i]), all[i].len) != 0)
+            broken("a number of a column changed");
         give_back(all[i]);
+        give_back(kept[i]);
     }
 }
 
-static bool run_write(const struct command *c, const struct word *argument)
+/* Reads the bytes of whole extents of a kind; false lends nothing. */
+static bool read_extents(const struct kind *k, struct word w, struct lent *extents)
 {
-    const struct kind *k = c->call.kind;
-    uint64_t room, place;
-    struct lent extents;
-    if (!read_number(argument[0], MAX_ROOM, &room) || !read_bytes(argument[1], MAX_LIST, &extents))
+    if (!read_bytes(w, MAX_LIST, extents))
         return false;
-    if (extents.len % k->extent_size != 0) {
-        give_back(extents);
-        return false;
-    }
-    struct columns list = columns_of(k, extents);
-    struct lent out = lend((size_t)room);
-    uint32_t answer = k->write(&list, out, &place);
+    if (extents->len % k->extent_size == 0)
+        return true;
+    give_back(*extents);
+    return false;
+}
+
+/* Prints the body of `place` extents that was written, or the refusal, and takes the buffer back. */
+static void print_written(const struct kind *k, uint32_t answer, uint64_t place, struct lent out)
+{
     size_t written = answer == 0 ? 4 + k->extent_size * (size_t)place : 0;
     check_lent(out, written, "bytes past the written body changed");
     check_held();
@@ -649,8 +655,47 @@ static bool run_write(const struct command *c, const struct word *argument)
     } else {
         printf("refused %" PRIu32 " at %" PRIu64 "\n", answer, place);
     }
-    give_back_columns(&list);
     give_back(out);
+}
+
+static bool run_write(const struct command *c, const struct word *argument)
+{
+    const struct kind *k = c->call.kind;
+    uint64_t room, place;
+    struct lent extents;
+    if (!read_number(argument[0], MAX_ROOM, &room) || !read_extents(k, argument[1], &extents))
+        return false;
+    struct columns list = columns_of(k, extents);
+    struct lent out = lend((size_t)room);
+    uint32_t answer = k->write(&list, out, &place);
+    give_back_columns(k, extents, &list);
+    print_written(k, answer, place, out);
+    give_back(extents);
+    return true;
+}
+
+/* A LAYOUTCOMMIT: the block size, the room for the new body, the commit list and the extents. */
+static bool run_commit(const struct command *c, const struct word *argument)
+{
+    const struct kind *k = c->call.kind;
+    uint64_t block, room;
+    struct lent commits, extents;
+    if (!read_number(argument[0], UINT64_MAX, &block) || !read_number(argument[1], MAX_ROOM, &room) || !read_bytes(argument[2], MAX_BODY, &commits))
+        return false;
+    if (!read_extents(k, argument[3], &extents)) {
+        give_back(commits);
+        return false;
+    }
+    struct columns list = columns_of(k, extents);
+    struct lent out = lend((size_t)room), place = lend(sizeof(uint64_t));
+    uint32_t answer = sc_layout_commit(bytes_of(commits), commits.len, block, bytes_of(list.devices), list.devices.len, numbers_of(list.offsets), list.n,
+                                       numbers_of(list.lengths), list.n, numbers_of(list.storages), list.n, small_numbers_of(list.states), list.n,
+                                       bytes_of(out), out.len, numbers_of(place));
+    take_back_bytes(argument[2], commits, "bytes in or beside the commit list changed");
+    check_lent(place, place.len, "bytes beside a commit's place changed");
+    give_back_columns(k, extents, &list);
+    print_written(k, answer, number_in(place), out);
+    give_back(place);
     give_back(extents);
     return true;
 }
@@ -743,6 +788,7 @@ static const struct command commands[] = {
     {"write", 2, run_write, {.kind = &scsi}},
     {"rdmawrite", 2, run_write, {.kind = &rdma}},
     {"merge", 2, run_write, {.kind = &merged}},
+    {"commit", 4, run_commit, {.kind = &scsi}},
     {"join", 1, run_on_node, {.node = sc_epochs_join}},
     {"leave", 1, run_on_node, {.node = sc_epochs_leave}},
     {"start", 1, run_on_node, {.node = sc_epochs_start}},

@@ -41,14 +41,14 @@ extern "C" {
  */
 #define SC_NOENT UINT32_C(2)                  /* the node is no member of the cluster */
 #define SC_EXIST UINT32_C(17)                 /* the file is registered, or the node a member, already */
-#define SC_INVAL UINT32_C(22)                 /* a node above 31, a bad mirror list, or nothing to repair or to finish */
+#define SC_INVAL UINT32_C(22)                 /* a node above 31, a bad mirror list or commit list, or nothing to repair or to finish */
 #define SC_NOSPC UINT32_C(28)                 /* no room: in a table, in a buffer that is lent, or for another epoch */
 #define SC_STALE UINT32_C(70)                 /* no such file */
 #define SC_DELAY UINT32_C(10008)              /* not yet: the file needs repair, or an intent is open */
 #define SC_GRACE UINT32_C(10013)              /* a grace period is on */
 #define SC_BAD_STATEID UINT32_C(10025)        /* no intent to close, one not reclaimed, or a stateid that is not taken */
 #define SC_NO_GRACE UINT32_C(10033)           /* no grace period is on */
-#define SC_RECLAIM_BAD UINT32_C(10034)        /* the client has no intent on the file */
+#define SC_RECLAIM_BAD UINT32_C(10034)        /* the client has no intent on the file, or commits what it may not write */
 #define SC_BADXDR UINT32_C(10036)             /* malformed bytes */
 #define SC_BADIOMODE UINT32_C(10049)          /* an iomode outside 1 to 3 */
 #define SC_UNKNOWN_LAYOUTTYPE UINT32_C(10062) /* a layout type that is not 4 */
@@ -101,6 +101,21 @@ uint32_t sc_rdma_layout_write(const uint8_t *devices, size_t devices_len, const 
 uint32_t sc_layout_merge(const uint8_t *devices, size_t devices_len, const uint64_t *offsets, size_t offsets_len,
                          const uint64_t *lengths, size_t lengths_len, const uint64_t *storages, size_t storages_len,
                          const uint32_t *states, size_t states_len, uint8_t *out, size_t out_len, uint64_t *place);
+
+/* Commits what a client has written (LAYOUTCOMMIT), and writes the new list as a body at the start of out. `commits` is the commit list's bytes: a 4-byte
+ * count n, at most 1,024, and n ranges of 16 bytes, file offset (8) and length (8), big-endian; `block` is the block size. The list is up to 1,024 extents,
+ * lent as columns like the writer's. Each committed byte that was invalid is read-write at its own storage, and no read extent covers it any more; one that
+ * was read-write stays so; every other byte keeps its state, device and storage byte. The new list comes out merged as by sc_layout_merge, so an
+ * empty commit list merges.
+ * 0: written, and *place is how many extents there are; the first 4 + 44n bytes of out are the body, and the rest is as it was.
+ * Else the refusal, and out is as it was: 1 for uneven columns, 2 above 1,024, then 3 to 7 with the extent's place in the list; all others with *place 0:
+ * 10036 (BADXDR): commits is not 4 + 16n bytes, or n is above 1,024; 22 (INVAL): the block size is 0, or a range has length 0, an end above 2^64 - 1, an
+ * offset or a length that is no multiple of the block size, or begins before an earlier one ends; 10034 (RECLAIM_BAD): a committed byte is under neither
+ * an invalid nor a read-write extent; 28 (NOSPC): the new list has more than 1,024 extents; last 8. */
+uint32_t sc_layout_commit(const uint8_t *commits, size_t commits_len, uint64_t block, const uint8_t *devices, size_t devices_len,
+                          const uint64_t *offsets, size_t offsets_len, const uint64_t *lengths, size_t lengths_len,
+                          const uint64_t *storages, size_t storages_len, const uint32_t *states, size_t states_len,
+                          uint8_t *out, size_t out_len, uint64_t *place);
 
 /* ---- LAYOUTRETURN requests (RFC 8881) and their bodies, error and statistics records (RFC 8435) ----
  *

@@ -3,8 +3,8 @@
 
     captures.py NAME CAPTURE SCRIPT EXPECTED
 
-NAME is layout-bodies, layoutreturn-damaged, linux-layoutreturn or ganesha-epochs. What is expected comes from the columns
-that other programs wrote beside each input, never from replay or the second program. In this order: layout bodies;
+NAME is layout-bodies, linux-layoutcommit, layoutreturn-damaged, linux-layoutreturn or ganesha-epochs. What is expected comes from the columns
+that other programs wrote beside each input, never from replay or the second program. In this order: layout bodies; LAYOUTCOMMIT;
 LAYOUTRETURN requests, and the report that a request leaves on a file; the two LAYOUTRETURN captures; epochs; main.
 """
 import struct
@@ -32,6 +32,17 @@ def layout_bodies(path):
         assert len(fields) == int(place)
         extents = "".join(f" {offset}:{length}:{storage}:{state}" for _, offset, length, storage, state in fields)
         yield f"layout {body}", f"extents {place}{extents}"
+
+
+def linux_layoutcommit(path):
+    """Lines `layout BODY`, `block SIZE`, `commit LIST` and `result BODY`, in turn: what the client's extents are after the commit, merged."""
+    lines = [line.split() for line in lines_of(path) if not line.startswith("#")]
+    for (_, layout), (_, block), (_, commit), (_, result) in zip(*[iter(lines)] * 4, strict=True):
+        room = len(result) // 2
+        yield f"commit {block} 65536 {commit} {layout[8:]}", f"0 {result}"
+        yield f"commit {block} {room} {commit} {layout[8:]}", f"0 {result}"
+        yield f"commit {block} {room - 1} {commit} {layout[8:]}", "refused 8 at 0"
+        yield f"commit {block} {room} {commit} {result[8:] or '-'}", f"0 {result}"
 
 
 def said(status):
@@ -207,6 +218,7 @@ def ganesha_epochs(path):
 
 CAPTURES = {
     "layout-bodies": layout_bodies,
+    "linux-layoutcommit": linux_layoutcommit,
     "layoutreturn-damaged": layoutreturn_damaged,
     "linux-layoutreturn": linux_layoutreturn,
     "ganesha-epochs": ganesha_epochs,

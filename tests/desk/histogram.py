@@ -31,6 +31,7 @@ ANSWERS = {
     "write": "0 refused:2 refused:3 refused:4 refused:5 refused:6 refused:7 refused:8",
     "rdmawrite": "0 refused:2 refused:3 refused:4 refused:5 refused:6 refused:7 refused:8",
     "merge": "0 refused:2 refused:3 refused:4 refused:5 refused:6 refused:7 refused:8 refused:28",
+    "commit": "0 refused:2 refused:3 refused:4 refused:5 refused:6 refused:7 refused:8 refused:22 refused:28 refused:10034 refused:10036",
     "join": "0 17 22",
     "leave": "0 2 10013 22",
     "start": "0 2 22",

@@ -14,7 +14,7 @@ import tempfile
 
 DESK = os.path.dirname(os.path.abspath(__file__))
 SECOND = os.path.join(DESK, "..", "second")
-CAPTURES = ["layout-bodies", "layoutreturn-damaged", "linux-layoutreturn", "ganesha-epochs"]
+CAPTURES = ["layout-bodies", "linux-layoutcommit", "layoutreturn-damaged", "linux-layoutreturn", "ganesha-epochs"]
 RANDOM_CALLS, SEEDS, TIMEOUT = "100000", ["1", "2"], 120
 
 

@@ -62,7 +62,7 @@ random() {
 for name in incident marked lines; do
     expected "$name" "$desk/$name.txt" "$desk/$name.expected"
 done
-for name in layout-bodies layoutreturn-damaged linux-layoutreturn ganesha-epochs; do
+for name in layout-bodies linux-layoutcommit layoutreturn-damaged linux-layoutreturn ganesha-epochs; do
     if python3 "$desk/captures.py" "$name" "$desk/../captures/$name.txt" "$work/script" "$work/expected"; then
         expected "$name" "$work/script" "$work/expected"
     else

@@ -1,5 +1,5 @@
 /* scribble: stands between replay and the libraries (ld's --wrap) and, after the real call, breaks the one promise that the environment's
-   SCRIBBLE names. guards.sh uses it to see that replay notices each. In this order: the choice; the record's calls; the wire check; epochs. */
+   SCRIBBLE names. guards.sh uses it to see that replay notices each. In this order: the choice; the record's calls; the wire check; the commit; epochs. */
 #include "stellcircle.h"
 
 #include <stdlib.h>
@@ -96,6 +96,32 @@ uint32_t __wrap_sc_layout_check(const uint8_t *body, size_t len, uint64_t *place
     scribble("place-after", place + 1);
     if (answer == 0 && breaks("body-count"))
         *place += 1;
+    return answer;
+}
+
+uint32_t __real_sc_layout_commit(const uint8_t *, size_t, uint64_t, const uint8_t *, size_t, const uint64_t *, size_t, const uint64_t *, size_t,
+                                 const uint64_t *, size_t, const uint32_t *, size_t, uint8_t *, size_t, uint64_t *);
+uint32_t __wrap_sc_layout_commit(const uint8_t *, size_t, uint64_t, const uint8_t *, size_t, const uint64_t *, size_t, const uint64_t *, size_t,
+                                 const uint64_t *, size_t, const uint32_t *, size_t, uint8_t *, size_t, uint64_t *);
+uint32_t __wrap_sc_layout_commit(const uint8_t *commits, size_t commits_len, uint64_t block, const uint8_t *devices, size_t devices_len,
+                                 const uint64_t *offsets, size_t offsets_len, const uint64_t *lengths, size_t lengths_len, const uint64_t *storages,
+                                 size_t storages_len, const uint32_t *states, size_t states_len, uint8_t *out, size_t out_len, uint64_t *place)
+{
+    uint32_t answer = __real_sc_layout_commit(commits, commits_len, block, devices, devices_len, offsets, offsets_len, lengths, lengths_len, storages,
+                                              storages_len, states, states_len, out, out_len, place);
+    scribble("commits", commits);
+    scribble("commits-after", commits + commits_len);
+    scribble("commit-devices", devices);
+    scribble("commit-offsets", offsets);
+    scribble("commit-states-after", states + states_len);
+    scribble("commit-place-after", place + 1);
+    scribble("commit-body-after", out + out_len);
+    if (answer == 0 && out_len > 4 + 44 * *place)
+        scribble("commit-body-past-its-end", out + 4 + 44 * *place);
+    if (answer != 0)
+        scribble("commit-body-on-a-refusal", out);
+    if (answer == 0 && breaks("commit-counts-too-many"))
+        *place = 1024 * 1024;
     return answer;
 }
 

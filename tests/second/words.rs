@@ -2,7 +2,7 @@
 
 /// Bytes of a LAYOUTRETURN request or a mirror list.
 pub const MAX_REQUEST: usize = 16_384;
-/// Bytes of a layout body.
+/// Bytes of a layout body or a commit list.
 pub const MAX_BODY: usize = 65_536;
 /// Bytes of extents to write.
 pub const MAX_LIST: usize = 196_608;

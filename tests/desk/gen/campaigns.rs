@@ -2,6 +2,7 @@
 //! In this order: the writer of calls; calls on the record; campaigns on the record; campaigns on epochs, bodies and lines; the runs.
 
 use crate::bodies::{layout_body, list_to_write};
+use crate::commits::commit;
 use crate::lines::{at_the_limits, dressed, spoilt};
 use crate::merges::{merge_list, merge_size};
 use crate::random::{hex, Device, Random};
@@ -456,6 +457,14 @@ impl<W: Write> Campaigns<W> {
         Ok(())
     }
 
+    fn commits(&mut self) -> Done {
+        for _ in 0..60 {
+            let c = commit(&mut self.r);
+            self.call(&format!("commit {} {} {} {}", c.block, c.room, hex(&c.ranges), hex(&c.extents)))?;
+        }
+        Ok(())
+    }
+
     /// Lines spoilt and dressed, comments and empty lines among calls whose answers would show a change.
     fn lines(&mut self) -> Done {
         let pool = self.pool(2, 2, 3);
@@ -509,7 +518,7 @@ impl<W: Write> Campaigns<W> {
     }
 
     pub fn run(mut self, calls: u64) -> Done {
-        const KINDS: [(u64, u32); 12] = [(30, 0), (12, 1), (10, 2), (6, 3), (50, 4), (10, 5), (18, 6), (10, 7), (24, 8), (60, 9), (12, 10), (18, 11)];
+        const KINDS: [(u64, u32); 13] = [(30, 0), (12, 1), (10, 2), (6, 3), (50, 4), (10, 5), (18, 6), (10, 7), (24, 8), (60, 9), (12, 10), (18, 11), (30, 12)];
         self.limits()?;
         while self.calls < calls {
             match self.r.weighted(&KINDS) {
@@ -524,7 +533,8 @@ impl<W: Write> Campaigns<W> {
                 8 => self.returning()?,
                 9 => self.counts()?,
                 10 => self.requests()?,
-                _ => self.merges()?,
+                11 => self.merges()?,
+                _ => self.commits()?,
             }
         }
         self.out.flush()

@@ -3,12 +3,12 @@
 use crate::random::{Device, Random};
 
 #[derive(Clone, Copy)]
-struct Extent {
-    device: Device,
-    offset: u64,
-    length: u64,
-    storage: u64,
-    state: u32,
+pub struct Extent {
+    pub device: Device,
+    pub offset: u64,
+    pub length: u64,
+    pub storage: u64,
+    pub state: u32,
 }
 
 /// What breaks a run now and then.
@@ -87,7 +87,7 @@ fn in_a_row(r: &mut Random, devices: &[Device], n: usize, state: u32, breaks: Br
 }
 
 /// One thing of a list is made wrong, or nearly.
-fn spoil(r: &mut Random, list: &mut [Extent]) {
+pub fn spoil(r: &mut Random, list: &mut [Extent]) {
     let place = r.size(list.len());
     let before = list[place.saturating_sub(1)];
     let e = &mut list[place];
@@ -101,7 +101,7 @@ fn spoil(r: &mut Random, list: &mut [Extent]) {
     }
 }
 
-fn bytes(list: &[Extent]) -> Vec<u8> {
+pub fn bytes(list: &[Extent]) -> Vec<u8> {
     let mut bytes = Vec::new();
     for e in list {
         bytes.extend(e.device);
