@@ -5,6 +5,7 @@ cd "$(dirname "$0")/.."
 mkdir -p target/tests
 tests/layout/run.sh
 tests/list_layout/run.sh
+tests/commit/run.sh
 tests/layoutreturn/run.sh
 tests/epochs/run.sh
 tests/capi/run.sh

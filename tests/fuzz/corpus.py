@@ -5,7 +5,8 @@ import os
 import sys
 
 CAPTURES = os.path.join(os.path.dirname(os.path.abspath(__file__)), "..", "captures")
-LAYOUT, MERGE = 0, 2
+LAYOUT, MERGE, COMMIT = 0, 2, 4
+BLOCK_1, BLOCK_4096, ROOM_N, ROOM_MORE = 0, 3 << 3, 1 << 6, 2 << 6
 LAYOUTRETURN, GRACE, REGISTERED, INTENT, TWO_MIRRORS, FOUR_MIRRORS, OLD, ROOM_40 = 1, 2, 4, 8, 1 << 4, 3 << 4, 1 << 6, 2 << 6
 CHOICES = [
     LAYOUTRETURN | GRACE | REGISTERED | INTENT | FOUR_MIRRORS,
@@ -80,7 +81,25 @@ def touching():
     yield b"".join(extent(0, 5 * i, 5 * i) for i in range(1025))
 
 
+def commits():
+    """The captured LAYOUTCOMMITs, each also with a range more that the list does not bear: behind all, of no length, over the last one, and off the blocks."""
+    with open(os.path.join(CAPTURES, "linux-layoutcommit.txt")) as capture:
+        lines = [line.split() for line in capture if not line.startswith("#")]
+    layouts, lists = ([bytes.fromhex(word) for key, word in lines if key == kind] for kind in ("layout", "commit"))
+    for layout, ranges in zip(layouts, lists):
+        extents = layout[2:]
+        offset, length = (int.from_bytes(ranges[at : at + 8], "big") for at in (-16, -8))
+        yield extents + ranges
+        yield extents + bytes(4)
+        for more in ((offset + length, 2**63), (offset + length, 0), (offset, length), (offset + length + 1, 4096), (offset + length, 4096)):
+            count = (number(ranges, 0) + 1).to_bytes(4, "big")
+            yield extents + count + ranges[4:] + b"".join(word.to_bytes(8, "big") for word in more)
+
+
 def seeds():
+    for commit in commits():
+        for choice in (BLOCK_4096, BLOCK_1 | ROOM_N, BLOCK_4096 | ROOM_MORE):
+            yield bytes([COMMIT | choice]) + commit
     for body in hex_words("layout-bodies.txt"):
         yield bytes([LAYOUT]) + body
         yield bytes([MERGE]) + body[4:]

@@ -1,8 +1,9 @@
-/* The fuzz target for the wire checks: layout bodies, lists of extents to be merged, and LAYOUTRETURN on a record of one file. Any difference from plain C (tests/plain) aborts.
-   The first byte chooses: bit 0 layout body or LAYOUTRETURN; for the former bit 1 a list to be merged; for the latter bit 1 grace, 2 registered, 3 intent, 4 and 5 how many mirrors, 6 and 7
-   the edition and the reply's room. The other bytes are the body or the request, whose length also chooses how many totals are lent. The libraries are
-   not instrumented (plain C is, and steers towards new cases), so every body, request, reply and total lent to them lies against a page that can't be touched, once at its start and once at its
-   end. In this order: pages; layout bodies; merging; reports; LAYOUTRETURN; the target. */
+/* The fuzz target for the wire checks: layout bodies, lists of extents to be merged, LAYOUTCOMMITs, and LAYOUTRETURN on a record of one file. Any difference from plain C
+   (tests/plain) aborts. The first byte chooses: bit 0 layouts or LAYOUTRETURN. Layouts: bit 1 a list to be merged, else bit 2 a LAYOUTCOMMIT, else a body; of a LAYOUTCOMMIT bits 3 to 5 the block
+   size, 6 and 7 the room for its body. LAYOUTRETURN: bit 1 grace, 2 registered, 3 intent, 4 and 5 how many mirrors, 6 and 7 the edition and the reply's room. The other bytes are the body, the
+   list or the request, whose length also chooses how many totals are lent; of a LAYOUTCOMMIT a count of extents (2 bytes), the extents and the commit list. The libraries are not instrumented
+   (plain C is, and steers towards new cases), so every body, list, request, reply and total lent to them lies against a page that can't be touched, once at its start and once at its end.
+   In this order: pages; layout bodies; lists; merging; LAYOUTCOMMIT; reports; LAYOUTRETURN; the target. */
 #define _DEFAULT_SOURCE
 #include "bytes.h"
 #include "plain.h"
@@ -50,7 +51,7 @@ static uint8_t *at_edge(uint8_t *region, size_t len, bool end)
 }
 
 /* A region for each thing that is lent. */
-enum { INPUT, REPLY, READ, WRITTEN, READ_OVER, WRITTEN_OVER, WANTED, STORAGES, STATES, REGIONS };
+enum { INPUT, REPLY, READ, WRITTEN, READ_OVER, WRITTEN_OVER, WANTED, STORAGES, STATES, COMMITS, REGIONS };
 
 static uint8_t *regions[REGIONS];
 
@@ -99,33 +100,80 @@ static void layout(const uint8_t *bytes, size_t len, bool end)
     checked(sc_rdma_layout_check, plain_rdma_layout_check, bytes, len, end);
 }
 
-/* ---- Merging ---- */
+/* ---- Lists ---- */
 
-/* The columns of a list, lent at an edge each. */
+/* A list of extents, lent as columns at an edge each; and the buffers for a body, the library's and plain C's. */
 enum { LONGEST = 1400 };
+
+struct list {
+    size_t n, room;
+    uint8_t *devs, *out, *wanted;
+    uint64_t *offs, *lens, *stos;
+    uint32_t *sts;
+};
+
+static struct list lend_list(const uint8_t *bytes, size_t n, size_t room, bool end)
+{
+    struct list l = {.n = n, .room = room, .devs = at_edge(regions[INPUT], 16 * n, end), .out = at_edge(regions[REPLY], room, end), .wanted = at_edge(regions[WANTED], room, end)};
+    l.offs = (uint64_t *)(void *)at_edge(regions[READ], 8 * n, end);
+    l.lens = (uint64_t *)(void *)at_edge(regions[WRITTEN], 8 * n, end);
+    l.stos = (uint64_t *)(void *)at_edge(regions[STORAGES], 8 * n, end);
+    l.sts = (uint32_t *)(void *)at_edge(regions[STATES], 4 * n, end);
+    for (size_t i = 0; i < n; i++) {
+        memcpy(l.devs + 16 * i, bytes + 44 * i, 16);
+        l.offs[i] = be64(bytes + 44 * i + 16);
+        l.lens[i] = be64(bytes + 44 * i + 24);
+        l.stos[i] = be64(bytes + 44 * i + 32);
+        l.sts[i] = be32(bytes + 44 * i + 40);
+    }
+    memset(l.out, FILL, room);
+    memset(l.wanted, FILL, room);
+    return l;
+}
+
+/* A number and a place from each, and the same bytes; a body that is written passes the check. */
+static void same_body(const struct list *l, uint32_t number, uint64_t place, uint32_t wanted, uint64_t wanted_place)
+{
+    same("list number", number, wanted);
+    same("list place", place, wanted_place);
+    same("list bytes", memcmp(l->out, l->wanted, l->room) == 0, true);
+    if (number == 0)
+        same("written body", sc_layout_check(l->out, 4 + 44 * (size_t)place, &wanted_place), 0);
+}
+
+#define COLUMNS(L) (L).devs, 16 * (L).n, (L).offs, (L).n, (L).lens, (L).n, (L).stos, (L).n, (L).sts, (L).n
+
+/* ---- Merging ---- */
 
 static void merge(const uint8_t *bytes, size_t len, bool end)
 {
     size_t n = len / 44 < LONGEST ? len / 44 : LONGEST, room = len % 44 < 2 ? 4 + 44 * n : 4 + 44 * (len % 44 - 2);
-    uint8_t *devs = at_edge(regions[INPUT], 16 * n, end), *out = at_edge(regions[REPLY], room, end), *wanted_out = at_edge(regions[WANTED], room, end);
-    uint64_t *offs = (uint64_t *)(void *)at_edge(regions[READ], 8 * n, end), *lens = (uint64_t *)(void *)at_edge(regions[WRITTEN], 8 * n, end);
-    uint64_t *stos = (uint64_t *)(void *)at_edge(regions[STORAGES], 8 * n, end), place = UINT64_MAX, wanted_place = UINT64_MAX;
-    uint32_t *sts = (uint32_t *)(void *)at_edge(regions[STATES], 4 * n, end);
-    for (size_t i = 0; i < n; i++) {
-        memcpy(devs + 16 * i, bytes + 44 * i, 16);
-        offs[i] = be64(bytes + 44 * i + 16);
-        lens[i] = be64(bytes + 44 * i + 24);
-        stos[i] = be64(bytes + 44 * i + 32);
-        sts[i] = be32(bytes + 44 * i + 40);
-    }
-    memset(out, FILL, room);
-    memset(wanted_out, FILL, room);
-    uint32_t wanted = plain_layout_merge(devs, 16 * n, offs, n, lens, n, stos, n, sts, n, wanted_out, room, &wanted_place);
-    same("merge number", sc_layout_merge(devs, 16 * n, offs, n, lens, n, stos, n, sts, n, out, room, &place), wanted);
-    same("merge place", place, wanted_place);
-    same("merge bytes", memcmp(out, wanted_out, room) == 0, true);
-    if (wanted == 0)
-        same("merged body", sc_layout_check(out, 4 + 44 * (size_t)place, &wanted_place), 0);
+    struct list l = lend_list(bytes, n, room, end);
+    uint64_t place = UINT64_MAX, wanted_place = UINT64_MAX;
+    uint32_t wanted = plain_layout_merge(COLUMNS(l), l.wanted, room, &wanted_place);
+    uint32_t number = sc_layout_merge(COLUMNS(l), l.out, room, &place);
+    same_body(&l, number, place, wanted, wanted_place);
+}
+
+/* ---- LAYOUTCOMMIT ---- */
+
+static void commit(uint8_t choice, const uint8_t *bytes, size_t len, bool end)
+{
+    static const uint64_t blocks[8] = {1, 7, 512, 4096, UINT64_MAX, 0, 2, 1 << 16};
+    if (len < 2)
+        return;
+    size_t asked = (size_t)bytes[0] << 8 | bytes[1], most = (len - 2) / 44 < LONGEST ? (len - 2) / 44 : LONGEST, n = asked < most ? asked : most;
+    const uint8_t *ranges = bytes + 2 + 44 * n;
+    size_t ranges_len = len - 2 - 44 * n;
+    const size_t rooms[4] = {4 + 44 * 1024, 4 + 44 * n, 4 + 44 * (n + 1), 4 + 44 * (ranges_len % 16)};
+    uint64_t block = blocks[choice >> 3 & 7], place = UINT64_MAX, wanted_place = UINT64_MAX;
+    struct list l = lend_list(bytes + 2, n, rooms[choice >> 6], end);
+    uint8_t *commits = at_edge(regions[COMMITS], ranges_len, end);
+    memcpy(commits, ranges, ranges_len);
+    uint32_t wanted = plain_layout_commit(ranges, ranges_len, block, COLUMNS(l), l.wanted, l.room, &wanted_place);
+    uint32_t number = sc_layout_commit(commits, ranges_len, block, COLUMNS(l), l.out, l.room, &place);
+    same("commit list kept", memcmp(commits, ranges, ranges_len) == 0, true);
+    same_body(&l, number, place, wanted, wanted_place);
 }
 
 /* ---- Reports ---- */
@@ -276,6 +324,8 @@ int LLVMFuzzerTestOneInput(const uint8_t *data, size_t size)
     for (int end = 0; end < 2; end++) {
         if (data[0] & 1)
             layoutreturn(data[0], data + 1, size - 1, end);
+        else if ((data[0] & 6) == 4)
+            commit(data[0], data + 1, size - 1, end);
         else
             (data[0] & 2 ? merge : layout)(data + 1, size - 1, end);
     }

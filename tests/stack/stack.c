@@ -15,8 +15,8 @@ static uint8_t mirrors[64], request[52 + 4 + 60 + 4], bulk[16], reply[24], sourc
 static uint64_t files[FILES], count, read_bytes[4], written_bytes[4];
 static uint32_t read_over, written_over;
 static volatile uint32_t answer;
-enum { EXTENTS = 1024, EXTENT = 48 };
-static uint8_t devices[16 * EXTENTS], body[4 + EXTENT * EXTENTS];
+enum { EXTENTS = 1024, EXTENT = 48, RANGES = 1024, BLOCK = 512 };
+static uint8_t devices[16 * EXTENTS], body[4 + EXTENT * EXTENTS], commits[4 + 16 * RANGES];
 static uint64_t offsets[EXTENTS], lengths[EXTENTS], storages[EXTENTS], place, at, left, device, offset, length, storage;
 static uint32_t handles[EXTENTS], states[EXTENTS], kind, records, errors, status;
 static struct sc_epochs epochs;
@@ -52,6 +52,11 @@ static void merge(void)
 {
     answer = sc_layout_merge(devices, sizeof devices, offsets, EXTENTS, lengths, EXTENTS, storages, EXTENTS, states, EXTENTS, body, sizeof body, &place);
 }
+static void commit(void)
+{
+    answer = sc_layout_commit(commits, sizeof commits, BLOCK, devices, sizeof devices, offsets, EXTENTS, lengths, EXTENTS, storages, EXTENTS, states, EXTENTS,
+                              body, sizeof body, &place);
+}
 static void write_rdma(void)
 {
     answer = sc_rdma_layout_write(devices, sizeof devices, offsets, EXTENTS, handles, EXTENTS, lengths, EXTENTS, storages, EXTENTS, states, EXTENTS, body,
@@ -82,6 +87,7 @@ static const struct { const char *what; void (*call)(void); uint32_t answer; } c
     {"end of grace", end_grace, 0}, {"resilver list", resilver, 0}, {"offered for copying", offered, 0}, {"repaired", repaired, 0},
     {"fresh", fresh, 0}, {"fresh, old", fresh_old, 0},
     {"layout write", write_layout, 0}, {"layout check", check_layout, 0}, {"layout extent", extent, 0}, {"layout merge", merge, 0},
+    {"layout commit", commit, 0},
     {"RDMA layout write", write_rdma, 0}, {"RDMA layout check", check_rdma, 0}, {"request check", check_request, 0},
     {"report check", check_report, 0}, {"report next", next_error, 1}, {"statistics next", next_statistic, 0}, {"reply", write_reply, 0},
     {"epochs fresh", fresh_epochs, 0}, {"epochs join", join, 0}, {"epochs start", start, 0},
@@ -141,12 +147,18 @@ static void prepare(void)
     put32(bulk + 12, 2);
 }
 
-/* extents of 4,096 bytes that touch, of one device, each as far in storage as in the file */
+/* invalid extents of 4,096 bytes that touch, of one device, each as far in storage as in the file; and ranges over every other one of them, half by half */
 static void prepare_extents(void)
 {
     for (uint64_t i = 0; i < EXTENTS; i++) {
         offsets[i] = storages[i] = 4096 * i;
         lengths[i] = 4096;
+        states[i] = 2;
+    }
+    put32(commits, RANGES);
+    for (uint32_t k = 0; k < RANGES; k++) {
+        put32(commits + 4 + 16 * k + 4, 4096 * (k / 2 * 2 + 1) + 2048 * (k % 2));
+        put32(commits + 4 + 16 * k + 12, 2048);
     }
 }
 
