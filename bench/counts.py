@@ -12,7 +12,7 @@ import subprocess
 import sys
 import tempfile
 
-PROGRAMS = ["layout", "merge", "report", "record", "epochs"]
+PROGRAMS = ["layout", "merge", "commit", "report", "record", "epochs"]
 FORMS = 3
 
 

@@ -6,7 +6,7 @@ cd "$(dirname "$0")/.."
 bench/build.sh
 failed=0
 printf '| %-58s | %8s | %8s | %5s | %8s | %5s |\n|---|---|---|---|---|---|\n' 'Job, least time of a call in ns' proved gcc ratio clang ratio
-for program in layout merge report record epochs; do
+for program in layout merge commit report record epochs; do
     target/bench/$program || failed=1
 done
 bench/copies.sh build/libstellcircle.a
