@@ -8,7 +8,9 @@ use lib.Dec.{eqb}
 use Rattle.statuses.specs.Names.{Status, Client, FileNumber}
 use Rattle.places.specs.Lists.{any, chosen, fill}
 use Rattle.places.specs.Places.{first, leftOut}
-use Rattle.mirroring.specs.Mirrors.{noMirrors, unblamed, blamedAt, sourceIn}
+use Rattle.mirroring.specs.Mirrors.{noMirrors, unblamed, blamedAt}
+use Rattle.mirroring.specs.Source.{sourceIn}
+use Rattle.mirroring.specs.declared.source.Direction.{Direction}
 use Rattle.intents.specs.Intents.{noIntent, noIntents, intentOf, isIntent, isFree, isKept, isLost, firstTaken, reclaimedIf, unreclaimedIntent}
 use Rattle.mirroring.specs.declared.mirrors.Mirror.{Mirror}
 use Rattle.intents.specs.declared.Intent.{Intent}
@@ -117,5 +119,5 @@ isListed f = cond (f .used) (f .marked) false
 abbrev pub isReady : File → Bool
 isReady f = cond (isListed f) (not (firstTaken (f .intents))) false
 
-unfoldable pub sourceOf : File → ℕ
-sourceOf f = sourceIn (f .mirrors)
+unfoldable pub sourceOf : Direction → File → ℕ
+sourceOf d f = sourceIn d (f .mirrors)

@@ -6,6 +6,7 @@ use intents::Intent;
 use mirroring::blame::Change;
 use mirroring::mirrors::Mirror;
 use mirroring::mirrors::PLACES;
+use mirroring::source::Direction;
 use places::Found;
 ghost use mathlib.Core.Path.{_≡_};
 ghost use mathlib.Core.Bool.{true, cond};
@@ -274,12 +275,12 @@ impl File {
         self.listed() && !intents::busy(xs)
     }
 
-    // The place to copy from.
-    pub fn source(self) -> u8
-        ensures { λ r. ⌜ r ≡ sourceOf self ⌝ }
+    // The place to copy from, by the direction.
+    pub fn source(self, direction: Direction) -> u8
+        ensures { λ r. ⌜ r ≡ sourceOf direction self ⌝ }
     {
         let ms = self.mirrors;
-        mirroring::mirrors::source(ms)
+        mirroring::source::source(ms, direction)
     }
 }
 

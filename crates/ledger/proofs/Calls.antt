@@ -26,6 +26,7 @@ use Rattle.places.proofs.Sets.{true-false, first-nothing, none-at, first-no, re
 use Rattle.mirroring.proofs.Enrolling.{few-mirrors}
 use Rattle.ledger.specs.Ledger.{Row, Ledger, isRow, newRow, registered, rowOf, openRules, intentRules, closeRules, repairedRules, forgetRules, isOn, rowsOn, listOf, numbers, source, opened, hasReclaimed, closed, mended, restarted, ended, insert, withRows, withGrace, onRow}
 use Rattle.recovery.specs.Record.{withFiles, answered, placeIn, fileAt, putFile, onPlace, openOf, reclaimOf, closeOf, repairedOf, raised, roomIn, enter, pulled, withoutFile, isFull, registerWith, registerOf, forgets, forgetOf, endOf, restartOf, isWanted, numberOf, listingOf}
+use Rattle.mirroring.specs.declared.source.Direction.{Direction}
 use Rattle.recovery.specs.declared.listing.Listing.{Listing}
 use Rattle.recovery.specs.declared.listing.Listing.the-variants.{Resilver, Offered}
 use Rattle.recovery.specs.declared.record.Record.{Record}
@@ -477,8 +478,8 @@ module _ {r : Record} {l : Ledger} (m : Matches r l) where
   free-not-on Resilver f h = rw h
   free-not-on Offered f h = rw h
 
-  pub list-agrees : (k : Listing) (a b : List ℕ) → listingOf k r a b ≡ listOf (rowsOn k l) a b
+  pub list-agrees : (k : Listing) (e : Direction) (a b : List ℕ) → listingOf k e r a b ≡ listOf e (rowsOn k l) a b
   unfolding listingOf
-  list-agrees k a b =
+  list-agrees k e a b =
       let s = slots-chosen (isWanted k) (isOn k) (same-test k) (free-not-on k) (m .rows) in
-      rw (pairs-map numberOf (λ (w : Row). w .number) (λ f w h. h .number) s, pairs-map sourceOf source (file-source (l .grace)) s)
+      rw (pairs-map numberOf (λ (w : Row). w .number) (λ f w h. h .number) s, pairs-map (sourceOf e) (source e) (file-source e (l .grace)) s)

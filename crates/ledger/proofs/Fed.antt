@@ -102,7 +102,7 @@ sound-apply l (forget n) h = all-discard (isRow n) h
 sound-apply l endGrace h = all-map ended sound-ended h
 sound-apply l restart h = all-map restarted (λ w k. as-was refl refl k) h
 sound-apply l (layoutReturn n c s d) h = all-amend (isRow n) _ (sound-reported (l .edition) (errorsOf (reportOf (bodyOf s)))) h
-sound-apply l (listing k a b) h = h
+sound-apply l (listing k e a b) h = h
 
 pub sound-fed : (calls : List Call) (l : Ledger) → All Sound (l .rows) → All Sound (fed l calls .rows)
 unfolding fed feed

@@ -57,7 +57,7 @@ step-agrees r l (forget n) m = by-status _ l (forget n) _ (forget-agrees m n)
 step-agrees r l endGrace m = by-status _ l endGrace _ (end-agrees m)
 step-agrees r l restart m = by-status _ l restart _ (restart-agrees m)
 step-agrees r l (layoutReturn n c s d) m = return-agrees m n c s d
-step-agrees r l (listing k a b) m = by-list _ r l (listing k a b) _ _ a b (list-agrees m k a b) m
+step-agrees r l (listing k e a b) m = by-list _ r l (listing k e a b) _ _ a b (list-agrees m k e a b) m
 
 -- ---- any list of calls
 same-edition : (l : Ledger) (x : Call) → apply l x .edition ≡ l .edition
@@ -71,7 +71,7 @@ same-edition l (forget n) = refl
 same-edition l endGrace = refl
 same-edition l restart = refl
 same-edition l (layoutReturn n c s d) = refl
-same-edition l (listing k a b) = refl
+same-edition l (listing k e a b) = refl
 
 all-answered : (calls : List Call) (r : Record) (l : Ledger) → Matches r l → answers r calls ≡ verdicts l calls (answers r calls)
 unfolding answers verdicts
@@ -110,6 +110,6 @@ history ed calls =
     record {
       answered = all-answered calls (freshAs ed) (noRows ed) (fresh-matches ed);
       listings = λ k a b. list-agrees m k a b;
-      lists = λ k. one-list (isOn k) (ledgerOf ed calls) (m .rising);
+      lists = λ k e. one-list e (isOn k) (ledgerOf ed calls) (m .rising);
       edition = ap (λ b. cond b Old Current) (m .old ∙ ap isOld (kept-edition calls (noRows ed) (answers (freshAs ed) calls))) ∙ named ed;
     }

@@ -14,7 +14,10 @@ use Rattle.reports.specs.Statistics.{Statistic}
 use Rattle.reports.specs.Report.{DeviceError, Whole}
 use Rattle.places.specs.Lists.{any, chosen, has, with, none}
 use Rattle.places.specs.Places.{bump, first, placeOr}
-use Rattle.mirroring.specs.Mirrors.{noMirror, isGood, placedMirrors, sourceIn}
+use Rattle.mirroring.specs.Mirrors.{noMirror, isGood, placedMirrors}
+use Rattle.mirroring.specs.Direction.{firstBy}
+use Rattle.mirroring.specs.Source.{goodFrom, sourceIn}
+use Rattle.mirroring.specs.declared.source.Direction.{Direction}
 use Rattle.mirroring.specs.Blame.{assessmentOf}
 use Rattle.intents.specs.Intents.{noIntent, noIntents, intentOf, isIntent, isFree, isKept, isLost, firstTaken, reclaimedIf, unreclaimedIntent}
 use Rattle.files.specs.declared.head.Edition.the-variants.{Current}
@@ -30,7 +33,7 @@ use Rattle.places.specs.declared.Found.the-variants.{At, Nothing}
 use Rattle.places.proofs.Slots.{All, Pairs, Slots, Focus, Room, slots-left, slots-fill, slots-any, slots-chosen, focus, roomFor, pairs-as, all-replicate, fill-length, chosen-length, leftOut-length, missing, found, full, room}
 use Rattle.places.proofs.Sets.{true-false, has-with, with-old, with-new}
 use Rattle.mirroring.proofs.Copies.{MirrorIs, NoMirror, Copies, copies-unblamed, copies-new}
-use Rattle.ledger.specs.Ledger.{Row, newRow, source, sourceFrom, openRules, intentRules, closeRules, repairedRules, opened, hasReclaimed, closed, mended, restarted, ended, reported, lost}
+use Rattle.ledger.specs.Ledger.{Row, newRow, source, unblamedFrom, openRules, intentRules, closeRules, repairedRules, opened, hasReclaimed, closed, mended, restarted, ended, reported, lost}
 use Rattle.ledger.proofs.Relation.{IntentIs, NoIntent, Intents, FileIs, with-intents, with-mark, with-copies, FileAgrees, branch}
 use Rattle.ledger.proofs.Reported.{assessedFile, nothing-changed, file-after-report, whole-status}
 
@@ -183,41 +186,29 @@ pub file-reported : {g : Bool} {f : File} {w : Row} (d : Head) (c : ℕ) (xs : L
 file-reported d c xs ys h = reports-at d c xs ys h (at-intent c h)
 
 -- ---- the source
-abbrev sourceFromAt : ℕ → Found → ℕ
-sourceFromAt k Nothing = 255
-sourceFromAt k (At i) = k + i
-
-source-step : (k : ℕ) (o : Found) → sourceFromAt k (bump o) ≡ sourceFromAt (suc k) o
-source-step k (At i) = omega arith
-source-step k Nothing = refl
-
 -- `b` is whether the first place is blamed
-source-item : {m : Mirror} {d : Device} (ms : List Mirror) (ds : List Device) (k : ℕ) (bs : List ℕ) (b : Bool) → has k bs ≡ b → m .blamed ≡ b → MirrorIs m d
-    → sourceFromAt (suc k) (first isGood ms) ≡ sourceFrom (suc k) ds bs → sourceFromAt k (first isGood (m ∷ ms)) ≡ sourceFrom k (d ∷ ds) bs
-unfolding first sourceFrom
-source-item ms ds k bs true e q r h = rw (e, r .present, q) (source-step k (first isGood ms) ∙ h)
-source-item ms ds k bs false e q r h = rw (e, r .present, q) (omega arith)
+good-item : {m : Mirror} {d : Device} (ms : List Mirror) (ds : List Device) (k : ℕ) (bs : List ℕ) (b : Bool) → has k bs ≡ b → m .blamed ≡ b → MirrorIs m d
+    → goodFrom (suc k) ms ≡ unblamedFrom (suc k) ds bs → goodFrom k (m ∷ ms) ≡ unblamedFrom k (d ∷ ds) bs
+unfolding goodFrom unblamedFrom
+good-item ms ds k bs true e q r h = rw (e, r .present, q) h
+good-item ms ds k bs false e q r h = rw (e, r .present, q) (ap {B = List ℕ} (λ ps. k ∷ ps) h)
 
-source-none : {ms : List Mirror} → All NoMirror ms → first isGood ms ≡ Nothing
-unfolding first
-source-none All.all-nil = refl
-source-none (All.all-cons h t) = rw (h, source-none t)
+good-none : {ms : List Mirror} (k : ℕ) → All NoMirror ms → goodFrom k ms ≡ []
+unfolding goodFrom
+good-none k All.all-nil = refl
+good-none k (All.all-cons h t) = rw h (good-none (suc k) t)
 
-source-from : {ms : List Mirror} {ds : List Device} (k : ℕ) (bs : List ℕ) → Slots MirrorIs NoMirror ms ds → ((i : ℕ) → i < length ms → getD ms i noMirror .blamed ≡ has (k + i) bs)
-    → sourceFromAt k (first isGood ms) ≡ sourceFrom k ds bs
-unfolding sourceFrom
-source-from k bs (Slots.rest h) f = rw (source-none h)
-source-from k bs (Slots.item {xs = ms} {ys = ds} r s) f =
-    source-item ms ds k bs (has k bs) refl (f 0 (omega arith) ∙ ap (λ j. has j bs) (omega arith)) r (source-from (suc k) bs s (λ i p. f (suc i) (omega arith) ∙ ap (λ j. has j bs) (omega arith)))
+good-from : {ms : List Mirror} {ds : List Device} (k : ℕ) (bs : List ℕ) → Slots MirrorIs NoMirror ms ds → ((i : ℕ) → i < length ms → getD ms i noMirror .blamed ≡ has (k + i) bs)
+    → goodFrom k ms ≡ unblamedFrom k ds bs
+unfolding unblamedFrom
+good-from k bs (Slots.rest h) f = good-none k h
+good-from k bs (Slots.item {xs = ms} {ys = ds} r s) f =
+    good-item ms ds k bs (has k bs) refl (f 0 (omega arith) ∙ ap (λ j. has j bs) (omega arith)) r (good-from (suc k) bs s (λ i p. f (suc i) (omega arith) ∙ ap (λ j. has j bs) (omega arith)))
 
-zero-at : (o : Found) → placeOr 255 o ≡ sourceFromAt 0 o
-zero-at (At i) = omega arith
-zero-at Nothing = refl
-
-pub file-source : (g : Bool) (f : File) (w : Row) → FileIs g f w → sourceOf f ≡ source w
+pub file-source : (d : Direction) (g : Bool) (f : File) (w : Row) → FileIs g f w → sourceOf d f ≡ source d w
 unfolding sourceOf sourceIn
-file-source g f w h =
-    zero-at (first isGood (f .mirrors)) ∙ source-from 0 (w .blamed) (h .copies .mirrors) (λ i p. h .copies .blame i p ∙ ap (λ j. has j (w .blamed)) (omega arith))
+file-source d g f w h =
+    ap (firstBy d) (good-from 0 (w .blamed) (h .copies .mirrors) (λ i p. h .copies .blame i p ∙ ap (λ j. has j (w .blamed)) (omega arith)))
 
 -- ---- a new file
 pub file-new : (n : ℕ) (ds : List Device) → length ds ≤ 4 → FileIs false (fileOf n (placedMirrors ds)) (newRow n ds)

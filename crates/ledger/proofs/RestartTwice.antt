@@ -27,6 +27,7 @@ use Rattle.files.specs.declared.head.Edition.{Edition}
 use Rattle.files.specs.declared.head.Edition.the-variants.{Current, Old}
 use Rattle.recovery.specs.Calls.{Call, register, opening, reclaim, close, repaired, forget, endGrace, restart, layoutReturn, listing, replied, lend}
 use Rattle.recovery.specs.declared.listing.Listing.the-variants.{Resilver}
+use Rattle.mirroring.specs.declared.source.Direction.the-variants.{Highest}
 use Rattle.recovery.specs.Record.{freshAs, endOf}
 use Rattle.recovery.specs.declared.record.Record.{Record}
 use Rattle.ledger.specs.Ledger.{Row, Ledger, noRows, isRow, newRow, registered, rowOf, isOpen, numbers, isOn, rowsOn, intentRules, reportRules, closeRules, repairedRules, lost, hasReclaimed, closed, mended, restarted, ended, reported, errorsOf, onRow, judge, judgeRequest, apply, accepted, feed}
@@ -136,7 +137,7 @@ step-side o (layoutReturn n c s d) {ws} {vs} k h = by (ltb (length d) 24)
     by : (b : Bool) → Side (feed (inGrace o ws) (layoutReturn n c s d) (cond b (replied 28 noTotals d) (judgeRequest (inGrace o ws) n c s d (requestOf s)))) (feed (inGrace o vs) (layoutReturn n c s d) (cond b (replied 28 noTotals d) (judgeRequest (inGrace o vs) n c s d (requestOf s))))
     by true = side h
     by false = return-side o n c s d (requestOf s) refl h
-step-side o (listing which a b) {ws} {vs} k h = rw (lend-changes-nothing _ _ a b, lend-changes-nothing _ _ a b) (side h)
+step-side o (listing which by a b) {ws} {vs} k h = rw (lend-changes-nothing _ _ a b, lend-changes-nothing _ _ a b) (side h)
 
 -- ---- the calls up to the end
 ledger-is : (l : Ledger) {o : Edition} → l .edition ≡ o → l .grace ≡ true → l ≡ inGrace o (l .rows)
@@ -283,10 +284,10 @@ listed-files ns ss a b h k = rw (le-leb (length ns) (length a) h, le-leb (length
 
 resilver-files : (ed : Edition) (calls : List Call) → resilverFiles ed calls ≡ numbers (rowsOn Resilver (ledgerOf ed calls))
 unfolding judge
-resilver-files ed calls = ap filesOf (history ed calls .listings Resilver (replicate 64 0) (replicate 64 0)) ∙ listed-files (numbers (rowsOn Resilver (ledgerOf ed calls))) _ (replicate 64 0) (replicate 64 0) (few-files ed calls) (few-files ed calls)
+resilver-files ed calls = ap filesOf (history ed calls .listings Resilver Highest (replicate 64 0) (replicate 64 0)) ∙ listed-files (numbers (rowsOn Resilver (ledgerOf ed calls))) _ (replicate 64 0) (replicate 64 0) (few-files ed calls) (few-files ed calls)
 
 is-listed : (ed : Edition) (calls : List Call) (n : ℕ) → has n (resilverFiles ed calls) ≡ rowPasses (isOn Resilver) n (ledgerOf ed calls)
-is-listed ed calls n = ap (has n) (resilver-files ed calls) ∙ history ed calls .lists Resilver .is .exactly n
+is-listed ed calls n = ap (has n) (resilver-files ed calls) ∙ history ed calls .lists Resilver Highest .is .exactly n
 
 both-true : (b : Bool) {p q : Bool} → (p ≡ true → q ≡ true) → cond b p false ≡ true → cond b q false ≡ true
 both-true true f e = f e

@@ -1,5 +1,5 @@
--- The ledger's lists are the lists that the paper's sentences mean, and there is no other. In this order: what is chosen of rising rows; the source; two
--- rising lists of the same numbers; one list.
+-- The ledger's lists are the lists that the paper's sentences mean, and there is no other. In this order: what is chosen of rising rows; two rising lists
+-- of the same numbers; the source; one list.
 use mathlib.Core.Path.{_≡_, refl, ap, ap₂, sym, _∙_}
 use mathlib.Core.List.{List, [], _∷_}
 use mathlib.Core.Bool.{Bool, true, false, cond}
@@ -11,10 +11,13 @@ use lib.Dec.{eqb, ltb}
 use borrow.Author.Tests.{eqb-true, eq-eqb, ne-eqb, ltb-true, ltb-false}
 use Rattle.reports.specs.Device.{Device}
 use Rattle.places.specs.Lists.{any, chosen, has, firstOr, Above, Rising}
-use Rattle.places.proofs.Slots.{All}
+use Rattle.places.proofs.Slots.{All, all-as}
 use Rattle.places.proofs.Sets.{true-false}
-use Rattle.ledger.specs.Ledger.{Row, Ledger, isRow, newRow, registered, rowOf, numbers, sources, sourceFrom, source}
-use Rattle.ledger.specs.Lists.{IsSource, lowest, nowhere, Sources, sources-nil, sources-cons, rowPasses, IsList, OneList}
+use Rattle.mirroring.specs.Direction.{headOr, lastOr, firstBy}
+use Rattle.mirroring.specs.declared.source.Direction.{Direction}
+use Rattle.mirroring.specs.declared.source.Direction.the-variants.{Lowest, Highest}
+use Rattle.ledger.specs.Ledger.{Row, Ledger, isRow, newRow, registered, rowOf, numbers, sources, unblamedFrom, source}
+use Rattle.ledger.specs.Lists.{Nearer, IsSource, foremost, nowhere, Sources, sources-nil, sources-cons, rowPasses, IsList, OneList}
 
 -- ---- what is chosen of rising rows
 above-has-not : (n : ℕ) (ns : List ℕ) → Above n ns → has n ns ≡ false
@@ -56,58 +59,10 @@ module _ (q : Row → Bool) where
   exact n d [] h = refl
   exact n d (w ∷ ws) h = exact-item n d w ws (eqb (w .number) n) refl (h .0) (q w) refl (exact n d ws (h .1))
 
--- ---- the source
-data From (k : ℕ) (ds : List Device) (bs : List ℕ) (s : ℕ) : Type 0 where
-  at : (j : ℕ) → s ≡ k + j → j < length ds → has s bs ≡ false → ((i : ℕ) → i < j → has (k + i) bs ≡ true) → From k ds bs s
-  no-place : s ≡ 255 → ((i : ℕ) → i < length ds → has (k + i) bs ≡ true) → From k ds bs s
-
--- the places from k on are blamed as far as n, if k is and those from suc k on are as far as pred n
-one-more : (k n : ℕ) (bs : List ℕ) → has k bs ≡ true → ((i : ℕ) → i < n → has (suc k + i) bs ≡ true) → (i : ℕ) → i < suc n → has (k + i) bs ≡ true
-one-more k n bs e h zero p = ap (λ j. has j bs) (omega arith) ∙ e
-one-more k n bs e h (suc i) p = ap (λ j. has j bs) (omega arith) ∙ h i (omega arith)
-
-from-next : {k : ℕ} {ds : List Device} {bs : List ℕ} {s : ℕ} (d : Device) → has k bs ≡ true → From (suc k) ds bs s → From k (d ∷ ds) bs s
-from-next {k} {ds} {bs} d e (at j p q f g) = at (suc j) (omega arith) (omega arith) f (one-more k j bs e g)
-from-next {k} {ds} {bs} d e (no-place p g) = no-place p (one-more k (length ds) bs e g)
-
-from-item : (k : ℕ) (d : Device) (ds : List Device) (bs : List ℕ) (b : Bool) → has k bs ≡ b → From (suc k) ds bs (sourceFrom (suc k) ds bs) → From k (d ∷ ds) bs (cond b (sourceFrom (suc k) ds bs) k)
-from-item k d ds bs true e h = from-next d e h
-from-item k d ds bs false e h = at 0 (omega arith) (omega arith) e (λ i p. absurd (omega arith))
-
-source-from-is : (k : ℕ) (ds : List Device) (bs : List ℕ) → From k ds bs (sourceFrom k ds bs)
-unfolding sourceFrom
-source-from-is k [] bs = no-place refl (λ i p. absurd (omega arith))
-source-from-is k (d ∷ ds) bs = from-item k d ds bs (has k bs) refl (source-from-is (suc k) ds bs)
-
-from-zero : {w : Row} {s : ℕ} → From 0 (w .mirrors) (w .blamed) s → IsSource w s
-from-zero {w} {s} (at j p q f g) = lowest (omega arith) f (λ i h. ap (λ j. has j (w .blamed)) (omega arith) ∙ g i (omega arith))
-from-zero {w} (no-place p g) = nowhere p (λ i h. ap (λ j. has j (w .blamed)) (omega arith) ∙ g i h)
-
-source-is : (w : Row) → IsSource w (source w)
-source-is w = from-zero (source-from-is 0 (w .mirrors) (w .blamed))
-
--- a row has one source only
+-- ---- two rising lists of the same numbers are the same
 clash : {A : Type 0} (b : Bool) → b ≡ true → b ≡ false → A
 clash b p q = true-false (sym p ∙ q)
 
-not-lower : (w : Row) (s t : ℕ) → has s (w .blamed) ≡ false → ((i : ℕ) → i < t → has i (w .blamed) ≡ true) → t ≤ s
-not-lower w s t f g = by (ltb s t) refl
-  where
-    by : (b : Bool) → ltb s t ≡ b → t ≤ s
-    by true e = clash (has s (w .blamed)) (g s (ltb-true s t e)) f
-    by false e = ltb-false s t e
-
-one-source : {w : Row} {s t : ℕ} → IsSource w s → IsSource w t → s ≡ t
-one-source {w} {s} {t} (lowest a f g) (lowest b h k) = omega (arith, not-lower w s t f k, not-lower w t s h g)
-one-source {w} {s} {t} (lowest a f g) (nowhere e k) = clash (has s (w .blamed)) (k s a) f
-one-source {w} {s} {t} (nowhere e k) (lowest a f g) = clash (has t (w .blamed)) (k t a) f
-one-source (nowhere e k) (nowhere f h) = e ∙ sym f
-
-same-sources : {l : Ledger} {ns ss ts : List ℕ} → Sources l ns ss → Sources l ns ts → ss ≡ ts
-same-sources sources-nil sources-nil = refl
-same-sources (sources-cons a s) (sources-cons b t) = ap₂ {C = List ℕ} (λ x y. x ∷ y) (one-source a b) (same-sources s t)
-
--- ---- two rising lists of the same numbers are the same
 above-member : (b n : ℕ) (ns : List ℕ) → Above b ns → has n ns ≡ true → b < n
 unfolding has any
 above-member b n [] a e = true-false (sym e)
@@ -151,6 +106,124 @@ rising-same (a ∷ xs) (b ∷ ys) r s f =
     let k : (n : ℕ) → has n (a ∷ xs) ≡ has n (a ∷ ys) = λ n. f n ∙ ap (λ m. has n (m ∷ ys)) (sym e) in
     ap₂ {C = List ℕ} (λ x y. x ∷ y) e (rising-same xs ys (r .1) (s .1) (same-rest a xs ys (r .0) (rw (sym e) at (s .0)) k))
 
+-- ---- the source
+-- p is a place not blamed, if the list's first is k
+record Free (k : ℕ) (ds : List Device) (bs : List ℕ) (p : ℕ) : Type 0 where
+  pub from : k ≤ p
+  pub below : p < k + length ds
+  pub free : has p bs ≡ false
+
+free-next : {k : ℕ} {ds : List Device} {bs : List ℕ} (d : Device) (p : ℕ) → Free (suc k) ds bs p → Free k (d ∷ ds) bs p
+free-next d p h = record { from = omega (arith, h .from); below = omega (arith, h .below); free = h .free }
+
+-- each of the places is one
+all-free : (k : ℕ) (ds : List Device) (bs : List ℕ) → All (Free k ds bs) (unblamedFrom k ds bs)
+unfolding unblamedFrom
+all-free k [] bs = All.all-nil
+all-free k (d ∷ ds) bs = by (has k bs) refl (all-as (free-next d) (all-free (suc k) ds bs))
+  where
+    by : (b : Bool) → has k bs ≡ b → All (Free k (d ∷ ds) bs) (unblamedFrom (suc k) ds bs) → All (Free k (d ∷ ds) bs) (cond b (unblamedFrom (suc k) ds bs) (k ∷ unblamedFrom (suc k) ds bs))
+    by true e h = h
+    by false e h = All.all-cons {x = k} (record { from = omega arith; below = omega arith; free = e }) h
+
+-- they rise
+above-free : {k : ℕ} {ds : List Device} {bs ps : List ℕ} (j : ℕ) → j < k → All (Free k ds bs) ps → Above j ps
+above-free j h All.all-nil = tt
+above-free j h (All.all-cons z t) = (omega (arith, h, z .from), above-free j h t)
+
+rising-free : (k : ℕ) (ds : List Device) (bs : List ℕ) → Rising (unblamedFrom k ds bs)
+unfolding unblamedFrom
+rising-free k [] bs = tt
+rising-free k (d ∷ ds) bs = by (has k bs) (rising-free (suc k) ds bs)
+  where
+    by : (b : Bool) → Rising (unblamedFrom (suc k) ds bs) → Rising (cond b (unblamedFrom (suc k) ds bs) (k ∷ unblamedFrom (suc k) ds bs))
+    by true h = h
+    by false h = (above-free k (omega arith) (all-free (suc k) ds bs), h)
+
+-- and no place is left out
+has-more : (i k : ℕ) (ps : List ℕ) → has i ps ≡ true → has i (k ∷ ps) ≡ true
+unfolding has any
+has-more i k ps h = by (eqb k i)
+  where
+    by : (c : Bool) → cond c true (any (λ x. eqb x i) ps) ≡ true
+    by true = refl
+    by false = h
+
+none-left : (k i : ℕ) (ds : List Device) (bs : List ℕ) → Free k ds bs i → has i (unblamedFrom k ds bs) ≡ true
+unfolding unblamedFrom
+none-left k i [] bs h = absurd (omega (arith, h .from, h .below))
+none-left k i (d ∷ ds) bs h = by (ℕ-discrete i k) (has k bs) refl (λ n. none-left (suc k) i ds bs (record { from = omega (arith, n, h .from); below = omega (arith, h .below); free = h .free }))
+  where
+    by : Dec (i ≡ k) → (b : Bool) → has k bs ≡ b → ((i ≡ k → ⊥) → has i (unblamedFrom (suc k) ds bs) ≡ true) → has i (cond b (unblamedFrom (suc k) ds bs) (k ∷ unblamedFrom (suc k) ds bs)) ≡ true
+    by (yes e) true q f = clash (has k bs) q (ap (λ j. has j bs) (sym e) ∙ h .free)
+    by (yes e) false q f = rw e (has-first k (unblamedFrom (suc k) ds bs))
+    by (no n) true q f = f n
+    by (no n) false q f = has-more i k (unblamedFrom (suc k) ds bs) (f n)
+
+-- the last of a rising list is one of it, and none is greater
+last-of : {P : ℕ → Type 0} (p : ℕ) (ps : List ℕ) → P p → All P ps → P (lastOr p ps)
+unfolding lastOr
+last-of p [] h t = h
+last-of p (q ∷ ps) h (All.all-cons z t) = last-of q ps z t
+
+last-greatest : (p i : ℕ) (ps : List ℕ) → Rising (p ∷ ps) → has i (p ∷ ps) ≡ true → i ≤ lastOr p ps
+unfolding lastOr has any
+last-greatest p i [] h e = by (eqb p i) refl e
+  where
+    by : (c : Bool) → eqb p i ≡ c → cond c true false ≡ true → i ≤ p
+    by true z q = omega (arith, eqb-true p i z)
+    by false z q = true-false (sym q)
+last-greatest p i (r ∷ ps) h e = by (eqb p i) refl e (last-greatest r i ps (h .1)) (last-greatest r r ps (h .1) (has-first r ps))
+  where
+    by : (c : Bool) → eqb p i ≡ c → cond c true (any (λ x. eqb x i) (r ∷ ps)) ≡ true → (has i (r ∷ ps) ≡ true → i ≤ lastOr r ps) → r ≤ lastOr r ps → i ≤ lastOr r ps
+    by true z q f g = omega (arith, eqb-true p i z, h .0 .0, g)
+    by false z q f g = f q
+
+-- every place but those of the list is blamed
+module _ (w : Row) where
+  abbrev places : List ℕ
+  places = unblamedFrom 0 (w .mirrors) (w .blamed)
+
+  blamed-but : (i : ℕ) → i < length (w .mirrors) → (has i places ≡ true → ⊥) → has i (w .blamed) ≡ true
+  blamed-but i h f = by (has i (w .blamed)) refl
+    where
+      by : (b : Bool) → has i (w .blamed) ≡ b → b ≡ true
+      by true e = refl
+      by false e = absurd (f (none-left 0 i (w .mirrors) (w .blamed) (record { from = omega arith; below = omega (arith, h); free = e })))
+
+  source-by : (d : Direction) (ps : List ℕ) → places ≡ ps → All (Free 0 (w .mirrors) (w .blamed)) ps → Rising ps → IsSource d w (firstBy d ps)
+  unfolding firstBy headOr lastOr has any
+  source-by Lowest [] e h r = nowhere refl (λ i k. blamed-but i k (λ z. true-false (sym (rw e at z))))
+  source-by Highest [] e h r = nowhere refl (λ i k. blamed-but i k (λ z. true-false (sym (rw e at z))))
+  source-by Lowest (p ∷ ps) e (All.all-cons z t) r =
+      foremost (omega (arith, z .below)) (z .free) (λ i k n. blamed-but i k (λ y. let q = first-least i p ps (r .0) (rw e at y) in omega (arith, n, q)))
+  source-by Highest (p ∷ ps) e (All.all-cons z t) r =
+      let y = last-of p ps z t in foremost (omega (arith, y .below)) (y .free) (λ i k n. blamed-but i k (λ x. let q = last-greatest p i ps r (rw e at x) in omega (arith, n, q)))
+
+  source-is : (d : Direction) → IsSource d w (source d w)
+  source-is d = source-by d places refl (all-free 0 (w .mirrors) (w .blamed)) (rising-free 0 (w .mirrors) (w .blamed))
+
+-- a row has one source only
+not-nearer : (d : Direction) (s t : ℕ) → (Nearer d s t → ⊥) → (Nearer d t s → ⊥) → s ≡ t
+not-nearer d s t f g = by d (ltb s t) refl (ltb t s) refl f g
+  where
+    by : (d : Direction) (a : Bool) → ltb s t ≡ a → (b : Bool) → ltb t s ≡ b → (Nearer d s t → ⊥) → (Nearer d t s → ⊥) → s ≡ t
+    by Lowest true e b q f g = absurd (f (ltb-true s t e))
+    by Lowest false e true q f g = absurd (g (ltb-true t s q))
+    by Highest true e b q f g = absurd (g (ltb-true s t e))
+    by Highest false e true q f g = absurd (f (ltb-true t s q))
+    by d false e false q f g = omega (arith, ltb-false s t e, ltb-false t s q)
+
+one-source : {d : Direction} {w : Row} {s t : ℕ} → IsSource d w s → IsSource d w t → s ≡ t
+one-source {d} {w} {s} {t} (foremost a f g) (foremost b h k) = not-nearer d s t (λ n. clash (has s (w .blamed)) (k s a n) f) (λ n. clash (has t (w .blamed)) (g t b n) h)
+one-source {d} {w} {s} {t} (foremost a f g) (nowhere e k) = clash (has s (w .blamed)) (k s a) f
+one-source {d} {w} {s} {t} (nowhere e k) (foremost a f g) = clash (has t (w .blamed)) (k t a) f
+one-source (nowhere e k) (nowhere f h) = e ∙ sym f
+
+same-sources : {d : Direction} {l : Ledger} {ns ss ts : List ℕ} → Sources d l ns ss → Sources d l ns ts → ss ≡ ts
+same-sources sources-nil sources-nil = refl
+same-sources (sources-cons a s) (sources-cons b t) = ap₂ {C = List ℕ} (λ x y. x ∷ y) (one-source a b) (same-sources s t)
+
 -- ---- one list: the row of a row's number is that row
 abbrev Own : List Row → Row → Type 0
 Own us w = firstOr (isRow (w .number)) (newRow (w .number) []) us ≡ w
@@ -174,15 +247,15 @@ all-chosen {P} q (All.all-cons {x = w} {xs = ws} e k) = by (q w) (all-chosen q k
     by true s = All.all-cons e s
     by false s = s
 
-own-sources : (l : Ledger) {ws : List Row} → All (Own (l .rows)) ws → Sources l (numbers ws) (sources ws)
+own-sources : (d : Direction) (l : Ledger) {ws : List Row} → All (Own (l .rows)) ws → Sources d l (numbers ws) (sources d ws)
 unfolding rowOf
-own-sources l All.all-nil = sources-nil
-own-sources l (All.all-cons {x = w} e k) = sources-cons {n = w .number} {s = source w} (rw e (source-is w)) (own-sources l k)
+own-sources d l All.all-nil = sources-nil
+own-sources d l (All.all-cons {x = w} e k) = sources-cons {n = w .number} {s = source d w} (rw e (source-is w d)) (own-sources d l k)
 
-pub one-list : (q : Row → Bool) (l : Ledger) → Rising (numbers (l .rows)) → OneList q l (chosen q (l .rows))
+pub one-list : (d : Direction) (q : Row → Bool) (l : Ledger) → Rising (numbers (l .rows)) → OneList d q l (chosen q (l .rows))
 unfolding registered rowOf
-one-list q l h =
-    let each = own-sources l (all-chosen q (own-rows (l .rows) h)) in
+one-list d q l h =
+    let each = own-sources d l (all-chosen q (own-rows (l .rows) h)) in
     let exactly : (n : ℕ) → has n (numbers (chosen q (l .rows))) ≡ rowPasses q n l = λ n. exact q n (newRow n []) (l .rows) h in
     record {
       is = record { rising = rising-chosen q (l .rows) h; exactly = exactly; each = each };

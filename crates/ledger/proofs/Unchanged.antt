@@ -162,7 +162,7 @@ refused-unchanged r (forget n) h = as-before r _ (forgetting (forgettable n (r .
 refused-unchanged r endGrace h = as-before r _ (either (r .head .grace) (accepts-all r _) (refuses-all r 10033)) h
 refused-unchanged r restart h = true-false h
 refused-unchanged r (layoutReturn n c s d) h = return-by n c s (replyAfter n c s d r) r (decisionOf (r .head) s (length d)) h
-refused-unchanged r (listing k a b) h = refl
+refused-unchanged r (listing k e a b) h = refl
 
 -- ---- open where the intent is held
 both : (a b : Bool) → cond a b false ≡ true → (a ≡ true) × (b ≡ true)

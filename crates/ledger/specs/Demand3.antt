@@ -5,6 +5,7 @@ use Prim.Native.Nat.{ℕ}
 use Rattle.statuses.specs.Names.{FileNumber}
 use Rattle.files.specs.declared.head.Edition.{Edition}
 use Rattle.files.specs.Head.{editionOf}
+use Rattle.mirroring.specs.declared.source.Direction.{Direction}
 use Rattle.recovery.specs.Calls.{Call, listing}
 use Rattle.recovery.specs.declared.listing.Listing.{Listing}
 use Rattle.ledger.specs.Ledger.{Ledger, noRows, judge, isOn, rowsOn}
@@ -21,8 +22,8 @@ ledgerOf e calls = ledgerAfter (noRows e) calls (answers (freshAs e) calls)
 -- set up with
 pub record Holds (e : Edition) (calls : List Call) : Type 0 where
   pub answered : answers (freshAs e) calls ≡ verdicts (noRows e) calls (answers (freshAs e) calls)
-  pub listings : (which : Listing) (a : List FileNumber) (b : List ℕ) → listingOf which (recordAfter (freshAs e) calls) a b ≡ judge (ledgerOf e calls) (listing which a b)
-  pub lists : (which : Listing) → OneList (isOn which) (ledgerOf e calls) (rowsOn which (ledgerOf e calls))
+  pub listings : (which : Listing) (by : Direction) (a : List FileNumber) (b : List ℕ) → listingOf which by (recordAfter (freshAs e) calls) a b ≡ judge (ledgerOf e calls) (listing which by a b)
+  pub lists : (which : Listing) (by : Direction) → OneList by (isOn which) (ledgerOf e calls) (rowsOn which (ledgerOf e calls))
   pub edition : editionOf (recordAfter (freshAs e) calls .head) ≡ e
 
 abbrev pub Demand3 : Type 0

@@ -33,7 +33,7 @@ step r (forget n) = stepOf (forgetOf n r)
 step r endGrace = stepOf (endOf r)
 step r restart = stepOf (restartOf r)
 step r (layoutReturn n c s d) = returnStep (layoutreturnOf n c s d r) (replyAfter n c s d r)
-step r (listing k a b) = record { answer = listingOf k r a b; after = r }
+step r (listing k e a b) = record { answer = listingOf k e r a b; after = r }
 
 -- ---- a history
 -- the record's answers, in order, and the record after all calls

@@ -18,7 +18,9 @@ use Rattle.wire.specs.declared.request.Request.the-variants as request
 use Rattle.places.specs.Lists.{any, chosen, has, with, none, amend, discard, firstOr}
 use Rattle.mirroring.specs.Devices.{deviceOf, mirrorsIn, isMirror, placeOf, badMirrors}
 use Rattle.mirroring.specs.Totals.{totalsOf, noTotals}
+use Rattle.mirroring.specs.Direction.{firstBy}
 use Rattle.mirroring.specs.declared.totals.Totals.{Totals}
+use Rattle.mirroring.specs.declared.source.Direction.{Direction}
 use Rattle.files.specs.Head.{isOld}
 use Rattle.files.specs.declared.head.Edition.{Edition}
 use Rattle.recovery.specs.Calls.{Call, register, opening, reclaim, close, repaired, forget, endGrace, restart, layoutReturn, listing, Answer, said, replied, handedOn, listed, lend}
@@ -102,13 +104,14 @@ reclaimedBy c w = has c (w .reclaimed)
 abbrev pub lost : Row → Bool
 lost w = any (λ c. not (reclaimedBy c w)) (w .intents)
 
--- the lowest place not blamed, if the list's first is k, or 255
-unfoldable pub sourceFrom : ℕ → List Device → List ℕ → ℕ
-sourceFrom k [] bs = 255
-sourceFrom k (d ∷ ds) bs = cond (has k bs) (sourceFrom (suc k) ds bs) k
+-- the places not blamed, if the list's first is k
+unfoldable pub unblamedFrom : ℕ → List Device → List ℕ → List ℕ
+unblamedFrom k [] bs = []
+unblamedFrom k (d ∷ ds) bs = cond (has k bs) (unblamedFrom (suc k) ds bs) (k ∷ unblamedFrom (suc k) ds bs)
 
-abbrev pub source : Row → ℕ
-source w = sourceFrom 0 (w .mirrors) (w .blamed)
+-- the first of them by the direction that is asked for, or 255 (02, Ticket 11)
+abbrev pub source : Direction → Row → ℕ
+source d w = firstBy d (unblamedFrom 0 (w .mirrors) (w .blamed))
 
 -- ---- the rules of refusal, of which the first that applies decides
 -- what each call says of the row of its file; g is whether in grace
@@ -139,11 +142,11 @@ rowsOn k l = chosen (isOn k) (l .rows)
 abbrev pub numbers : List Row → List FileNumber
 numbers ws = map (λ w. w .number) ws
 
-abbrev pub sources : List Row → List ℕ
-sources ws = map source ws
+abbrev pub sources : Direction → List Row → List ℕ
+sources d ws = map (source d) ws
 
-abbrev pub listOf : List Row → List FileNumber → List ℕ → Answer
-listOf ws a b = lend (numbers ws) (sources ws) a b
+abbrev pub listOf : Direction → List Row → List FileNumber → List ℕ → Answer
+listOf d ws a b = lend (numbers ws) (sources d ws) a b
 
 -- ---- LAYOUTRETURN
 -- the totals of a report, by mirror (Rules 3.11); none if a named device is no mirror
@@ -191,7 +194,7 @@ judge l (forget n) = said (refused (l .grace ⇒ 10013 ∷ not (registered n l) 
 judge l endGrace = said (refused (not (l .grace) ⇒ 10033 ∷ []))
 judge l restart = said 0
 judge l (layoutReturn n c s d) = firstOf (ltb (length d) 24 ⇒ replied 28 noTotals d ∷ []) (judgeRequest l n c s d (requestOf s))
-judge l (listing k a b) = listOf (rowsOn k l) a b
+judge l (listing k e a b) = listOf e (rowsOn k l) a b
 
 -- ---- rows as calls change them
 abbrev pub opened : Client → Row → Row
@@ -252,7 +255,7 @@ apply l (forget n) = withRows (discard (isRow n) (l .rows)) l
 apply l endGrace = withGrace false (withRows (map ended (l .rows)) l)
 apply l restart = withGrace true (withRows (map restarted (l .rows)) l)
 apply l (layoutReturn n c s d) = onRow l n (reported (l .edition) (errorsOf (reportOf (bodyOf s))))
-apply l (listing k a b) = l
+apply l (listing k e a b) = l
 
 -- a call that is refused or handed on, and a listing, change nothing
 abbrev pub accepted : Answer → Bool

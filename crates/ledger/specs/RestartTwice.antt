@@ -13,6 +13,7 @@ use Rattle.mirroring.specs.Mirrors.{noMirror}
 use Rattle.files.specs.File.{isFile}
 use Rattle.recovery.specs.Record.{freshAs, fileAt, listingOf}
 use Rattle.recovery.specs.declared.listing.Listing.the-variants.{Resilver}
+use Rattle.mirroring.specs.declared.source.Direction.the-variants.{Highest}
 use Rattle.recovery.specs.declared.record.Record.{Record}
 use Rattle.ledger.specs.Ledger.{Row, rowOf, isOpen}
 use Rattle.ledger.specs.History.{step, recordAfter}
@@ -30,9 +31,9 @@ filesOf (replied s t d) = []
 filesOf (handedOn t d) = []
 filesOf (listed s count a b) = take count a
 
--- the files that the record's resilver list gives after some calls; it is lent room for 64, and a record has no more
+-- the files that the record's resilver list gives after some calls, whatever the direction; it is lent room for 64, and a record has no more
 abbrev pub resilverFiles : Edition → List Call → List FileNumber
-resilverFiles e calls = filesOf (listingOf Resilver (recordAfter (freshAs e) calls) (replicate 64 0) (replicate 64 0))
+resilverFiles e calls = filesOf (listingOf Resilver Highest (recordAfter (freshAs e) calls) (replicate 64 0) (replicate 64 0))
 
 -- the row of a file after some calls
 abbrev pub rowAfter : Edition → FileNumber → List Call → Row

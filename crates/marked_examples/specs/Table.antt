@@ -13,6 +13,7 @@ use Rattle.layouts.specs.Layout.{checkBody}
 use Rattle.mirroring.specs.Totals.{noTotals}
 use Rattle.recovery.specs.Calls.{Call, register, opening, reclaim, close, endGrace, restart, layoutReturn, listing, Answer, said, replied, listed}
 use Rattle.recovery.specs.declared.listing.Listing.the-variants.{Resilver, Offered}
+use Rattle.mirroring.specs.declared.source.Direction.the-variants.{Lowest}
 use Rattle.ledger.specs.Ledger.{Ledger, noRows, judge, feed}
 use Rattle.files.specs.declared.head.Edition.the-variants.{Current}
 use Rattle.recovery.specs.Record.{fresh}
@@ -69,10 +70,10 @@ reports device = layoutReturn 7 1 (request device) (replicate 24 255)
 
 -- the listings, lent two places each
 abbrev pub list : Call
-list = listing Resilver (0 ∷ 0 ∷ []) (9 ∷ 9 ∷ [])
+list = listing Resilver Lowest (0 ∷ 0 ∷ []) (9 ∷ 9 ∷ [])
 
 abbrev pub offers : Call
-offers = listing Offered (0 ∷ 0 ∷ []) (9 ∷ 9 ∷ [])
+offers = listing Offered Lowest (0 ∷ 0 ∷ []) (9 ∷ 9 ∷ [])
 
 -- what the record's definitions answer to a list of calls, and what the ledger says, fed with its own answers
 abbrev pub byRecord : List Call → List Answer

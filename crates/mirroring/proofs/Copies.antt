@@ -1,5 +1,5 @@
 -- A file's places for mirrors beside a list of devices and of blamed places, in this order: how they go together; a device and its place; blame of one
--- place; repair; a new file's places; the source.
+-- place; repair; a new file's places.
 use mathlib.Core.Path.{_≡_, refl, ap, sym, _∙_}
 use mathlib.Core.List.{List, [], _∷_, map}
 use mathlib.Core.Bool.{Bool, true, false, not, cond}
@@ -11,10 +11,10 @@ use lib.Dec.{eqb}
 use lib.Seq.{getD-set-same, getD-set-other}
 use borrow.Author.Tests.{eq-eqb, ne-eqb}
 use Rattle.places.specs.Lists.{any, has, with, fill}
-use Rattle.places.specs.Places.{bump, first, placeOr}
+use Rattle.places.specs.Places.{bump, first}
 use Rattle.reports.specs.Device.{Device}
 use Rattle.mirroring.specs.Devices.{sameDevice, isMirror, placeOf}
-use Rattle.mirroring.specs.Mirrors.{noMirror, noMirrors, isDevice, isGood, unblamed, blamedIf, blamedAt, mirrorOf, placedMirrors, sourceIn}
+use Rattle.mirroring.specs.Mirrors.{noMirror, noMirrors, isDevice, isGood, unblamed, blamedIf, blamedAt, mirrorOf, placedMirrors}
 use Rattle.mirroring.specs.declared.mirrors.Mirror.{Mirror}
 use Rattle.places.specs.declared.Found.{Found}
 use Rattle.places.specs.declared.Found.the-variants.{At, Nothing}

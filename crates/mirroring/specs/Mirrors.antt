@@ -1,11 +1,10 @@
--- MODEL. A file's four places for mirrors, in this order: one place; tests; changes; the source; the places that a mirror list fills.
+-- MODEL. A file's four places for mirrors, in this order: one place; tests; changes; the places that a mirror list fills.
 use mathlib.Core.List.{List, [], _∷_, map}
 use mathlib.Core.Bool.{Bool, true, false, not, cond}
 use Prim.Native.Nat.{ℕ, _%_}
 use lib.ListN.{replicate}
 use lib.Dec.{eqb, leb}
 use Rattle.places.specs.Lists.{fill}
-use Rattle.places.specs.Places.{first, placeOr}
 use Rattle.reports.specs.Device.{Device}
 use Rattle.mirroring.specs.Devices.{mirrorsIn, badMirrors}
 use Rattle.mirroring.specs.declared.mirrors.Mirror.{Mirror}
@@ -45,10 +44,6 @@ unfoldable pub blamedAt : List ℕ → List Mirror → List Mirror
 blamedAt bs [] = []
 blamedAt [] (m ∷ ms) = m ∷ ms
 blamedAt (b ∷ bs) (m ∷ ms) = blamedIf (eqb b 1) m ∷ blamedAt bs ms
-
--- ---- the source
-unfoldable pub sourceIn : List Mirror → ℕ
-sourceIn ms = placeOr 255 (first isGood ms)
 
 -- ---- a mirror list
 -- whether n bytes are 1 to 4 whole ids

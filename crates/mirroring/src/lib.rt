@@ -2,4 +2,5 @@
 pub mod blame;
 pub mod enrol;
 pub mod mirrors;
+pub mod source;
 pub mod totals;

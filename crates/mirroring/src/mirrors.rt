@@ -1,11 +1,11 @@
 // A file's mirrors (paper 01, "The recovery record"): 1 to 4 devices, by place from 0, and which of them are blamed. First one place, then
-// the four: a device's place, the source to copy from, and the end of all blame.
+// the four: a device's place, blame, and the end of all blame.
 use places::Found;
 ghost use mathlib.Core.Path.{_≡_};
 ghost use mathlib.Core.List.{map};
 ghost use Prim.Native.Nat.{_<_};
 ghost use Rattle.places.specs.Places.{first};
-ghost use Rattle.mirroring.specs.Mirrors.{noMirror, newMirror, isAt, isGood, unblamed, blamedIf, blamedAt, sourceIn};
+ghost use Rattle.mirroring.specs.Mirrors.{noMirror, newMirror, isAt, isGood, unblamed, blamedIf, blamedAt};
 
 // How many places a file has for mirrors.
 pub const PLACES: usize = 4;
@@ -97,31 +97,6 @@ pub(crate) fn place(mirrors: [Mirror; PLACES], high: u64, low: u64) -> Found
         i += 1;
     }
     Found::Nothing
-}
-
-// The lowest place that is not blamed.
-fn lowest(mirrors: [Mirror; PLACES]) -> Found
-    ensures { λ r. ⌜ r ≡ first isGood mirrors ⌝ }
-{
-    let mut i: usize = 0;
-    while i < PLACES {
-        let m = mirrors[i];
-        if m.good() {
-            return Found::At(i);
-        }
-        i += 1;
-    }
-    Found::Nothing
-}
-
-// The place to copy from, or 255.
-pub fn source(mirrors: [Mirror; PLACES]) -> u8
-    ensures { λ r. ⌜ r ≡ sourceIn mirrors ⌝ }
-{
-    match lowest(mirrors) {
-        Found::At(i) => i as u8,
-        Found::Nothing => 255,
-    }
 }
 
 // The mirrors once the file is repaired.

@@ -8,16 +8,17 @@ use lib.Dec.{leb}
 use Rattle.statuses.specs.Names.{Bytes, Status, Client, FileNumber}
 use Rattle.places.specs.Lists.{fill}
 use Rattle.mirroring.specs.declared.totals.Totals.{Totals}
+use Rattle.mirroring.specs.declared.source.Direction.{Direction}
 use Rattle.recovery.specs.declared.listing.Listing.{Listing}
 
--- the mirrors are 16 bytes a device; a listing is told which list is meant, and lent a slice of file numbers and a slice of sources
+-- the mirrors are 16 bytes a device; a listing is told which list is meant and by which direction a source is looked for, and lent a slice of file numbers and a slice of sources
 pub data Call : Type 0 where
   register : (file : FileNumber) (mirrors : Bytes) → Call
   opening reclaim close : (file : FileNumber) (client : Client) → Call
   repaired forget : (file : FileNumber) → Call
   endGrace restart : Call
   layoutReturn : (file : FileNumber) (client : Client) (request reply : Bytes) → Call
-  listing : (which : Listing) (numbers : List FileNumber) (sources : List ℕ) → Call
+  listing : (which : Listing) (direction : Direction) (numbers : List FileNumber) (sources : List ℕ) → Call
 
 -- a LAYOUTRETURN answers a status, or is handed on, with its report's totals by mirror (Rules 3.11) and the reply buffer afterwards; a listing its status, its
 -- count and both slices afterwards

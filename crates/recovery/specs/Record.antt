@@ -17,6 +17,7 @@ use Rattle.files.specs.declared.file.File.{File}
 use Rattle.files.specs.declared.file.FileAnswered.{FileAnswered}
 use Rattle.files.specs.declared.head.Head.{Head}
 use Rattle.mirroring.specs.declared.enrol.Enrolled.{Enrolled}
+use Rattle.mirroring.specs.declared.source.Direction.{Direction}
 use Rattle.recovery.specs.Calls.{Answer, lend}
 use Rattle.recovery.specs.declared.listing.Listing.{Listing}
 use Rattle.recovery.specs.declared.listing.Listing.the-variants.{Resilver, Offered}
@@ -126,5 +127,5 @@ isWanted Offered f = isReady f
 abbrev pub numberOf : File → FileNumber
 numberOf f = f .number
 
-unfoldable pub listingOf : Listing → Record → List FileNumber → List ℕ → Answer
-listingOf k r a b = lend (map numberOf (chosen (isWanted k) (r .files))) (map sourceOf (chosen (isWanted k) (r .files))) a b
+unfoldable pub listingOf : Listing → Direction → Record → List FileNumber → List ℕ → Answer
+listingOf k d r a b = lend (map numberOf (chosen (isWanted k) (r .files))) (map (sourceOf d) (chosen (isWanted k) (r .files))) a b

@@ -2,6 +2,7 @@
 // places it filled; the record stays.
 use crate::record::Record;
 use files::file::File;
+use mirroring::source::Direction;
 ghost use mathlib.Core.Path.{_≡_};
 ghost use lib.ListN.{length};
 ghost use Rattle.places.specs.Lists.{chosen};
@@ -51,9 +52,9 @@ fn counted(files: [File; 64], which: Listing) -> usize
 }
 
 impl Record {
-    // The files of a list, by rising number, with their sources: 28, count 0 and both slices unchanged if either is too short.
-    pub fn list(self, which: Listing, numbers: &mut [u64], sources: &mut [u8]) -> Listed
-        ensures { λ r. ⌜ listed (r .status) (r .count) (now (numbers .exit)) (now (sources .exit)) ≡ listingOf which self (now (numbers .entry)) (now (sources .entry)) ⌝ }
+    // The files of a list, by rising number, with their sources by the direction: 28, count 0 and both slices unchanged if either is too short.
+    pub fn list(self, which: Listing, direction: Direction, numbers: &mut [u64], sources: &mut [u8]) -> Listed
+        ensures { λ r. ⌜ listed (r .status) (r .count) (now (numbers .exit)) (now (sources .exit)) ≡ listingOf which direction self (now (numbers .entry)) (now (sources .entry)) ⌝ }
     {
         let fs = self.files;
         let n = counted(fs, which);
@@ -72,7 +73,7 @@ impl Record {
                 continue;
             }
             numbers[k] = f.number;
-            sources[k] = f.source();
+            sources[k] = f.source(direction);
             k += 1;
         }
         Listed {

@@ -14,10 +14,10 @@ use Rattle.recovery.proofs.record.Record.list.Statement.{statement}
 use Rattle.recovery.proofs.record.Record.list.Tie as tie
 
 abbrev Inv-loop : tie.InvT-loop
-Inv-loop which numbers₀ sources₀ fs n k₀ i₀ numbers sources k i = (k ≤ i) × Counting (isWanted which) fs i k × Filling (isWanted which) numberOf fs i numbers₀ numbers × Filling (isWanted which) sourceOf fs i sources₀ sources
+Inv-loop which direction numbers₀ sources₀ fs n k₀ i₀ numbers sources k i = (k ≤ i) × Counting (isWanted which) fs i k × Filling (isWanted which) numberOf fs i numbers₀ numbers × Filling (isWanted which) (sourceOf direction) fs i sources₀ sources
 
 abbrev μ-loop : tie.MeasureT-loop
-μ-loop which numbers₀ sources₀ fs n k₀ i₀ numbers sources k i = 64 - i
+μ-loop which direction numbers₀ sources₀ fs n k₀ i₀ numbers sources k i = 64 - i
 
 long : (c : tie.Start Inv-loop μ-loop) → length (c .args .self .files) ≡ 64
 long c = search (mapped-length, needs)
@@ -36,7 +36,7 @@ counted-requires c κs = search needs
 returns : tie.Need-returns Inv-loop μ-loop
 returns c =
     let n = c .before .counted .ensures in
-    ⊎-elim (λ w. short-numbers _ _ n (w .taken)) (λ w. short-sources _ _ n (w .0 .left) (ltb-true _ _ (w .1 .taken))) (c .if1 .came)
+    ⊎-elim (λ w. short-numbers _ _ _ n (w .taken)) (λ w. short-sources _ _ _ n (w .0 .left) (ltb-true _ _ (w .1 .taken))) (c .if1 .came)
 
 loop-holds : tie.Need-loop-holds Inv-loop μ-loop
 loop-holds c = (omega arith, counting-none _ _, filling-none _ _ _ _, filling-none _ _ _ _)
@@ -104,7 +104,7 @@ same-length-2 c = filling-length (c .before .loop .inv .3)
 
 returns-2 : tie.Need-returns-2 Inv-loop μ-loop
 returns-2 c = let h : length (c .before .before .before .before .before .before .before .before .args .self .files) ≤ c .before .loop .i = omega (arith, long (c .before .before .before .before .before .before .before .before)) in
-    both-filled _ _ (c .before .before .before .before .counted .ensures) _ _ (c .before .before .before .if1 .left) (enough (c .before .before)) (filled (c .before .loop .inv .2) h) (filled (c .before .loop .inv .3) h)
+    both-filled _ _ _ (c .before .before .before .before .counted .ensures) _ _ (c .before .before .before .if1 .left) (enough (c .before .before)) (filled (c .before .loop .inv .2) h) (filled (c .before .loop .inv .3) h)
 
 pub list-spec : {M : Type 1} → statement M
 list-spec =
