@@ -1,7 +1,7 @@
 -- The record, its head, a file, what a call on a record or a file answers, and what a listing carries, as the laws of `walks` and `records` take them.
 use denote.Enum.Declared.{field as enum-field}
 use denote.Struct.Declared.{field}
-use denote.Struct.Field.{usize-field}
+use denote.Struct.Field.{usize-field, bool-field}
 use denote.Struct.Laws as LL
 use mathlib.Core.List.{[], _∷_}
 use Rattle.walks.proofs.Types.{Rec, Headed, Stored, stored-as}
@@ -18,6 +18,7 @@ use Rattle.files.proofs.file.File.Laws as F′
 use Rattle.files.proofs.file.FileAnswered as A
 use Rattle.files.proofs.head.Head as B
 use Rattle.files.proofs.head.Head.Laws as B′
+use Rattle.mirroring.proofs.source.Direction as E
 use Rattle.recovery.proofs.listing.Listing as L
 use Rattle.recovery.proofs.record.Record as T
 use Rattle.recovery.proofs.record.Record.Laws as T′
@@ -62,7 +63,7 @@ abbrev pub listing : listed-by.Tally
 listing = record {
   name = N.the-type .name;
   D = Tally;
-  others = usize-field ∷ enum-field L.the-type ∷ [];
+  others = usize-field ∷ enum-field L.the-type ∷ enum-field E.the-type ∷ bool-field ∷ [];
   status = λ c. c .status;
   count = λ c. c .count;
   rest = λ c. N.the-type .to c .1 .1;

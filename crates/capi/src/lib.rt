@@ -16,7 +16,7 @@ use recovery::record::Record;
 ghost use mathlib.Core.Path.{_≡_};
 ghost use mathlib.Core.Bool.{not};
 ghost use Rattle.recovery.specs.Calls.{listed};
-ghost use Rattle.recovery.specs.Record.{freshAs, fresh, registerOf, openOf, reclaimOf, closeOf, repairedOf, forgetOf, endOf, restartOf, listingOf};
+ghost use Rattle.recovery.specs.Record.{freshAs, fresh, registerOf, openOf, reclaimOf, closeOf, repairedOf, forgetOf, endOf, restartOf};
 ghost use Rattle.recovery.specs.LayoutReturn.{layoutreturnOf, replyAfter};
 ghost use Rattle.recovery.specs.declared.listing.Listing.the-variants.{Resilver, Offered};
 ghost use Rattle.layoutreturn.specs.LayoutReturn.{decisionOf, outcomeBy, replyBy};
@@ -26,6 +26,7 @@ ghost use Rattle.files.specs.declared.head.Edition.the-variants.{Current, Old};
 ghost use Rattle.files.specs.File.{restartedFile, endedFile};
 ghost use Rattle.files.specs.Head.{freshHead};
 ghost use Rattle.capi.specs.Place.{isNumbered, soughtIn};
+ghost use Rattle.capi.specs.Asked.{listingBy};
 ghost use Rattle.capi.specs.Lent.{columnOf, maskOf};
 ghost use Rattle.capi.specs.Whole.{restartVerdict, endVerdict, forgetVerdict, emptiedFile, eachFile, refusedWith, admittedOf, isVacantPlace, roomSought, isBelow, enteredFiles, pulledFiles};
 
@@ -447,17 +448,18 @@ pub extern "C" fn sc_record_layoutreturn(
     s.status
 }
 
-// The two lists. There is a loop for each, so that the compiler makes the turns a part of it.
+// The two lists, by the number of a direction. There is a loop for each, so that the compiler makes the turns a part of it.
 #[no_mangle]
-pub extern "C" fn sc_record_resilver(
+pub extern "C" fn sc_record_resilver_by(
     r: &Record,
     files: &mut [u64],
     sources: &mut [u8],
     count: &mut u64,
+    direction: u32,
 ) -> u32
-    ensures { λ s. ⌜ listed s (now (count .exit)) (now (files .exit)) (now (sources .exit)) ≡ listingOf Resilver (now (r .entry)) (now (files .entry)) (now (sources .entry)) ⌝ }
+    ensures { λ s. ⌜ listed s (now (count .exit)) (now (files .exit)) (now (sources .exit)) ≡ listingBy Resilver direction (now (r .entry)) (now (files .entry)) (now (sources .entry)) ⌝ }
 {
-    let mut c = listing::resilver();
+    let mut c = listing::resilver(direction);
     let mut i: usize = 0;
     while i < 128 {
         c = listing::turn(r.files[i % 64], i, c, files, sources);
@@ -468,15 +470,16 @@ pub extern "C" fn sc_record_resilver(
 }
 
 #[no_mangle]
-pub extern "C" fn sc_record_offered(
+pub extern "C" fn sc_record_offered_by(
     r: &Record,
     files: &mut [u64],
     sources: &mut [u8],
     count: &mut u64,
+    direction: u32,
 ) -> u32
-    ensures { λ s. ⌜ listed s (now (count .exit)) (now (files .exit)) (now (sources .exit)) ≡ listingOf Offered (now (r .entry)) (now (files .entry)) (now (sources .entry)) ⌝ }
+    ensures { λ s. ⌜ listed s (now (count .exit)) (now (files .exit)) (now (sources .exit)) ≡ listingBy Offered direction (now (r .entry)) (now (files .entry)) (now (sources .entry)) ⌝ }
 {
-    let mut c = listing::offered();
+    let mut c = listing::offered(direction);
     let mut i: usize = 0;
     while i < 128 {
         c = listing::turn(r.files[i % 64], i, c, files, sources);

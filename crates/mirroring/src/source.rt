@@ -17,9 +17,7 @@ impl Direction {
         ensures { λ r. ⌜ r ≡ preferred self source place ⌝ }
     {
         match self {
-            Direction::Lowest => {
-                if source == 255 { place } else { source }
-            }
+            Direction::Lowest => { if source == 255 { place } else { source } }
             Direction::Highest => place,
         }
     }

@@ -53,7 +53,13 @@ fn counted(files: [File; 64], which: Listing) -> usize
 
 impl Record {
     // The files of a list, by rising number, with their sources by the direction: 28, count 0 and both slices unchanged if either is too short.
-    pub fn list(self, which: Listing, direction: Direction, numbers: &mut [u64], sources: &mut [u8]) -> Listed
+    pub fn list(
+        self,
+        which: Listing,
+        direction: Direction,
+        numbers: &mut [u64],
+        sources: &mut [u8],
+    ) -> Listed
         ensures { λ r. ⌜ listed (r .status) (r .count) (now (numbers .exit)) (now (sources .exit)) ≡ listingOf which direction self (now (numbers .entry)) (now (sources .entry)) ⌝ }
     {
         let fs = self.files;

@@ -6,19 +6,19 @@ use Rattle.capi.specs.Turns.{turnOf}
 use Rattle.capi.proofs.listing.turn.Statement.{statement}
 use Rattle.capi.proofs.listing.turn.Tie as tie
 
-has-requires : tie.Need-has-requires
-has-requires c κs = search needs
+hits-requires : tie.Need-hits-requires
+hits-requires c κs = search needs
 
 counted-requires : tie.Need-counted-requires
 counted-requires c κs = search needs
 
 returns : tie.Need-returns
 unfolding turnOf
-returns c = rw (lt-ltb _ _ (c .before .if1 .taken), c .counted .ensures, c .before .before .has .ensures)
+returns c = rw (lt-ltb _ _ (c .before .if1 .taken), c .counted .ensures, c .before .before .hits .ensures)
 
 returns-2 : tie.Need-returns-2
 unfolding turnOf
-returns-2 c = rw (le-ltb _ _ (c .before .if1 .left), sym (c .before .before .has .ensures) ∙ not-true _ (c .if2 .taken))
+returns-2 c = rw (le-ltb _ _ (c .before .if1 .left), sym (c .before .before .hits .ensures) ∙ not-true _ (c .if2 .taken))
 
 written-requires : tie.Need-written-requires
 written-requires c κs = search needs
@@ -31,7 +31,7 @@ same-length-2 c = search needs
 
 returns-3 : tie.Need-returns-3
 unfolding turnOf
-returns-3 c = c .before .before .before .before .written .ensures ∙ rw (le-ltb _ _ (c .before .before .before .before .before .before .before .before .if1 .left), sym (c .before .before .before .before .before .before .before .before .before .has .ensures) ∙ not-false _ (c .before .before .before .before .before .before .before .if2 .left))
+returns-3 c = c .before .before .before .before .written .ensures ∙ rw (le-ltb _ _ (c .before .before .before .before .before .before .before .before .if1 .left), sym (c .before .before .before .before .before .before .before .before .before .hits .ensures) ∙ not-false _ (c .before .before .before .before .before .before .before .if2 .left))
 
 pub turn-spec : {M : Type 1} → statement M
-turn-spec = tie.close (tie.spec has-requires counted-requires returns returns-2 written-requires same-length same-length-2 returns-3)
+turn-spec = tie.close (tie.spec hits-requires counted-requires returns returns-2 written-requires same-length same-length-2 returns-3)

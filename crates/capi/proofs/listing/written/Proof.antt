@@ -37,8 +37,8 @@ slice-write-files c = omega (arith, c .before .if2 .left, fits c .0)
 slice-write-sources : tie.Need-slice-write-sources
 slice-write-sources c = omega (arith, c .before .if2 .left, fits c .1)
 
-add-t15 : tie.Need-add-t15
-add-t15 c = search needs
+add-t16 : tie.Need-add-t16
+add-t16 c = search needs
 
 same-length : tie.Need-same-length
 same-length c = search needs
@@ -51,4 +51,4 @@ unfolding writtenOf
 returns-3 c = rw (sym (c .before .before .before .before .short .ensures) ∙ c .before .before .before .if1 .left, lt-ltb _ _ (c .before .before .if2 .left), c .before .source .ensures)
 
 pub written-spec : {M : Type 1} → statement M
-written-spec = tie.close (tie.spec short-requires returns returns-2 source-requires mul-files slice-write-files slice-write-sources add-t15 same-length same-length-2 returns-3)
+written-spec = tie.close (tie.spec short-requires returns returns-2 source-requires mul-files slice-write-files slice-write-sources add-t16 same-length same-length-2 returns-3)
