@@ -265,6 +265,7 @@ typedef uint32_t on_record(struct sc_record *);
 typedef uint32_t on_file(struct sc_record *, uint64_t);
 typedef uint32_t on_client(struct sc_record *, uint64_t, uint64_t);
 typedef uint32_t listing(const struct sc_record *, uint64_t *, size_t, uint8_t *, size_t, uint64_t *);
+typedef uint32_t listing_by(const struct sc_record *, uint32_t, uint64_t *, size_t, uint8_t *, size_t, uint64_t *);
 typedef uint32_t on_node(struct sc_epochs *, uint32_t);
 struct kind;
 
@@ -277,6 +278,7 @@ struct command {
         on_file *file;
         on_client *client;
         listing *list;
+        listing_by *list_by;
         on_node *node;
         const struct kind *kind;
     } call;
@@ -475,22 +477,58 @@ static void print_listing(uint32_t answer, uint64_t count, struct lent files, st
     putchar('\n');
 }
 
-static bool run_listing(const struct command *c, const struct word *argument)
-{
+/* What a listing is lent. */
+struct listed {
+    struct lent files, sources, count;
     uint64_t room_files, room_sources;
-    if (!read_number(argument[0], MAX_ROOM, &room_files) || !read_number(argument[1], MAX_ROOM, &room_sources))
+};
+
+/* Reads the rooms and lends them; false lends nothing. */
+static bool lend_listing(const struct word *argument, struct listed *l)
+{
+    if (!read_number(argument[0], MAX_ROOM, &l->room_files) || !read_number(argument[1], MAX_ROOM, &l->room_sources))
         return false;
-    struct lent files = lend((size_t)room_files * sizeof(uint64_t)), sources = lend((size_t)room_sources), count = lend(sizeof(uint64_t));
+    l->files = lend((size_t)l->room_files * sizeof(uint64_t));
+    l->sources = lend((size_t)l->room_sources);
+    l->count = lend(sizeof(uint64_t));
     memcpy(record_before, record, sizeof *record);
-    uint32_t answer = c->call.list(record, (uint64_t *)(void *)bytes_of(files), (size_t)room_files, bytes_of(sources), (size_t)room_sources,
-                                   (uint64_t *)(void *)bytes_of(count));
+    return true;
+}
+
+/* Prints what a listing answered, and takes back what it was lent. */
+static void take_back_listing(uint32_t answer, const struct listed *l)
+{
     if (memcmp(record_before, record, sizeof *record) != 0)
         broken("a listing changed the record");
-    check_lent(count, count.len, "bytes beside a listing's count changed");
-    print_listing(answer, number_in(count), files, sources);
-    give_back(files);
-    give_back(sources);
-    give_back(count);
+    check_lent(l->count, l->count.len, "bytes beside a listing's count changed");
+    print_listing(answer, number_in(l->count), l->files, l->sources);
+    give_back(l->files);
+    give_back(l->sources);
+    give_back(l->count);
+}
+
+/* A listing that asks for no direction. */
+static bool run_listing(const struct command *c, const struct word *argument)
+{
+    struct listed l;
+    if (!lend_listing(argument, &l))
+        return false;
+    take_back_listing(c->call.list(record, (uint64_t *)(void *)bytes_of(l.files), (size_t)l.room_files, bytes_of(l.sources), (size_t)l.room_sources,
+                                   (uint64_t *)(void *)bytes_of(l.count)),
+                      &l);
+    return true;
+}
+
+/* A listing with the direction that its third word names. */
+static bool run_listing_by(const struct command *c, const struct word *argument)
+{
+    bool lowest = word_is(argument[2], "lowest");
+    struct listed l;
+    if ((!lowest && !word_is(argument[2], "highest")) || !lend_listing(argument, &l))
+        return false;
+    take_back_listing(c->call.list_by(record, lowest ? SC_LOWEST : SC_HIGHEST, (uint64_t *)(void *)bytes_of(l.files), (size_t)l.room_files,
+                                      bytes_of(l.sources), (size_t)l.room_sources, (uint64_t *)(void *)bytes_of(l.count)),
+                      &l);
     return true;
 }
 
@@ -783,6 +821,8 @@ static const struct command commands[] = {
     {"totals", 0, run_totals, {NULL}},
     {"resilver", 2, run_listing, {.list = sc_record_resilver}},
     {"offered", 2, run_listing, {.list = sc_record_offered}},
+    {"resilver", 3, run_listing_by, {.list_by = sc_record_resilver_by}},
+    {"offered", 3, run_listing_by, {.list_by = sc_record_offered_by}},
     {"layout", 1, run_layout, {.kind = &scsi}},
     {"rdma", 1, run_layout, {.kind = &rdma}},
     {"write", 2, run_write, {.kind = &scsi}},

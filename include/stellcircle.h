@@ -31,7 +31,7 @@ extern "C" {
  *
  * The first number rises where a server has to be changed, the second where calls are added, the third where neither is.
  */
-#define SC_VERSION_MAJOR 1
+#define SC_VERSION_MAJOR 2
 #define SC_VERSION_MINOR 0
 #define SC_VERSION_PATCH 0
 
@@ -41,7 +41,7 @@ extern "C" {
  */
 #define SC_NOENT UINT32_C(2)                  /* the node is no member of the cluster */
 #define SC_EXIST UINT32_C(17)                 /* the file is registered, or the node a member, already */
-#define SC_INVAL UINT32_C(22)                 /* a node above 31, a bad mirror list or commit list, or nothing to repair or to finish */
+#define SC_INVAL UINT32_C(22)                 /* a node above 31, a bad mirror list or commit list, no direction, or nothing to repair or to finish */
 #define SC_NOSPC UINT32_C(28)                 /* no room: in a table, in a buffer that is lent, or for another epoch */
 #define SC_STALE UINT32_C(70)                 /* no such file */
 #define SC_DELAY UINT32_C(10008)              /* not yet: the file needs repair, or an intent is open */
@@ -247,13 +247,23 @@ uint32_t sc_record_layoutreturn(struct sc_record *r, uint64_t file, uint64_t cli
                                 size_t reply_len, uint64_t *read, size_t read_len, uint64_t *written, size_t written_len,
                                 uint32_t *read_over, uint32_t *written_over);
 
-/* The files that need repair, by rising number: file k of the list at files[k], and at sources[k] the lowest mirror place that is not blamed, or
- * 255 where there is none. files_len and sources_len are the places that are lent.
+/* The directions that the source of a copy is looked for from. */
+#define SC_LOWEST UINT32_C(1)  /* from place 0 up */
+#define SC_HIGHEST UINT32_C(2) /* from the last mirror down */
+
+/* The files that need repair, by rising number: file k of the list at files[k], and at sources[k] the first mirror place by the direction that is not
+ * blamed, or 255 where there is none. files_len and sources_len are the places that are lent.
  * 0: *count is the length of the list; later places stay as they were.
- * 28: a buffer is too short. *count is 0, and both stay as they were. */
-uint32_t sc_record_resilver(const struct sc_record *r, uint64_t *files, size_t files_len, uint8_t *sources, size_t sources_len, uint64_t *count);
+ * 22: the direction is neither SC_LOWEST nor SC_HIGHEST; 28: a buffer is too short. *count is 0, and both buffers stay as they were. */
+uint32_t sc_record_resilver_by(const struct sc_record *r, uint32_t direction, uint64_t *files, size_t files_len, uint8_t *sources, size_t sources_len,
+                               uint64_t *count);
 
 /* The same of those files that have no intent: they are offered for copying. */
+uint32_t sc_record_offered_by(const struct sc_record *r, uint32_t direction, uint64_t *files, size_t files_len, uint8_t *sources, size_t sources_len,
+                              uint64_t *count);
+
+/* The same two for a host that asks for no direction: SC_HIGHEST. Up to version 1 they gave the lowest; who relies on that asks for SC_LOWEST. */
+uint32_t sc_record_resilver(const struct sc_record *r, uint64_t *files, size_t files_len, uint8_t *sources, size_t sources_len, uint64_t *count);
 uint32_t sc_record_offered(const struct sc_record *r, uint64_t *files, size_t files_len, uint8_t *sources, size_t sources_len, uint64_t *count);
 
 /* ---- the grace epochs of a cluster: the epoch record of a node, and the calls on it ----
