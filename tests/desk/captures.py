@@ -1,16 +1,19 @@
 #!/usr/bin/env python3
 """Makes scripts for replay from the captures, with the output that the captures themselves call for.
 
-    captures.py NAME CAPTURE SCRIPT EXPECTED
+    captures.py NAME CAPTURE SCRIPT EXPECTED [lowest|highest]
 
 NAME is layout-bodies, linux-layoutcommit, layoutreturn-damaged, linux-layoutreturn or ganesha-epochs. What is expected comes from the columns
 that other programs wrote beside each input, never from replay or the second program. In this order: layout bodies; LAYOUTCOMMIT;
 LAYOUTRETURN requests, and the report that a request leaves on a file; the two LAYOUTRETURN captures; epochs; main.
+The lists are asked for with the lowest source by name; for `highest` no direction is asked for, which gives the highest.
 """
 import struct
 import sys
 
 FILE, OTHER_FILE, CLIENT, OTHER_CLIENT = 7, 8, 1, 2
+# The word that a list is asked for with, and which of the places that are not blamed is then its source (Ticket 11).
+WORD, FIRST = ("", max) if sys.argv[5:] == ["highest"] else (" lowest", min)
 LETTERS = ["a0" * 15 + "01", "b0" * 15 + "02", "c0" * 15 + "03", "d0" * 15 + "04"]
 
 
@@ -56,12 +59,11 @@ def said(status):
 
 def source_after(mirrors, errors):
     """The resilver list's entry once this report is accepted (01, step 7), or nothing."""
-    if any(device not in mirrors for device, _ in errors):
-        return f"{FILE}:0"
-    blamed = {mirrors.index(device) for device, status in errors if status != 0}
-    if not blamed:
+    known = all(device in mirrors for device, _ in errors)
+    blamed = {mirrors.index(device) for device, status in errors if status != 0} if known else set()
+    if known and not blamed:
         return ""
-    return f"{FILE}:{min(set(range(len(mirrors))) - blamed, default=255)}"
+    return f"{FILE}:{FIRST(set(range(len(mirrors))) - blamed, default=255)}"
 
 
 def listing(entry):
@@ -96,18 +98,18 @@ def report(mirrors, request, in_grace, errors, statistics):
     yield f"layoutreturn {FILE} {OTHER_CLIENT} 25 {request}", said("10034" if reached else in_grace)
     yield "totals", NO_TOTALS
     yield f"layoutreturn {FILE} {CLIENT} 23 {request}", "28"
-    yield "resilver 1 1", "0 0"
+    yield f"resilver 1 1{WORD}", "0 0"
     yield f"layoutreturn {FILE} {CLIENT} 24 {request}", said("0" if reached else in_grace)
     yield "totals", totals_after(mirrors, errors, statistics) if reached else NO_TOTALS
     yield f"layoutreturn {FILE} {CLIENT} 23 {request}", "28"
     yield "totals", NO_TOTALS
     entry = source_after(mirrors, errors) if reached else ""
-    yield "resilver 1 1", listing(entry)
-    yield "offered 1 1", "0 0"
+    yield f"resilver 1 1{WORD}", listing(entry)
+    yield f"offered 1 1{WORD}", "0 0"
     yield f"reclaim {FILE} {CLIENT}", "0"
     yield "end", "0"
     yield f"close {FILE} {CLIENT}", "0"
-    yield "offered 1 1", listing(entry)
+    yield f"offered 1 1{WORD}", listing(entry)
 
 
 def layoutreturn(request, in_grace, out_of_grace, errors, statistics):
@@ -226,7 +228,7 @@ CAPTURES = {
 
 
 def main():
-    _, name, capture, script, expected = sys.argv
+    name, capture, script, expected = sys.argv[1:5]
     with open(script, "w") as calls, open(expected, "w") as answers_file:
         for call, answer in CAPTURES[name](capture):
             calls.write(call + "\n")

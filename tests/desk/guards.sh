@@ -17,7 +17,7 @@ fi
 # Calls that meet every promise: short and long listings, replies of each kind.
 cat "$desk/marked.txt" "$desk/lines.txt" > "$work/script"
 echo >> "$work/script"
-printf 'fresh\nregister 7 %032d\nopen 7 1\nrestart\nend\nresilver 3 3\nresilver 0 3\nresilver 3 0\nlayoutreturn 7 1 30 -\nlayoutreturn 7 1 3 -\n' 1 >> "$work/script"
+printf 'fresh\nregister 7 %032d\nopen 7 1\nrestart\nend\nresilver 3 3\nresilver 3 3 lowest\nresilver 0 3 lowest\nresilver 3 0 lowest\nlayoutreturn 7 1 30 -\nlayoutreturn 7 1 3 -\n' 1 >> "$work/script"
 number=0
 for promise in $(grep -o '\(scribble\|breaks\)("[a-z0-9-]*"' "$desk/scribble.c" | cut -d'"' -f2 | sort -u); do
     SCRIBBLE=$promise "$work/replay" < "$work/script" > "$work/output" 2> "$work/message"

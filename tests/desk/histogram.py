@@ -11,7 +11,11 @@ import os
 import sys
 from collections import Counter
 
-# Each command with the answers that a run has to reach.
+LISTS = ("resilver", "offered")
+# The answers and the sources of a list, by the direction that is asked for.
+SOURCES = "0 28 source:0 source:1 source:2 source:3 source:255"
+
+# Each command with the answers that a run has to reach. `directions`: whether a list that is not empty has other sources from the other direction.
 ANSWERS = {
     "register": "0 10013 22 17 28",
     "open": "0 10013 70 28",
@@ -24,8 +28,13 @@ ANSWERS = {
     "layoutreturn": "handed 0 28 10036 10062 10049 10025 10013 10033 70 10034",
     "request": "handed refused:10036 refused:10062 refused:10049 anonymous bypass current invalid ordinary",
     "totals": "zeros bytes full flagged",
-    "resilver": "0 28 source:0 source:1 source:2 source:3 source:255",
-    "offered": "0 28 source:0 source:1 source:2 source:3 source:255",
+    "resilver": SOURCES,
+    "resilver lowest": SOURCES,
+    "resilver highest": SOURCES,
+    "offered": SOURCES,
+    "offered lowest": SOURCES,
+    "offered highest": SOURCES,
+    "directions": "differ agree",
     "layout": "extents refused:1 refused:2 refused:3 refused:4 refused:5 refused:6 refused:7",
     "rdma": "extents refused:1 refused:2 refused:3 refused:4 refused:5 refused:6 refused:7",
     "write": "0 refused:2 refused:3 refused:4 refused:5 refused:6 refused:7 refused:8",
@@ -62,25 +71,38 @@ def keys(command, words):
         return [(command, kind) for kind, seen in kinds.items() if seen]
     if words[0] == b"refused":
         return [(command, "refused:" + words[1].decode())]
-    sources = [("source:" + word.split(b":")[1].decode()) for word in words[2:]] if command in ("resilver", "offered") else []
+    sources = [("source:" + word.split(b":")[1].decode()) for word in words[2:]] if command.startswith(LISTS) else []
     return [(command, key) for key in [words[0].decode()] + sources]
 
 
 def calls_of(script):
     """The words of each line that prints one; a line past the limit prints one whatever it holds."""
     for line in script:
-        words = words_of(line.rstrip(b"\n")[:64])
+        words = words_of(line.rstrip(b"\n")[:128])
         if len(line.rstrip(b"\n")) > 524288:
             yield b"too long"
         elif words and not words[0].startswith(b"#"):
-            yield b" ".join(words) if words[0] == b"fresh" else words[0]
+            asked = words[1:] if words[0] == b"fresh" else words[3:] if words[0] in (b"resilver", b"offered") else []
+            yield b" ".join(words[:1] + asked)
+
+
+def directions(before, after):
+    """Of two calls in a row, each with its answer: whether they are one list, not empty, from both directions, and differ."""
+    (call, words), (next_call, next_words) = before, after
+    (name, _, asked), (next_name, _, next_asked) = call.partition(" "), next_call.partition(" ")
+    listed = name in LISTS and words[0] == next_words[0] == b"0" and len(words) > 2
+    if not listed or name != next_name or (asked == "lowest") == (next_asked == "lowest"):
+        return []
+    return [("directions", "agree" if words == next_words else "differ")]
 
 
 def count(script_path, output_path, counts):
     with open(script_path, "rb") as script, open(output_path, "rb") as output:
-        calls = calls_of(script)
+        calls, before = calls_of(script), ("", [b""])
         for call, answer in zip(calls, output):
-            counts.update(keys(call.decode(errors="replace"), answer.split()))
+            name, words = call.decode(errors="replace"), answer.split()
+            counts.update(keys(name, words) + directions(before, (name, words)))
+            before = name, words
         if next(calls, None) is not None or output.read(1):
             sys.exit(f"histogram: {output_path} does not have a line for each call of {script_path}")
 
@@ -93,6 +115,8 @@ def show(counts):
     missing = [f"{command} {key}" for command, answers in ANSWERS.items() for key in answers.split() if counts[command, key] == 0]
     if missing:
         sys.exit("histogram: never answered: " + ", ".join(missing))
+    if counts["directions", "differ"] < counts["directions", "agree"]:
+        sys.exit("histogram: the two directions seldom differ")
 
 
 def main():

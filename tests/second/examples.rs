@@ -79,26 +79,26 @@ fn k9_hole_past_the_last_offset() {
 
 #[test]
 fn k10_nobody_reclaims() {
-    assert_eq!(last(&[&registered(), "open 7 1", "restart", "end", "resilver 1 1"]), "0 1 7:0");
+    assert_eq!(last(&[&registered(), "open 7 1", "restart", "end", "resilver 1 1 lowest"]), "0 1 7:0");
 }
 
 #[test]
 fn k11_the_client_reclaims() {
-    assert_eq!(last(&[&registered(), "open 7 1", "restart", "reclaim 7 1", "end", "resilver 1 1"]), "0 0");
+    assert_eq!(last(&[&registered(), "open 7 1", "restart", "reclaim 7 1", "end", "resilver 1 1 lowest"]), "0 0");
 }
 
 #[test]
 fn k12_the_client_reports_a_mirror() {
     let history = [&registered(), "open 7 1", "restart", "reclaim 7 1", &report(A, 5), "end"];
     let and = |more: &[&str]| last(&[&history, more].concat());
-    assert_eq!(and(&["resilver 1 1"]), "0 1 7:1");
-    assert_eq!(and(&["offered 1 1"]), "0 0");
-    assert_eq!(and(&["close 7 1", "offered 1 1"]), "0 1 7:1");
+    assert_eq!(and(&["resilver 1 1 lowest"]), "0 1 7:1");
+    assert_eq!(and(&["offered 1 1 lowest"]), "0 0");
+    assert_eq!(and(&["close 7 1", "offered 1 1 lowest"]), "0 1 7:1");
 }
 
 #[test]
 fn k13_the_client_reports_an_unknown_device() {
-    assert_eq!(last(&[&registered(), "open 7 1", "restart", "reclaim 7 1", &report(C, 5), "end", "resilver 1 1"]), "0 1 7:0");
+    assert_eq!(last(&[&registered(), "open 7 1", "restart", "reclaim 7 1", &report(C, 5), "end", "resilver 1 1 lowest"]), "0 1 7:0");
 }
 
 /// Ticket 1: K10 to K13 in an old record. Its reports get 10025, and the list is as without them.
@@ -106,13 +106,32 @@ fn k13_the_client_reports_an_unknown_device() {
 fn an_old_record() {
     let history = ["fresh old", &registered(), "open 7 1", "restart"];
     let and = |more: &[&str]| last(&[&history, more].concat());
-    assert_eq!(and(&["end", "resilver 1 1"]), "0 1 7:0");
-    assert_eq!(and(&["reclaim 7 1", "end", "resilver 1 1"]), "0 0");
+    assert_eq!(and(&["end", "resilver 1 1 lowest"]), "0 1 7:0");
+    assert_eq!(and(&["reclaim 7 1", "end", "resilver 1 1 lowest"]), "0 0");
     for device in [A, C] {
         assert_eq!(and(&["reclaim 7 1", &report(device, 5)]), "10025 00002729");
-        assert_eq!(and(&["reclaim 7 1", &report(device, 5), "end", "resilver 1 1"]), "0 0");
+        assert_eq!(and(&["reclaim 7 1", &report(device, 5), "end", "resilver 1 1 lowest"]), "0 0");
         assert_eq!(and(&["reclaim 7 1", "end", &report(device, 5)]), "10025 00002729");
     }
+}
+
+/// Ticket 11: the source is the lowest or the highest place not blamed, as asked, and the highest where nobody asks.
+#[test]
+fn the_source_by_direction() {
+    let history = [&format!("register 7 {A}{B}{C}"), "open 7 1", "restart"];
+    let and = |more: &[&str]| last(&[&history, more].concat());
+    let reports = [report(A, 5), report(C, 5), report(B, 5)];
+    let sources = [("0", "2"), ("1", "2"), ("1", "1"), ("255", "255")];
+    for (blamed, (lowest, highest)) in sources.iter().enumerate() {
+        let reported: Vec<&str> = reports[..blamed].iter().map(String::as_str).chain(["end"]).collect();
+        for list in ["resilver", "offered"] {
+            for (asked, source) in [(" lowest", lowest), (" highest", highest), ("", highest)] {
+                assert_eq!(and(&[&reported[..], &[&format!("{list} 1 1{asked}")]].concat()), format!("0 1 7:{source}"));
+            }
+        }
+    }
+    assert_eq!(and(&["end", "resilver 1 1 first"]), "? 5");
+    assert_eq!(and(&["end", "resilver 1 0 lowest"]), "28 0");
 }
 
 /// A statistics record of a device with these counts of bytes: short address parts and handle, latencies of ones.
@@ -138,7 +157,7 @@ fn statistics_of_a_report() {
     let accepted = format!("0 {:08x}{:08x}{:032x}", 0, 1, 0);
     assert_eq!(and(&[&counted("00000000", &records)]), accepted);
     assert_eq!(and(&[&counted("00000000", &records), "totals"]), "1:18446744073709551615 18446744073709551615!:6 0:0 0:0");
-    assert_eq!(and(&[&counted("00000000", &records), "resilver 1 1"]), "0 0");
+    assert_eq!(and(&[&counted("00000000", &records), "resilver 1 1 lowest"]), "0 0");
     let stranger = format!("{:08x}{:016x}{:016x}{:032x}{:08x}{C}{:08x}{:08x}", 1, 0, 0, 0, 1, 0, 38);
     assert_eq!(and(&[&counted(&stranger, &records), "totals"]), "0:0 0:0 0:0 0:0");
     assert_eq!(and(&[&counted("00000000", &records), "layoutreturn 7 1 23 -", "totals"]), "0:0 0:0 0:0 0:0");
@@ -150,10 +169,10 @@ fn statistics_of_a_report() {
 fn one_of_two_clients_comes_back() {
     let history = [&registered(), "open 7 1", "open 7 2", "restart", "reclaim 7 1", "end"];
     let and = |more: &[&str]| last(&[&history, more].concat());
-    assert_eq!(and(&["resilver 1 1"]), "0 1 7:0");
-    assert_eq!(and(&["offered 1 1"]), "0 0");
+    assert_eq!(and(&["resilver 1 1 lowest"]), "0 1 7:0");
+    assert_eq!(and(&["offered 1 1 lowest"]), "0 0");
     assert_eq!(and(&["close 7 2"]), "10025");
-    assert_eq!(and(&["close 7 1", "offered 1 1"]), "0 1 7:0");
+    assert_eq!(and(&["close 7 1", "offered 1 1 lowest"]), "0 1 7:0");
 }
 
 /// Ticket 2: an intent reclaimed and then closed no longer counts, whoever else reclaims.
@@ -161,8 +180,8 @@ fn one_of_two_clients_comes_back() {
 fn reclaimed_and_closed() {
     let history = [&registered(), "open 7 1", "open 7 2", "restart", "reclaim 7 1", "close 7 1"];
     let and = |more: &[&str]| last(&[&history, more].concat());
-    assert_eq!(and(&["end", "resilver 1 1"]), "0 1 7:0");
-    assert_eq!(and(&["reclaim 7 2", "end", "resilver 1 1"]), "0 0");
+    assert_eq!(and(&["end", "resilver 1 1 lowest"]), "0 1 7:0");
+    assert_eq!(and(&["reclaim 7 2", "end", "resilver 1 1 lowest"]), "0 0");
 }
 
 #[test]

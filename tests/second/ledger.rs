@@ -32,9 +32,13 @@ impl Row {
         !self.intents.is_empty()
     }
 
-    /// The lowest mirror place not blamed.
-    fn source(&self) -> u8 {
-        let place = (0..self.mirrors.len()).find(|place| !self.blamed.contains(place));
+    /// Ticket 11: of the mirror places not blamed, the first by the direction.
+    fn source(&self, direction: Direction) -> u8 {
+        let left = (0..self.mirrors.len()).filter(|place| !self.blamed.contains(place));
+        let place = match direction {
+            Direction::Lowest => left.min(),
+            Direction::Highest => left.max(),
+        };
         place.map_or(NO_SOURCE, |place| place as u8)
     }
 
@@ -90,6 +94,13 @@ fn mirror_list(bytes: &[u8]) -> Option<Vec<Device>> {
 pub enum Edition {
     Current,
     Old,
+}
+
+/// Ticket 11: which of the places not blamed is the source.
+#[derive(Clone, Copy)]
+pub enum Direction {
+    Lowest,
+    Highest,
 }
 
 pub struct Ledger {
@@ -189,17 +200,17 @@ impl Ledger {
     }
 
     /// The files that need repair, each with its source.
-    pub fn resilver(&self) -> Vec<(u64, u8)> {
-        self.marked_rows(|_| true)
+    pub fn resilver(&self, direction: Direction) -> Vec<(u64, u8)> {
+        self.marked_rows(direction, |_| true)
     }
 
     /// The files that need repair and have no intent.
-    pub fn offered(&self) -> Vec<(u64, u8)> {
-        self.marked_rows(|row| !row.is_open())
+    pub fn offered(&self, direction: Direction) -> Vec<(u64, u8)> {
+        self.marked_rows(direction, |row| !row.is_open())
     }
 
-    fn marked_rows(&self, wanted: impl Fn(&Row) -> bool) -> Vec<(u64, u8)> {
+    fn marked_rows(&self, direction: Direction, wanted: impl Fn(&Row) -> bool) -> Vec<(u64, u8)> {
         let rows = self.rows.iter().filter(|(_, row)| row.marked && wanted(row));
-        rows.map(|(file, row)| (*file, row.source())).collect()
+        rows.map(|(file, row)| (*file, row.source(direction))).collect()
     }
 }

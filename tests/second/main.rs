@@ -17,7 +17,7 @@ use layout::{list, Extent, Kind};
 use layoutreturn::Other;
 use ledger::{Edition, Ledger, Totals};
 use std::io::{self, BufRead, Write};
-use words::{bytes, node, number, room, split, MAX_BODY, MAX_LINE, MAX_LIST, MAX_REQUEST};
+use words::{bytes, direction, node, number, room, split, MAX_BODY, MAX_LINE, MAX_LIST, MAX_REQUEST};
 
 /// A refusal with its number, where it applies.
 pub fn refuse_if(refused: bool, number: u32) -> Result<(), u32> {
@@ -64,8 +64,8 @@ impl Desk {
             }
             ("request", [q]) => Some(asked(&bytes(q, MAX_REQUEST)?)),
             ("totals", []) => Some(summed(&self.totals)),
-            ("resilver", [f, s]) => Some(listed(self.ledger.resilver(), room(f)?, room(s)?)),
-            ("offered", [f, s]) => Some(listed(self.ledger.offered(), room(f)?, room(s)?)),
+            ("resilver", [f, s, asked @ ..]) => Some(listed(self.ledger.resilver(direction(asked)?), room(f)?, room(s)?)),
+            ("offered", [f, s, asked @ ..]) => Some(listed(self.ledger.offered(direction(asked)?), room(f)?, room(s)?)),
             ("layout", [b]) => Some(laid_out(Kind::Scsi, &bytes(b, MAX_BODY)?)),
             ("rdma", [b]) => Some(laid_out(Kind::Rdma, &bytes(b, MAX_BODY)?)),
             ("write", [r, e]) => Some(written(Kind::Scsi, room(r)?, &list(Kind::Scsi, &bytes(e, MAX_LIST)?)?)),

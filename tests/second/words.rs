@@ -1,4 +1,6 @@
-//! The words of a line: how a line is split, and how numbers and bytes are read from words. The rules are those of man/stellcircle-replay.1.
+//! The words of a line: how a line is split, and how numbers, bytes and directions are read from words. The rules are those of man/stellcircle-replay.1.
+
+use crate::ledger::Direction;
 
 /// Bytes of a LAYOUTRETURN request or a mirror list.
 pub const MAX_REQUEST: usize = 16_384;
@@ -32,6 +34,15 @@ pub fn node(word: &[u8]) -> Option<u32> {
 /// How many places are lent.
 pub fn room(word: &[u8]) -> Option<usize> {
     number(word).filter(|places| *places <= MAX_ROOM)?.try_into().ok()
+}
+
+/// The direction that a listing's last words ask for; the highest if there are none.
+pub fn direction(asked: &[&[u8]]) -> Option<Direction> {
+    match asked {
+        [] | [b"highest"] => Some(Direction::Highest),
+        [b"lowest"] => Some(Direction::Lowest),
+        _ => None,
+    }
 }
 
 /// Bytes in hex, at most so many; `-` for none.

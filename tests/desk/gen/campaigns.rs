@@ -126,11 +126,21 @@ impl<W: Write> Campaigns<W> {
         Ok(())
     }
 
-    /// A listing into slices that have room for about so many.
+    /// A listing into slices that have room for about so many: from one direction, or from both, one right after the other.
     fn listing(&mut self, name: &str, about: u64) -> Done {
         let room = |r: &mut Random| r.pick(&[0, 1, 2, about.saturating_sub(1), about, about, about + 1, 64, 64, 64, 100]);
         let (files, sources) = (room(&mut self.r), room(&mut self.r));
-        self.call(&format!("{name} {files} {sources}"))
+        let (lowest, highest) = (" lowest", self.r.pick(&["", " highest"]));
+        let asked: &[&str] = match self.r.below(4) {
+            0 => &[lowest],
+            1 => &[highest],
+            2 => &[lowest, highest],
+            _ => &[highest, lowest],
+        };
+        for word in asked {
+            self.call(&format!("{name} {files} {sources}{word}"))?;
+        }
+        Ok(())
     }
 
     fn listings(&mut self, about: u64) -> Done {
@@ -338,7 +348,7 @@ impl<W: Write> Campaigns<W> {
             self.layoutreturn(&pool, file, client)?;
             self.call("totals")?;
         }
-        self.call("resilver 1 1")
+        self.listing("resilver", 1)
     }
 
     /// Every client opens every file, and now and then one closes it again.
@@ -378,7 +388,7 @@ impl<W: Write> Campaigns<W> {
             self.restartable_step(&pool)?;
         }
         self.raw(b"end")?;
-        self.raw(b"resilver 64 64")
+        self.raw(b"resilver 64 64 lowest")
     }
 
     /// A call in grace that can change what the end of grace lists, restarts among them.
@@ -486,6 +496,8 @@ impl<W: Write> Campaigns<W> {
                 "totals".to_string(),
                 "request -".to_string(),
                 "resilver 2 2".to_string(),
+                "resilver 2 2 lowest".to_string(),
+                "offered 2 2 highest".to_string(),
                 format!("layout {:08x}", 0),
             ];
             let line = calls[self.r.size(calls.len())].clone();

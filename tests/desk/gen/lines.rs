@@ -16,7 +16,7 @@ fn other_digits(r: &mut Random, word: &str) -> String {
     if number && r.percent(30) {
         return format!("00000000000000000000{word}");
     }
-    if r.percent(30) {
+    if word.bytes().all(|b| b.is_ascii_hexdigit()) && r.percent(30) {
         word.to_uppercase()
     } else {
         word.to_string()
@@ -28,10 +28,10 @@ pub fn spoilt(r: &mut Random, line: &str) -> Vec<u8> {
     let mut words: Vec<String> = line.split(' ').map(str::to_string).collect();
     let last = words.len() - 1;
     match r.below(8) {
-        0 => words.push(r.pick(&["0", "-", "#", "1"]).to_string()),
+        0 => words.push(r.pick(&["0", "-", "#", "1", "Lowest"]).to_string()),
         1 => words[0] = r.pick(&["opens", "Open", "ope", "?", "-", "layoutreturn#", "\u{feff}open"]).to_string(),
         2 => words[0].push(r.pick(&['\0', '\u{b}', ',', '1'])),
-        3 if last > 0 => {
+        3 if last > 0 && !may_lack(&words[last]) => {
             words.pop();
         }
         4..=6 if last > 0 => words[1 + r.size(last)] = bad_word(r),
@@ -40,10 +40,16 @@ pub fn spoilt(r: &mut Random, line: &str) -> Vec<u8> {
     words.join(" ").into_bytes()
 }
 
-/// A word that is neither a number nor bytes.
+/// A word without which the line can be read too.
+fn may_lack(word: &str) -> bool {
+    ["old", "lowest", "highest"].contains(&word)
+}
+
+/// A word that is neither a number nor bytes, an edition or a direction.
 fn bad_word(r: &mut Random) -> String {
-    r.pick(&["18446744073709551616x", "99999999999999999999999g", "-1", "+1", "0x1", "1.", "--", "0g", "\u{e9}\u{e9}", "'", "\0\0", "1\u{b}"])
-        .to_string()
+    let numbers = ["18446744073709551616x", "99999999999999999999999g", "-1", "+1", "0x1", "1.", "--", "0g", "\u{e9}\u{e9}", "'", "\0\0", "1\u{b}"];
+    let directions = ["Lowest", "highes", "lowest,"];
+    r.pick(&[&numbers[..], &directions].concat()).to_string()
 }
 
 /// Lines at the limits of numbers, rooms, bytes and length: each as the last that can be read, and as the first that can't.
@@ -57,6 +63,8 @@ pub fn at_the_limits() -> Vec<String> {
             format!("may 429496729{}", 5 + over),
             format!("resilver 6553{} 65536", 6 + over),
             format!("offered 64 6553{}", 6 + over),
+            format!("resilver 6553{} 65536 lowest", 6 + over),
+            format!("offered 64 6553{} highest", 6 + over),
             format!("layoutreturn 7 1 6553{} 00", 6 + over),
             format!("layoutreturn 7 1 24 {}", zeros(16_384 + over)),
             format!("request {}", zeros(16_384 + over)),
