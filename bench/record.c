@@ -81,6 +81,8 @@ static const struct bench_job jobs[] = {
     {"end of grace", 1, 2.0, BOTH(half, end)},
     {"resilver list, 64 files", FILES, 2.0, BOTH(lost, resilver)},
     {"offered for copying, 64 files", FILES, 2.0, BOTH(lost, offered)},
+    {"resilver list, 64 files, nobody asks", FILES, 2.0, BOTH(lost, resilver_highest)},
+    {"offered for copying, 64 files, nobody asks", FILES, 2.0, BOTH(lost, offered_highest)},
 };
 
 /* an opaque field */

@@ -1,6 +1,7 @@
 /*
  * The calls on a record through the archive: where a record lies and how big it is, marked examples K10 to K13, and random calls
- * (seed: the argument, or 1) beside tests/plain/record.c: each answer, each reply, all totals and both lists.
+ * (seed: the argument, or 1) beside tests/plain/record.c: each answer, each reply, all totals and both lists, from either direction, where nobody asks
+ * for one, and for numbers that are none.
  * Prints one line, and ends with 1 where anything differs.
  */
 #include "bytes.h"
@@ -138,15 +139,33 @@ static int flags_alone(const struct lent *t)
     return t->before == filled && t->between == filled && t->after == filled;
 }
 
-/* ---- K10 to K13 */
-static int lists(int idle, uint64_t n, uint64_t file, uint8_t source)
+/* ---- lists */
+/* In place of a direction: the call that takes none. */
+#define UNASKED (UINT64_C(1) << 32)
+
+/* One list of the library. */
+static uint32_t list(int idle, uint64_t direction, uint64_t *files, size_t a, uint8_t *sources, size_t b, uint64_t *count)
+{
+    if (direction == UNASKED)
+        return (idle ? sc_record_offered : sc_record_resilver)(&held.r, files, a, sources, b, count);
+    return (idle ? sc_record_offered_by : sc_record_resilver_by)(&held.r, (uint32_t)direction, files, a, sources, b, count);
+}
+
+static int listed(int idle, uint64_t direction, uint64_t n, uint64_t file, uint8_t source)
 {
     uint64_t files[2] = {5, 5}, count = 9;
     uint8_t sources[2] = {6, 6};
-    uint32_t answer = (idle ? sc_record_offered : sc_record_resilver)(&held.r, files, 2, sources, 2, &count);
+    uint32_t answer = list(idle, direction, files, 2, sources, 2, &count);
     return answer == 0 && count == n && (n == 0 ? files[0] == 5 && sources[0] == 6 : files[0] == file && sources[0] == source) && files[1] == 5 && sources[1] == 6;
 }
 
+/* A list of the file, or of none, with this lowest and this highest source, which is also the one where nobody asks. */
+static int lists(int idle, uint64_t n, uint64_t file, uint8_t lowest, uint8_t highest)
+{
+    return listed(idle, SC_LOWEST, n, file, lowest) && listed(idle, SC_HIGHEST, n, file, highest) && listed(idle, UNASKED, n, file, highest);
+}
+
+/* ---- K10 to K13 */
 static void example(int reclaims, int reports)
 {
     uint8_t reply[30];
@@ -170,13 +189,13 @@ static void example(int reclaims, int reports)
 static void examples(void)
 {
     example(0, -1);
-    expect(lists(0, 1, 7, 0), "K10", 0);
+    expect(lists(0, 1, 7, 0, 1), "K10", 0);
     example(1, -1);
-    expect(lists(0, 0, 0, 0), "K11", 0);
+    expect(lists(0, 0, 0, 0, 0), "K11", 0);
     example(1, 0);
-    expect(lists(0, 1, 7, 1) && lists(1, 0, 0, 0) && sc_record_close(&held.r, 7, 1) == 0 && lists(1, 1, 7, 1), "K12", 0);
+    expect(lists(0, 1, 7, 1, 1) && lists(1, 0, 0, 0, 0) && sc_record_close(&held.r, 7, 1) == 0 && lists(1, 1, 7, 1, 1), "K12", 0);
     example(1, 2);
-    expect(lists(0, 1, 7, 0), "K13", 0);
+    expect(lists(0, 1, 7, 0, 1), "K13", 0);
 }
 
 /* ---- totals of one file with the mirrors of devices 0, 1 and 2, and a client with an intent */
@@ -241,7 +260,7 @@ static void edges(void)
     len = statistic(len, count, device[2], 1, 0, opaques);
     len = statistic(len, count, device[2], 9, most, opaques);
     totals("sums at the edge", len, 1, 24, 0, sums, other, 4, 4);
-    expect(lists(0, 0, 0, 0), "statistics mark nothing", 0);
+    expect(lists(0, 0, 0, 0, 0), "statistics mark nothing", 0);
     totals("a client without an intent", len, 2, 24, 10034, none, none, 0, 0);
     totals("no room for the reply", len, 1, 23, 28, none, none, 0, 0);
     totals("a byte too few", len - 1, 1, 24, 10036, none, none, 0, 0);
@@ -253,7 +272,7 @@ static void edges(void)
     request[12 + 3] = 1;
     memcpy(request + 92, device[3], 16);
     totals("an ignored report", len, 1, 24, 0, none, none, 0, 0);
-    expect(lists(0, 1, 7, 0), "an ignored report marks", 0);
+    expect(lists(0, 1, 7, 0, 2), "an ignored report marks", 0);
     memcpy(request + 92, device[0], 16);
     with_mirrors(1);
     totals("an old record", len, 1, 24, 10025, none, none, 0, 0);
@@ -275,17 +294,69 @@ static uint64_t random64(void)
 
 static uint64_t below(uint64_t n) { return random64() % n; }
 
+/* A list into lent slices, which are filled before the call. */
+struct listed {
+    uint64_t files[ROOM], count, answer;
+    uint8_t sources[ROOM];
+};
+
+/* The library's list, or plain C's. */
+static void lend_list(struct listed *l, int ours, int idle, uint64_t direction, size_t a, size_t b)
+{
+    memset(l, 0x31, sizeof *l);
+    if (ours)
+        l->answer = list(idle, direction, l->files, a, l->sources, b, &l->count);
+    else if (direction == UNASKED)
+        l->answer = (idle ? plain_record_offered : plain_record_resilver)(&plain, l->files, a, l->sources, b, &l->count);
+    else
+        l->answer = (idle ? plain_record_offered_by : plain_record_resilver_by)(&plain, (uint32_t)direction, l->files, a, l->sources, b, &l->count);
+}
+
+/* Whether a list was refused for its direction, with a count of 0 and nothing else written. */
+static int undirected(const struct listed *l)
+{
+    struct listed none;
+    memset(&none, 0x31, sizeof none);
+    none.answer = SC_INVAL;
+    none.count = 0;
+    return memcmp(l, &none, sizeof none) == 0;
+}
+
+/* How many lists were asked for from no direction; and of the files on lists, how many have one source from both ends, another from each, and none. */
+static unsigned long astray, alike, otherwise, without;
+
+/* A direction, UNASKED, or a number that is none: next to a direction, with one in some of its bytes, or any. */
+static uint64_t any_direction(void)
+{
+    static const uint64_t some[] = {SC_LOWEST, SC_HIGHEST, UNASKED};
+    static const uint32_t none[] = {0, 3, 4, 255, 256, 257, 258, 0x10001, 0x10002, 0x1000000, 0x2000000, 0x80000001, 0x80000002, UINT32_MAX - 1, UINT32_MAX};
+    uint64_t kind = below(12);
+    return kind < 9 ? some[kind % 3] : kind < 11 ? none[below(sizeof none / sizeof none[0])] : (uint32_t)random64();
+}
+
+/* Both ends of one list. */
+static void both_ends(int idle)
+{
+    struct listed lowest, highest;
+    lend_list(&lowest, 1, idle, SC_LOWEST, ROOM, ROOM);
+    lend_list(&highest, 1, idle, SC_HIGHEST, ROOM, ROOM);
+    for (size_t i = 0; i < lowest.count && i < ROOM; i++)
+        *(lowest.sources[i] == 255 ? &without : lowest.sources[i] == highest.sources[i] ? &alike : &otherwise) += 1;
+}
+
 static void compare_lists(unsigned long n)
 {
+    struct listed x, y;
     for (int idle = 0; idle < 2; idle++) {
-        uint64_t files[2][ROOM], count[2] = {77, 77};
-        uint8_t sources[2][ROOM];
-        memset(files, 0x31, sizeof files);
-        memset(sources, 0x32, sizeof sources);
         size_t a = below(4) ? ROOM : below(ROOM), b = below(4) ? ROOM : below(ROOM);
-        uint32_t x = (idle ? sc_record_offered : sc_record_resilver)(&held.r, files[0], a, sources[0], b, &count[0]);
-        uint32_t y = (idle ? plain_record_offered : plain_record_resilver)(&plain, files[1], a, sources[1], b, &count[1]);
-        expect(x == y && count[0] == count[1] && memcmp(files[0], files[1], sizeof files[0]) == 0 && memcmp(sources[0], sources[1], sizeof sources[0]) == 0, "a list", n);
+        uint64_t direction = any_direction();
+        int none = direction != SC_LOWEST && direction != SC_HIGHEST && direction != UNASKED;
+        lend_list(&x, 1, idle, direction, a, b);
+        lend_list(&y, 0, idle, direction, a, b);
+        expect(memcmp(&x, &y, sizeof x) == 0, "a list", n);
+        expect(undirected(&x) == none, "a list from no direction", n);
+        astray += none != 0;
+        both_ends(idle);
     }
 }
 
@@ -386,6 +457,7 @@ static void random_calls(int old)
     }
     for (int i = 0; !old && i < ANSWERS; i++)
         expect(seen[i] != 0, "an answer that never came up", answers[i]);
+    expect(astray != 0 && alike != 0 && otherwise != 0 && (without != 0 || old), "sources of the random calls: other from the other end, or not, or none", without);
     expect((flagged != 0 && full != 0 && counted != 0) == !old, "totals of the random calls: flags, 2^64 - 1 without one, or others", flagged);
 }
 
@@ -400,7 +472,8 @@ int main(int argc, char **argv)
     edges();
     random_calls(1);
     random_calls(0);
-    printf("capi: %d random calls beside plain C, with %lu totals (%lu flagged, %lu of 2^64 - 1 that are not); the struct, totals at the edge and K10 to K13: %lu differences\n", CALLS,
-           counted + flagged + full, flagged, full, differences);
+    printf("capi: %d random calls beside plain C, with %lu totals (%lu flagged, %lu of 2^64 - 1 that are not); %lu lists from no direction; of the files on lists %lu have another\n"
+           "    source from the other end, %lu the same, %lu none; the struct, totals at the edge and K10 to K13: %lu differences\n",
+           CALLS, counted + flagged + full, flagged, full, astray, otherwise, alike, without, differences);
     return differences != 0;
 }

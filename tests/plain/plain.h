@@ -11,6 +11,9 @@
 
 enum { PLAIN_FILES = 64, PLAIN_MIRRORS = 4, PLAIN_INTENTS = 8, PLAIN_NODES = 32 };
 
+/* The directions that a source is looked for from. */
+enum { PLAIN_LOWEST = 1, PLAIN_HIGHEST = 2 };
+
 /* What a LAYOUTRETURN that is handed on is answered. */
 #define PLAIN_HANDED_ON UINT32_MAX
 
@@ -73,6 +76,8 @@ struct plain_epochs {
                                     uint32_t *, uint32_t *); \
     uint32_t P##record_resilver(const struct plain_record *, uint64_t *, size_t, uint8_t *, size_t, uint64_t *); \
     uint32_t P##record_offered(const struct plain_record *, uint64_t *, size_t, uint8_t *, size_t, uint64_t *); \
+    uint32_t P##record_resilver_by(const struct plain_record *, uint32_t, uint64_t *, size_t, uint8_t *, size_t, uint64_t *); \
+    uint32_t P##record_offered_by(const struct plain_record *, uint32_t, uint64_t *, size_t, uint8_t *, size_t, uint64_t *); \
     void P##epochs_fresh(struct plain_epochs *); \
     uint32_t P##epochs_join(struct plain_epochs *, uint32_t); \
     uint32_t P##epochs_leave(struct plain_epochs *, uint32_t); \

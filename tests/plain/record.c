@@ -288,36 +288,52 @@ uint32_t FN(record_layoutreturn)(struct plain_record *r, uint64_t file, uint64_t
 }
 
 /* ---- the lists */
-static uint8_t source(const struct plain_file *f)
+/* The first place by the direction that is not blamed, or 255. */
+static uint8_t source(const struct plain_file *f, uint32_t direction)
 {
-    for (uint8_t i = 0; i < f->mirror_count; i++)
-        if (!(f->blamed >> i & 1))
-            return i;
-    return 255;
+    unsigned left = ~(unsigned)f->blamed & ((1u << f->mirror_count) - 1);
+    if (left == 0)
+        return 255;
+    return (uint8_t)(direction == PLAIN_LOWEST ? __builtin_ctz(left) : 31 - __builtin_clz(left));
 }
 
-static uint32_t list(const struct plain_record *r, bool idle, uint64_t *files, size_t files_len, uint8_t *sources, size_t sources_len, uint64_t *count)
+static uint32_t list(const struct plain_record *r, bool idle, uint32_t direction, uint64_t *files, size_t files_len, uint8_t *sources, size_t sources_len, uint64_t *count)
 {
     size_t n = 0;
+    *count = 0;
+    if (direction != PLAIN_LOWEST && direction != PLAIN_HIGHEST)
+        return 22;
     for (const struct plain_file *f = r->files; f < r->files + r->count; f++)
         n += f->marked && !(idle && f->intent_count != 0);
-    *count = 0;
     if (files_len < n || sources_len < n)
         return 28;
     for (const struct plain_file *f = r->files; f < r->files + r->count; f++)
         if (f->marked && !(idle && f->intent_count != 0)) {
             files[*count] = f->number;
-            sources[(*count)++] = source(f);
+            sources[(*count)++] = source(f, direction);
         }
     return 0;
 }
 
+uint32_t FN(record_resilver_by)(const struct plain_record *r, uint32_t direction, uint64_t *files, size_t files_len, uint8_t *sources, size_t sources_len,
+                                uint64_t *count)
+{
+    return list(r, false, direction, files, files_len, sources, sources_len, count);
+}
+
+uint32_t FN(record_offered_by)(const struct plain_record *r, uint32_t direction, uint64_t *files, size_t files_len, uint8_t *sources, size_t sources_len,
+                               uint64_t *count)
+{
+    return list(r, true, direction, files, files_len, sources, sources_len, count);
+}
+
+/* Where nobody asks, the highest. */
 uint32_t FN(record_resilver)(const struct plain_record *r, uint64_t *files, size_t files_len, uint8_t *sources, size_t sources_len, uint64_t *count)
 {
-    return list(r, false, files, files_len, sources, sources_len, count);
+    return list(r, false, PLAIN_HIGHEST, files, files_len, sources, sources_len, count);
 }
 
 uint32_t FN(record_offered)(const struct plain_record *r, uint64_t *files, size_t files_len, uint8_t *sources, size_t sources_len, uint64_t *count)
 {
-    return list(r, true, files, files_len, sources, sources_len, count);
+    return list(r, true, PLAIN_HIGHEST, files, files_len, sources, sources_len, count);
 }

@@ -41,6 +41,9 @@ static void end_grace(void) { answer = sc_record_end_grace(&record); }
 static void repaired(void) { answer = sc_record_repaired(&record, 10); }
 static void resilver(void) { answer = sc_record_resilver(&record, files, FILES, sources, FILES, &count); }
 static void offered(void) { answer = sc_record_offered(&record, files, FILES, sources, FILES, &count); }
+static void resilver_by(void) { answer = sc_record_resilver_by(&record, SC_LOWEST, files, FILES, sources, FILES, &count); }
+static void offered_by(void) { answer = sc_record_offered_by(&record, SC_LOWEST, files, FILES, sources, FILES, &count); }
+static void resilver_by_none(void) { answer = sc_record_resilver_by(&record, 0, files, FILES, sources, FILES, &count); }
 
 static void write_layout(void)
 {
@@ -84,7 +87,9 @@ static void start(void) { sc_epochs_fresh(&epochs); sc_epochs_join(&epochs, 3); 
 static const struct { const char *what; void (*call)(void); uint32_t answer; } calls[] = {
     {"register", enter, 0}, {"open", open_file, 0}, {"close", close_file, 0}, {"forget", forget, 0}, {"restart", restart, 0},
     {"reclaim", reclaim, 0}, {"LAYOUTRETURN", reports, 0}, {"LAYOUTRETURN, handed on", handed_on, SC_HANDED_ON},
-    {"end of grace", end_grace, 0}, {"resilver list", resilver, 0}, {"offered for copying", offered, 0}, {"repaired", repaired, 0},
+    {"end of grace", end_grace, 0}, {"resilver list", resilver, 0}, {"offered for copying", offered, 0},
+    {"resilver list, lowest", resilver_by, 0}, {"offered, lowest", offered_by, 0}, {"resilver, no direction", resilver_by_none, SC_INVAL},
+    {"repaired", repaired, 0},
     {"fresh", fresh, 0}, {"fresh, old", fresh_old, 0},
     {"layout write", write_layout, 0}, {"layout check", check_layout, 0}, {"layout extent", extent, 0}, {"layout merge", merge, 0},
     {"layout commit", commit, 0},
