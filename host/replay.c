@@ -265,7 +265,7 @@ typedef uint32_t on_record(struct sc_record *);
 typedef uint32_t on_file(struct sc_record *, uint64_t);
 typedef uint32_t on_client(struct sc_record *, uint64_t, uint64_t);
 typedef uint32_t listing(const struct sc_record *, uint64_t *, size_t, uint8_t *, size_t, uint64_t *);
-typedef uint32_t listing_by(const struct sc_record *, uint32_t, uint64_t *, size_t, uint8_t *, size_t, uint64_t *);
+typedef uint32_t listing_by(const struct sc_record *, uint64_t *, size_t, uint8_t *, size_t, uint64_t *, uint32_t);
 typedef uint32_t on_node(struct sc_epochs *, uint32_t);
 struct kind;
 
@@ -526,8 +526,8 @@ static bool run_listing_by(const struct command *c, const struct word *argument)
     struct listed l;
     if ((!lowest && !word_is(argument[2], "highest")) || !lend_listing(argument, &l))
         return false;
-    take_back_listing(c->call.list_by(record, lowest ? SC_LOWEST : SC_HIGHEST, (uint64_t *)(void *)bytes_of(l.files), (size_t)l.room_files,
-                                      bytes_of(l.sources), (size_t)l.room_sources, (uint64_t *)(void *)bytes_of(l.count)),
+    take_back_listing(c->call.list_by(record, (uint64_t *)(void *)bytes_of(l.files), (size_t)l.room_files, bytes_of(l.sources),
+                                      (size_t)l.room_sources, (uint64_t *)(void *)bytes_of(l.count), lowest ? SC_LOWEST : SC_HIGHEST),
                       &l);
     return true;
 }

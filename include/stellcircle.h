@@ -248,23 +248,33 @@ uint32_t sc_record_layoutreturn(struct sc_record *r, uint64_t file, uint64_t cli
                                 uint32_t *read_over, uint32_t *written_over);
 
 /* The directions that the source of a copy is looked for from. */
+#define SC_UNASKED UINT32_C(0) /* none is asked for: the highest */
 #define SC_LOWEST UINT32_C(1)  /* from place 0 up */
 #define SC_HIGHEST UINT32_C(2) /* from the last mirror down */
 
 /* The files that need repair, by rising number: file k of the list at files[k], and at sources[k] the first mirror place by the direction that is not
  * blamed, or 255 where there is none. files_len and sources_len are the places that are lent.
  * 0: *count is the length of the list; later places stay as they were.
- * 22: the direction is neither SC_LOWEST nor SC_HIGHEST; 28: a buffer is too short. *count is 0, and both buffers stay as they were. */
-uint32_t sc_record_resilver_by(const struct sc_record *r, uint32_t direction, uint64_t *files, size_t files_len, uint8_t *sources, size_t sources_len,
-                               uint64_t *count);
+ * 22: the direction is none of these three; 28: a buffer is too short. *count is 0, and both buffers stay as they were. */
+uint32_t sc_record_resilver_by(const struct sc_record *r, uint64_t *files, size_t files_len, uint8_t *sources, size_t sources_len, uint64_t *count,
+                               uint32_t direction);
 
 /* The same of those files that have no intent: they are offered for copying. */
-uint32_t sc_record_offered_by(const struct sc_record *r, uint32_t direction, uint64_t *files, size_t files_len, uint8_t *sources, size_t sources_len,
-                              uint64_t *count);
+uint32_t sc_record_offered_by(const struct sc_record *r, uint64_t *files, size_t files_len, uint8_t *sources, size_t sources_len, uint64_t *count,
+                              uint32_t direction);
 
-/* The same two for a host that asks for no direction: SC_HIGHEST. Up to version 1 they gave the lowest; who relies on that asks for SC_LOWEST. */
-uint32_t sc_record_resilver(const struct sc_record *r, uint64_t *files, size_t files_len, uint8_t *sources, size_t sources_len, uint64_t *count);
-uint32_t sc_record_offered(const struct sc_record *r, uint64_t *files, size_t files_len, uint8_t *sources, size_t sources_len, uint64_t *count);
+/* The same two for a host that asks for no direction: SC_UNASKED. Up to version 1 they gave the lowest; who relies on that asks for SC_LOWEST. */
+static inline uint32_t sc_record_resilver(const struct sc_record *r, uint64_t *files, size_t files_len, uint8_t *sources, size_t sources_len,
+                                          uint64_t *count)
+{
+    return sc_record_resilver_by(r, files, files_len, sources, sources_len, count, SC_UNASKED);
+}
+
+static inline uint32_t sc_record_offered(const struct sc_record *r, uint64_t *files, size_t files_len, uint8_t *sources, size_t sources_len,
+                                         uint64_t *count)
+{
+    return sc_record_offered_by(r, files, files_len, sources, sources_len, count, SC_UNASKED);
+}
 
 /* ---- the grace epochs of a cluster: the epoch record of a node, and the calls on it ----
  *

@@ -148,7 +148,7 @@ static uint32_t list(int idle, uint64_t direction, uint64_t *files, size_t a, ui
 {
     if (direction == UNASKED)
         return (idle ? sc_record_offered : sc_record_resilver)(&held.r, files, a, sources, b, count);
-    return (idle ? sc_record_offered_by : sc_record_resilver_by)(&held.r, (uint32_t)direction, files, a, sources, b, count);
+    return (idle ? sc_record_offered_by : sc_record_resilver_by)(&held.r, files, a, sources, b, count, (uint32_t)direction);
 }
 
 static int listed(int idle, uint64_t direction, uint64_t n, uint64_t file, uint8_t source)
@@ -309,7 +309,7 @@ static void lend_list(struct listed *l, int ours, int idle, uint64_t direction, 
     else if (direction == UNASKED)
         l->answer = (idle ? plain_record_offered : plain_record_resilver)(&plain, l->files, a, l->sources, b, &l->count);
     else
-        l->answer = (idle ? plain_record_offered_by : plain_record_resilver_by)(&plain, (uint32_t)direction, l->files, a, l->sources, b, &l->count);
+        l->answer = (idle ? plain_record_offered_by : plain_record_resilver_by)(&plain, l->files, a, l->sources, b, &l->count, (uint32_t)direction);
 }
 
 /* Whether a list was refused for its direction, with a count of 0 and nothing else written. */
@@ -350,7 +350,7 @@ static void compare_lists(unsigned long n)
     for (int idle = 0; idle < 2; idle++) {
         size_t a = below(4) ? ROOM : below(ROOM), b = below(4) ? ROOM : below(ROOM);
         uint64_t direction = any_direction();
-        int none = direction != SC_LOWEST && direction != SC_HIGHEST && direction != UNASKED;
+        int none = direction > SC_HIGHEST && direction != UNASKED;
         lend_list(&x, 1, idle, direction, a, b);
         lend_list(&y, 0, idle, direction, a, b);
         expect(memcmp(&x, &y, sizeof x) == 0, "a list", n);

@@ -63,12 +63,12 @@ uint32_t __wrap_sc_record_layoutreturn(struct sc_record *r, uint64_t file, uint6
     return breaks("reply-of-no-room") && answer == 28 ? 10036 : answer;
 }
 
-uint32_t __real_sc_record_resilver_by(const struct sc_record *, uint32_t, uint64_t *, size_t, uint8_t *, size_t, uint64_t *);
-uint32_t __wrap_sc_record_resilver_by(const struct sc_record *, uint32_t, uint64_t *, size_t, uint8_t *, size_t, uint64_t *);
-uint32_t __wrap_sc_record_resilver_by(const struct sc_record *r, uint32_t direction, uint64_t *files, size_t files_len, uint8_t *sources,
-                                      size_t sources_len, uint64_t *count)
+uint32_t __real_sc_record_resilver_by(const struct sc_record *, uint64_t *, size_t, uint8_t *, size_t, uint64_t *, uint32_t);
+uint32_t __wrap_sc_record_resilver_by(const struct sc_record *, uint64_t *, size_t, uint8_t *, size_t, uint64_t *, uint32_t);
+uint32_t __wrap_sc_record_resilver_by(const struct sc_record *r, uint64_t *files, size_t files_len, uint8_t *sources, size_t sources_len,
+                                      uint64_t *count, uint32_t direction)
 {
-    uint32_t answer = __real_sc_record_resilver_by(r, direction, files, files_len, sources, sources_len, count);
+    uint32_t answer = __real_sc_record_resilver_by(r, files, files_len, sources, sources_len, count, direction);
     scribble("listing-record", r);
     scribble("listing-count-after", count + 1);
     scribble("listing-files-after", files + files_len);
@@ -83,17 +83,9 @@ uint32_t __wrap_sc_record_resilver_by(const struct sc_record *r, uint32_t direct
         scribble("listing-sources-on-28", sources);
     if (answer == 0 && breaks("listing-counts-too-many"))
         *count = files_len + 1;
-    return answer;
-}
-
-uint32_t __real_sc_record_resilver(const struct sc_record *, uint64_t *, size_t, uint8_t *, size_t, uint64_t *);
-uint32_t __wrap_sc_record_resilver(const struct sc_record *, uint64_t *, size_t, uint8_t *, size_t, uint64_t *);
-uint32_t __wrap_sc_record_resilver(const struct sc_record *r, uint64_t *files, size_t files_len, uint8_t *sources, size_t sources_len,
-                                   uint64_t *count)
-{
-    uint32_t answer = __real_sc_record_resilver(r, files, files_len, sources, sources_len, count);
-    scribble("listing-unasked-record", r);
-    if (answer == 0 && *count < sources_len)
+    if (direction == SC_UNASKED)
+        scribble("listing-unasked-record", r);
+    if (direction == SC_UNASKED && answer == 0 && *count < sources_len)
         scribble("listing-unasked-sources-past-count", sources + *count);
     return answer;
 }

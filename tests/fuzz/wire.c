@@ -240,7 +240,7 @@ static void set_up(struct sc_record *r, struct plain_record *p, uint8_t choice)
         same("restart", sc_record_restart(r) | plain_record_restart(p), 0);
 }
 
-/* One list, with a place more than there are files: from a direction, from none that there is (0 and above 2), or where nobody asks (UNASKED). */
+/* One list, with a place more than there are files: from a direction, from none that there is (3), or where nobody asks (0, and the call without one: UNASKED). */
 enum { UNASKED = 4 };
 
 static void check_list(const struct sc_record *r, const struct plain_record *p, bool idle, uint32_t direction)
@@ -248,9 +248,9 @@ static void check_list(const struct sc_record *r, const struct plain_record *p, 
     uint64_t files[2][2] = {{99, 99}, {99, 99}}, count[2] = {99, 99};
     uint8_t sources[2][2] = {{99, 99}, {99, 99}};
     uint32_t answer = direction == UNASKED ? (idle ? sc_record_offered : sc_record_resilver)(r, files[0], 2, sources[0], 2, &count[0])
-                                           : (idle ? sc_record_offered_by : sc_record_resilver_by)(r, direction, files[0], 2, sources[0], 2, &count[0]);
+                                           : (idle ? sc_record_offered_by : sc_record_resilver_by)(r, files[0], 2, sources[0], 2, &count[0], direction);
     uint32_t wanted = direction == UNASKED ? (idle ? plain_record_offered : plain_record_resilver)(p, files[1], 2, sources[1], 2, &count[1])
-                                           : (idle ? plain_record_offered_by : plain_record_resilver_by)(p, direction, files[1], 2, sources[1], 2, &count[1]);
+                                           : (idle ? plain_record_offered_by : plain_record_resilver_by)(p, files[1], 2, sources[1], 2, &count[1], direction);
     same("list", answer, wanted);
     same("list count", count[0], count[1]);
     for (int i = 0; i < 2; i++) {

@@ -76,8 +76,8 @@ struct plain_epochs {
                                     uint32_t *, uint32_t *); \
     uint32_t P##record_resilver(const struct plain_record *, uint64_t *, size_t, uint8_t *, size_t, uint64_t *); \
     uint32_t P##record_offered(const struct plain_record *, uint64_t *, size_t, uint8_t *, size_t, uint64_t *); \
-    uint32_t P##record_resilver_by(const struct plain_record *, uint32_t, uint64_t *, size_t, uint8_t *, size_t, uint64_t *); \
-    uint32_t P##record_offered_by(const struct plain_record *, uint32_t, uint64_t *, size_t, uint8_t *, size_t, uint64_t *); \
+    uint32_t P##record_resilver_by(const struct plain_record *, uint64_t *, size_t, uint8_t *, size_t, uint64_t *, uint32_t); \
+    uint32_t P##record_offered_by(const struct plain_record *, uint64_t *, size_t, uint8_t *, size_t, uint64_t *, uint32_t); \
     void P##epochs_fresh(struct plain_epochs *); \
     uint32_t P##epochs_join(struct plain_epochs *, uint32_t); \
     uint32_t P##epochs_leave(struct plain_epochs *, uint32_t); \

@@ -288,7 +288,7 @@ uint32_t FN(record_layoutreturn)(struct plain_record *r, uint64_t file, uint64_t
 }
 
 /* ---- the lists */
-/* The first place by the direction that is not blamed, or 255. */
+/* The first place by the direction that is not blamed, or 255; where none is asked for (0), by the highest. */
 static uint8_t source(const struct plain_file *f, uint32_t direction)
 {
     unsigned left = ~(unsigned)f->blamed & ((1u << f->mirror_count) - 1);
@@ -301,7 +301,7 @@ static uint32_t list(const struct plain_record *r, bool idle, uint32_t direction
 {
     size_t n = 0;
     *count = 0;
-    if (direction != PLAIN_LOWEST && direction != PLAIN_HIGHEST)
+    if (direction > PLAIN_HIGHEST)
         return 22;
     for (const struct plain_file *f = r->files; f < r->files + r->count; f++)
         n += f->marked && !(idle && f->intent_count != 0);
@@ -315,14 +315,14 @@ static uint32_t list(const struct plain_record *r, bool idle, uint32_t direction
     return 0;
 }
 
-uint32_t FN(record_resilver_by)(const struct plain_record *r, uint32_t direction, uint64_t *files, size_t files_len, uint8_t *sources, size_t sources_len,
-                                uint64_t *count)
+uint32_t FN(record_resilver_by)(const struct plain_record *r, uint64_t *files, size_t files_len, uint8_t *sources, size_t sources_len, uint64_t *count,
+                                uint32_t direction)
 {
     return list(r, false, direction, files, files_len, sources, sources_len, count);
 }
 
-uint32_t FN(record_offered_by)(const struct plain_record *r, uint32_t direction, uint64_t *files, size_t files_len, uint8_t *sources, size_t sources_len,
-                               uint64_t *count)
+uint32_t FN(record_offered_by)(const struct plain_record *r, uint64_t *files, size_t files_len, uint8_t *sources, size_t sources_len, uint64_t *count,
+                               uint32_t direction)
 {
     return list(r, true, direction, files, files_len, sources, sources_len, count);
 }

@@ -41,9 +41,9 @@ static void end_grace(void) { answer = sc_record_end_grace(&record); }
 static void repaired(void) { answer = sc_record_repaired(&record, 10); }
 static void resilver(void) { answer = sc_record_resilver(&record, files, FILES, sources, FILES, &count); }
 static void offered(void) { answer = sc_record_offered(&record, files, FILES, sources, FILES, &count); }
-static void resilver_by(void) { answer = sc_record_resilver_by(&record, SC_LOWEST, files, FILES, sources, FILES, &count); }
-static void offered_by(void) { answer = sc_record_offered_by(&record, SC_LOWEST, files, FILES, sources, FILES, &count); }
-static void resilver_by_none(void) { answer = sc_record_resilver_by(&record, 0, files, FILES, sources, FILES, &count); }
+static void resilver_by(void) { answer = sc_record_resilver_by(&record, files, FILES, sources, FILES, &count, SC_LOWEST); }
+static void offered_by(void) { answer = sc_record_offered_by(&record, files, FILES, sources, FILES, &count, SC_LOWEST); }
+static void resilver_by_none(void) { answer = sc_record_resilver_by(&record, files, FILES, sources, FILES, &count, 3); }
 
 static void write_layout(void)
 {
