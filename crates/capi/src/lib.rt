@@ -119,7 +119,7 @@ fn ending(head: Head) -> Verdict
     } else {
         Verdict {
             status: statuses::NO_GRACE,
-            head: head,
+            head,
         }
     }
 }
@@ -172,7 +172,7 @@ fn end_each(r: &mut Record)
     let mut i: usize = 0;
     while i < 64 {
         r.files[i] = File::ended(r.files[i]);
-        i = i + 1;
+        i += 1;
     }
 }
 
@@ -272,10 +272,7 @@ fn forgetting(f: File, number: u64, head: Head) -> Verdict
     ensures { λ s. ⌜ s ≡ forgetVerdict number head f ⌝ }
 {
     let status = f.forget(number, head);
-    Verdict {
-        status: status,
-        head: head,
-    }
+    Verdict { status, head }
 }
 
 // The files without that at `at`: those after it, up to the first free place, move down one place.
@@ -288,7 +285,7 @@ fn pull(r: &mut Record, at: usize, s: Verdict)
             break;
         }
         r.files[i] = r.files[i + 1];
-        i = i + 1;
+        i += 1;
     }
     if i < 64 {
         r.files[i] = File::blank();

@@ -81,7 +81,7 @@ impl Intent {
     pub(crate) fn stays(self) -> bool
         ensures { λ r. ⌜ r ≡ isKept self ⌝ }
     {
-        if self.taken { self.reclaimed } else { false }
+        self.taken && self.reclaimed
     }
 
     // An intent that stays, or a free place.

@@ -61,7 +61,7 @@ impl Mirror {
     pub(crate) fn good(self) -> bool
         ensures { λ r. ⌜ r ≡ isGood self ⌝ }
     {
-        if self.present { !self.blamed } else { false }
+        self.present && !self.blamed
     }
 
     // The place once its device is blamed, if it is.
