@@ -1,69 +1,81 @@
--- One place after another gives the source. In this order: what is to come gives the highest place, the lowest place; the loop's invariant.
-use mathlib.Core.Path.{_≡_, refl, sym, _∙_}
-use mathlib.Core.List.{List, [], _∷_}
+-- The search for a source from either end. In this order: from the first place up, where no place before i can be copied from; from the last place down, where no place from i on
+-- can.
+use mathlib.Core.Path.{_≡_, refl, ap, sym, _∙_}
+use mathlib.Core.List.{List, [], _∷_, _++_, append-nil}
 use mathlib.Core.Bool.{Bool, true, false, cond}
-use Prim.Native.Nat.{ℕ, suc, _+_, _<_, _≤_}
+use Prim.Native.Nat.{ℕ, zero, suc, _+_, _<_, _≤_}
 use native.Mathlib.Numerals.{add-one}
+use native.Mathlib.Nat.{zero-add}
 use native.Mathlib.Omega.{arith}
-use lib.ListN.{getD, length, drop, drop-of-length-le}
-use lib.Dec.{eqb}
-use lib.Seq.{drop-cons}
-use borrow.Author.Tests.{ne-eqb}
-use Rattle.mirroring.specs.Direction.{headOr, lastOr, firstBy}
+use lib.ListN.{getD, length, take, drop, drop-of-length-le}
+use lib.Seq.{drop-cons, take-suc, take-all, length-take-le}
+use Rattle.mirroring.specs.Direction.{headOr, lastOr}
 use Rattle.mirroring.specs.Mirrors.{noMirror, isGood}
-use Rattle.mirroring.specs.Source.{goodFrom, sourceIn, preferred, passed}
+use Rattle.mirroring.specs.Source.{goodFrom}
 use Rattle.mirroring.specs.declared.mirrors.Mirror.{Mirror}
-use Rattle.mirroring.specs.declared.source.Direction.{Direction}
-use Rattle.mirroring.specs.declared.source.Direction.the-variants.{Lowest, Highest}
 
--- what a loop that has come to the place k with the source s is to answer
-unfoldable pub carried : Direction → ℕ → ℕ → List Mirror → ℕ
-carried d s k [] = s
-carried d s k (m ∷ ms) = carried d (passed d s m k) (suc k) ms
+-- ---- up
+pub record Upwards (l : List Mirror) (i : ℕ) : Type 0 where
+  pub rest : goodFrom 0 l ≡ goodFrom i (drop i l)
 
-highest-is : (s k : ℕ) (ms : List Mirror) → carried Highest s k ms ≡ lastOr s (goodFrom k ms)
-unfolding carried lastOr goodFrom
-highest-is s k [] = refl
-highest-is s k (m ∷ ms) = by (isGood m) (λ t. highest-is t (suc k) ms)
+pub upwards : (l : List Mirror) → Upwards l 0
+upwards l = record { rest = refl }
+
+-- `b` is whether the place i can be copied from
+module _ {l : List Mirror} {i : ℕ} (s : Upwards l i) (h : i < length l) {b : Bool} (t : b ≡ isGood (getD l i noMirror)) where
+  pub found-up : b ≡ true → i ≡ headOr 255 (goodFrom 0 l)
+  unfolding goodFrom headOr
+  found-up e = rw (s .rest, drop-cons l i noMirror h, ← t, e)
+
+  pub on-up : b ≡ false → Upwards l (i + 1)
+  unfolding goodFrom
+  on-up e = record { rest = s .rest ∙ rw (drop-cons l i noMirror h, ← t, e, add-one) }
+
+pub none-up : {l : List Mirror} {i : ℕ} → Upwards l i → length l ≤ i → 255 ≡ headOr 255 (goodFrom 0 l)
+unfolding goodFrom headOr
+none-up {l} s h = rw (s .rest, drop-of-length-le l h)
+
+-- ---- down
+good-append : (k : ℕ) (ms : List Mirror) (m : Mirror) → goodFrom k (ms ++ m ∷ []) ≡ goodFrom k ms ++ cond (isGood m) ((k + length ms) ∷ []) []
+unfolding goodFrom
+good-append k [] m = by (isGood m)
   where
-    by : (b : Bool) → ((t : ℕ) → carried Highest t (suc k) ms ≡ lastOr t (goodFrom (suc k) ms))
-        → carried Highest (cond b k s) (suc k) ms ≡ lastOr s (cond b (k ∷ goodFrom (suc k) ms) (goodFrom (suc k) ms))
-    by true h = h k
-    by false h = h s
+    same : k ≡ k + 0
+    same = omega arith
 
--- a place that is found stays
-stays : (s k : ℕ) (ms : List Mirror) → eqb s 255 ≡ false → carried Lowest s k ms ≡ s
-unfolding carried
-stays s k [] e = refl
-stays s k (m ∷ ms) e = by (isGood m) (stays s (suc k) ms e)
+    by : (b : Bool) → cond b (k ∷ []) [] ≡ cond b ((k + 0) ∷ []) []
+    by true = ap {B = List ℕ} (λ j. j ∷ []) same
+    by false = refl
+good-append k (n ∷ ms) m = by (isGood n) (good-append (suc k) ms m ∙ ap (λ j. goodFrom (suc k) ms ++ cond (isGood m) (j ∷ []) []) (omega arith))
   where
-    by : (b : Bool) → carried Lowest s (suc k) ms ≡ s → carried Lowest (cond b (preferred Lowest s k) s) (suc k) ms ≡ s
-    by true h = rw e h
+    by : (b : Bool) → goodFrom (suc k) (ms ++ m ∷ []) ≡ goodFrom (suc k) ms ++ cond (isGood m) ((k + suc (length ms)) ∷ []) []
+        → cond b (k ∷ goodFrom (suc k) (ms ++ m ∷ [])) (goodFrom (suc k) (ms ++ m ∷ [])) ≡ cond b (k ∷ goodFrom (suc k) ms) (goodFrom (suc k) ms) ++ cond (isGood m) ((k + suc (length ms)) ∷ []) []
+    by true h = ap {B = List ℕ} (λ ps. k ∷ ps) h
     by false h = h
 
-lowest-is : (k : ℕ) (ms : List Mirror) → k + length ms ≤ 255 → carried Lowest 255 k ms ≡ headOr 255 (goodFrom k ms)
-unfolding carried headOr goodFrom
-lowest-is k [] h = refl
-lowest-is k (m ∷ ms) h = by (isGood m) (lowest-is (suc k) ms (omega (arith, h)))
-  where
-    by : (b : Bool) → carried Lowest 255 (suc k) ms ≡ headOr 255 (goodFrom (suc k) ms)
-        → carried Lowest (cond b k 255) (suc k) ms ≡ headOr 255 (cond b (k ∷ goodFrom (suc k) ms) (goodFrom (suc k) ms))
-    by true z = stays k (suc k) ms (ne-eqb k 255 (λ e. omega (arith, e, h)))
-    by false z = z
+last-append : (e p : ℕ) (ps : List ℕ) → lastOr e (ps ++ p ∷ []) ≡ p
+unfolding lastOr
+last-append e p [] = refl
+last-append e p (q ∷ ps) = last-append q p ps
 
--- ---- the loop has come to the place i with the source s
-pub record Sourcing (d : Direction) (l : List Mirror) (s i : ℕ) : Type 0 where
-  pub rest : carried d s i (drop i l) ≡ sourceIn d l
+pub record Downwards (l : List Mirror) (i : ℕ) : Type 0 where
+  pub rest : goodFrom 0 l ≡ goodFrom 0 (take i l)
 
-pub sourcing : (d : Direction) (l : List Mirror) → length l ≤ 255 → Sourcing d l 255 0
-unfolding sourceIn firstBy
-sourcing Lowest l h = record { rest = lowest-is 0 l (omega (arith, h)) }
-sourcing Highest l h = record { rest = highest-is 255 0 l }
+pub downwards : (l : List Mirror) (i : ℕ) → length l ≤ i → Downwards l i
+downwards l i e = record { rest = rw (take-all i l e) }
 
-pub sourcing-more : {d : Direction} {l : List Mirror} {s i : ℕ} (t : ℕ) → Sourcing d l s i → i < length l → t ≡ passed d s (getD l i noMirror) i → Sourcing d l t (i + 1)
-unfolding carried
-sourcing-more {d} {l} {s} {i} t z h e = record { rest = rw (e, add-one) ((rw (drop-cons l i noMirror h) at (z .rest))) }
+-- `b` is whether the place j, the one before i, can be copied from
+module _ {l : List Mirror} {i j : ℕ} (s : Downwards l i) (e : i ≡ suc j) (h : j < length l) {b : Bool} (t : b ≡ isGood (getD l j noMirror)) where
+  split : goodFrom 0 l ≡ goodFrom 0 (take j l) ++ cond b (j ∷ []) []
+  split =
+      s .rest ∙ ap (λ k. goodFrom 0 (take k l)) e ∙ ap (goodFrom 0) (take-suc l j noMirror h) ∙ good-append 0 (take j l) (getD l j noMirror) ∙ rw (← t, length-take-le j l (omega (arith, h)), zero-add j)
 
-pub sourced : {d : Direction} {l : List Mirror} {s i : ℕ} → Sourcing d l s i → length l ≤ i → s ≡ sourceIn d l
-unfolding carried
-sourced {l} z h = rw (drop-of-length-le l h) at (z .rest)
+  pub found-down : b ≡ true → j ≡ lastOr 255 (goodFrom 0 l)
+  found-down q = rw (split, q) (sym (last-append 255 j (goodFrom 0 (take j l))))
+
+  pub on-down : b ≡ false → Downwards l j
+  on-down q = record { rest = split ∙ rw q (append-nil (goodFrom 0 (take j l))) }
+
+pub none-down : {l : List Mirror} {i : ℕ} → Downwards l i → i ≡ 0 → 255 ≡ lastOr 255 (goodFrom 0 l)
+unfolding goodFrom lastOr
+none-down s e = rw (s .rest, e)

@@ -1,9 +1,10 @@
-// The place to copy a file from (Rules 5.7; 02, Ticket 11): the first that is not blamed by the direction that is asked for. First the direction, then a place.
+// The place to copy a file from (Rules 5.7; 02, Ticket 11): the first that is not blamed, by the direction that is asked for. First the direction, then the search from
+// either end: a loop for each, since with one loop the compiler looks at all places, and each of them ends at the first that it finds.
 use crate::mirrors::Mirror;
 use crate::mirrors::PLACES;
 ghost use mathlib.Core.Path.{_≡_};
-ghost use Prim.Native.Nat.{_<_};
-ghost use Rattle.mirroring.specs.Source.{preferred, passed, sourceIn};
+ghost use Rattle.mirroring.specs.Direction.{headOr, lastOr};
+ghost use Rattle.mirroring.specs.Source.{goodFrom, sourceIn};
 
 // The end that a source is looked for from.
 pub enum Direction {
@@ -11,39 +12,42 @@ pub enum Direction {
     Highest,
 }
 
-impl Direction {
-    // The source once the next place can be copied from too: it was `source`, 255 where there was none.
-    fn prefer(self, source: u8, place: u8) -> u8
-        ensures { λ r. ⌜ r ≡ preferred self source place ⌝ }
-    {
-        match self {
-            Direction::Lowest => { if source == 255 { place } else { source } }
-            Direction::Highest => place,
+// From the first place up.
+fn lowest(mirrors: [Mirror; PLACES]) -> u8
+    ensures { λ r. ⌜ r ≡ headOr 255 (goodFrom 0 mirrors) ⌝ }
+{
+    let mut i: usize = 0;
+    while i < PLACES {
+        let m = mirrors[i];
+        if m.good() {
+            return i as u8;
         }
+        i += 1;
     }
+    255
 }
 
-// The source once one more place is looked at.
-fn past(direction: Direction, source: u8, m: Mirror, place: usize) -> u8
-    requires { ⌜ place < 4 ⌝ }
-    ensures { λ r. ⌜ r ≡ passed direction source m place ⌝ }
+// From the last place down.
+fn highest(mirrors: [Mirror; PLACES]) -> u8
+    ensures { λ r. ⌜ r ≡ lastOr 255 (goodFrom 0 mirrors) ⌝ }
 {
-    if !m.good() {
-        return source;
+    let mut i: usize = PLACES;
+    while 0 < i {
+        i -= 1;
+        let m = mirrors[i];
+        if m.good() {
+            return i as u8;
+        }
     }
-    direction.prefer(source, place as u8)
+    255
 }
 
 // The place to copy from, or 255.
 pub fn source(mirrors: [Mirror; PLACES], direction: Direction) -> u8
     ensures { λ r. ⌜ r ≡ sourceIn direction mirrors ⌝ }
 {
-    let mut source: u8 = 255;
-    let mut i: usize = 0;
-    while i < PLACES {
-        let m = mirrors[i];
-        source = past(direction, source, m, i);
-        i += 1;
+    match direction {
+        Direction::Lowest => lowest(mirrors),
+        Direction::Highest => highest(mirrors),
     }
-    source
 }

@@ -1,46 +1,30 @@
--- `Sourcing` holds at the loop's head.
-use mathlib.Core.Path.{_≡_}
-use Prim.Native.Nat.{_-_}
-use native.Mathlib.Omega.{arith}
-use lib.ListN.{length}
+-- By the direction.
+use mathlib.Core.Path.{_∙_}
 use borrow.Author.Needs.{needs}
-use Rattle.places.proofs.Loops.{mapped-length}
-use Rattle.mirroring.proofs.Sourcing.{Sourcing, sourcing, sourcing-more, sourced}
+use Rattle.mirroring.specs.Direction.{firstBy}
+use Rattle.mirroring.specs.Source.{sourceIn}
 use Rattle.mirroring.proofs.source.source.Statement.{statement}
 use Rattle.mirroring.proofs.source.source.Tie as tie
 
-abbrev Inv-loop : tie.InvT-loop
-Inv-loop direction mirrors source₀ i₀ source i = Sourcing direction mirrors source i
+enum-told : tie.Need-enum-told
+enum-told c = search needs
 
-abbrev μ-loop : tie.MeasureT-loop
-μ-loop direction mirrors source₀ i₀ source i = 4 - i
+lowest-requires : tie.Need-lowest-requires
+lowest-requires c κs = search needs
 
-long : (c : tie.Start Inv-loop μ-loop) → length (c .args .t1) ≡ 4
-long c = search (mapped-length, needs)
+enum-told-2 : tie.Need-enum-told-2
+enum-told-2 c = search needs
 
-loop-holds : tie.Need-loop-holds Inv-loop μ-loop
-loop-holds c = sourcing _ _ (omega (arith, long c))
+highest-requires : tie.Need-highest-requires
+highest-requires c κs = search needs
 
-mul-m : tie.Need-mul-m Inv-loop μ-loop
-mul-m c = omega arith
+returns : tie.Need-returns
+unfolding sourceIn firstBy
+returns c = rw (c .before .enum-told .given .1) (c .lowest .ensures)
 
-array-copy-out-m : tie.Need-array-copy-out-m Inv-loop μ-loop
-array-copy-out-m c = omega arith
-
-past-requires : tie.Need-past-requires Inv-loop μ-loop
-past-requires c κs = search needs
-
-add-i : tie.Need-add-i Inv-loop μ-loop
-add-i c = omega arith
-
-loop-less : tie.Need-loop-less Inv-loop μ-loop
-loop-less c = omega arith
-
-loop-again : tie.Need-loop-again Inv-loop μ-loop
-loop-again c = sourcing-more _ (c .before .before .before .loop .inv) (omega (arith, long (c .before .before .before .before))) (c .past .ensures)
-
-returns : tie.Need-returns Inv-loop μ-loop
-returns c = sourced (c .before .loop .inv) (omega (arith, long (c .before .before)))
+returns-2 : tie.Need-returns-2
+unfolding sourceIn firstBy
+returns-2 c = rw (c .before .enum-told2 .given .1) (c .highest .ensures)
 
 pub source-spec : {M : Type 1} → statement M
-source-spec = tie.close (tie.spec Inv-loop μ-loop loop-holds mul-m array-copy-out-m past-requires add-i loop-less loop-again returns)
+source-spec = tie.close (tie.spec enum-told lowest-requires enum-told-2 highest-requires returns returns-2)

@@ -1,0 +1,52 @@
+-- `Upwards` holds at the loop's head.
+use mathlib.Core.Path.{_≡_}
+use Prim.Native.Nat.{_-_}
+use native.Mathlib.Omega.{arith}
+use lib.ListN.{length}
+use borrow.Author.Needs.{needs}
+use Rattle.places.proofs.Loops.{mapped-length}
+use Rattle.mirroring.proofs.Sourcing.{Upwards, upwards, found-up, on-up, none-up}
+use Rattle.mirroring.proofs.source.lowest.Statement.{statement}
+use Rattle.mirroring.proofs.source.lowest.Tie as tie
+
+abbrev Inv-loop : tie.InvT-loop
+Inv-loop mirrors i₀ i = Upwards mirrors i
+
+abbrev μ-loop : tie.MeasureT-loop
+μ-loop mirrors i₀ i = 4 - i
+
+long : (c : tie.Start Inv-loop μ-loop) → length (c .args .t1) ≡ 4
+long c = search (mapped-length, needs)
+
+loop-holds : tie.Need-loop-holds Inv-loop μ-loop
+loop-holds c = upwards _
+
+mul-m : tie.Need-mul-m Inv-loop μ-loop
+mul-m c = omega arith
+
+array-copy-out-m : tie.Need-array-copy-out-m Inv-loop μ-loop
+array-copy-out-m c = omega arith
+
+good-requires : tie.Need-good-requires Inv-loop μ-loop
+good-requires c κs = search needs
+
+cast-result : tie.Need-cast-result Inv-loop μ-loop
+cast-result c = omega arith
+
+returns : tie.Need-returns Inv-loop μ-loop
+returns c = found-up (c .before .before .before .before .loop .inv) (omega (arith, long (c .before .before .before .before .before))) (c .before .good2 .ensures) (c .if1 .taken)
+
+add-i : tie.Need-add-i Inv-loop μ-loop
+add-i c = omega arith
+
+loop-less : tie.Need-loop-less Inv-loop μ-loop
+loop-less c = omega arith
+
+loop-again : tie.Need-loop-again Inv-loop μ-loop
+loop-again c = on-up (c .before .before .before .before .loop .inv) (omega (arith, long (c .before .before .before .before .before))) (c .before .good2 .ensures) (c .if1 .left)
+
+returns-2 : tie.Need-returns-2 Inv-loop μ-loop
+returns-2 c = none-up (c .before .loop .inv) (omega (arith, long (c .before .before)))
+
+pub lowest-spec : {M : Type 1} → statement M
+lowest-spec = tie.close (tie.spec Inv-loop μ-loop loop-holds mul-m array-copy-out-m good-requires cast-result returns add-i loop-less loop-again returns-2)
