@@ -5,7 +5,6 @@ use crate::cursor::Cursor;
 use crate::cursor::begin;
 use crate::cursor::none;
 use crate::statistics;
-use xdr::fields::left;
 ghost use mathlib.Core.Path.{_≡_};
 ghost use Rattle.reports.specs.Report.{reportOf, statusOf};
 ghost use Rattle.reports.specs.Cursors.{cursorAt};
@@ -53,13 +52,16 @@ pub fn next(s: &[u8], c: Cursor) -> Entry
     if n == 0 {
         return Entry::Statistics(begin(s, at));
     }
-    let room = left(s, at);
-    if room < 36 {
+    if s.len() < 36 {
+        return Entry::Malformed;
+    }
+    let last = s.len() - 36;
+    if last < at {
         return Entry::Malformed;
     }
     let devices = xdr::be32(s, at + 32);
     let size = 24 * (devices as usize);
-    if room - 36 < size {
+    if last - at < size {
         return Entry::Malformed;
     }
     Entry::Record {
@@ -76,7 +78,10 @@ pub fn next(s: &[u8], c: Cursor) -> Entry
 pub fn device(s: &[u8], at: usize) -> Reading
     ensures { λ r. ⌜ r ≡ deviceAt (now (s .entry)) at ⌝ }
 {
-    if left(s, at) < 24 {
+    if s.len() < 24 {
+        return Reading::Missing;
+    }
+    if s.len() - 24 < at {
         return Reading::Missing;
     }
     Reading::Error {

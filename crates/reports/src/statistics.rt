@@ -63,14 +63,16 @@ fn step(s: &[u8], c: Cursor) -> Stepped
 {
     let at = c.at;
     let n = c.left;
-    let room = left(s, at);
     if n == 0 {
-        if room == 0 {
-            return Stepped::End;
+        if at < s.len() {
+            return Stepped::Malformed;
         }
+        return Stepped::End;
+    }
+    if s.len() < 80 {
         return Stepped::Malformed;
     }
-    if room < 80 {
+    if s.len() - 80 < at {
         return Stepped::Malformed;
     }
     let Past::At(end) = past_update(s, at + 80) else {

@@ -5,11 +5,16 @@ use borrow.Author.Needs.{needs}
 use Rattle.reports.proofs.report.device.Statement.{statement}
 use Rattle.reports.proofs.report.device.Tie as tie
 
-left-requires : tie.Need-left-requires
-left-requires c κs = search needs
-
 returns : tie.Need-returns
 returns c =
+    let a = c .before .before .args in
+    device-short (a .s .now) (a .at) (omega arith)
+
+sub-if2 : tie.Need-sub-if2
+sub-if2 c = search needs
+
+returns-2 : tie.Need-returns-2
+returns-2 c =
     let a = c .before .before .before .args in
     device-short (a .s .now) (a .at) (omega arith)
 
@@ -31,8 +36,8 @@ be32-requires c κs = search needs
 add-t9 : tie.Need-add-t9
 add-t9 c = search needs
 
-returns-2 : tie.Need-returns-2
-returns-2 c =
+returns-3 : tie.Need-returns-3
+returns-3 c =
     let a = c .before .before .before .before .before .before .args in
     device-found (a .s .now) (a .at) (omega arith) (c .before .before .be64 .ensures) (c .before .be642 .ensures) (c .be32 .ensures)
 
@@ -40,12 +45,13 @@ pub device-spec : {M : Type 1} → statement M
 device-spec =
     tie.close
     (tie.spec
-    left-requires
     returns
+    sub-if2
+    returns-2
     be64-requires
     add-be64
     be64-requires-2
     add-be32
     be32-requires
     add-t9
-    returns-2)
+    returns-3)

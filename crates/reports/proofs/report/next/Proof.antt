@@ -13,11 +13,16 @@ returns c =
     let a = c .before .before .before .args in
     no-record (a .s .now) (a .c) (omega arith) (c .begin .ensures)
 
-left-requires : tie.Need-left-requires
-left-requires c κs = search needs
-
 returns-2 : tie.Need-returns-2
 returns-2 c =
+    let a = c .before .before .before .args in
+    record-short (a .s .now) (a .c) (λ h. omega arith) (omega arith)
+
+sub-last : tie.Need-sub-last
+sub-last c = search needs
+
+returns-3 : tie.Need-returns-3
+returns-3 c =
     let a = c .before .before .before .before .args in
     record-short (a .s .now) (a .c) (λ h. omega arith) (omega arith)
 
@@ -33,8 +38,8 @@ cast-size c = search needs
 mul-size : tie.Need-mul-size
 mul-size c = search needs
 
-returns-3 : tie.Need-returns-3
-returns-3 c =
+returns-4 : tie.Need-returns-4
+returns-4 c =
     let a = c .before .before .before .before .before .before .args in
     record-over (a .s .now) (a .c) (λ h. omega arith) (omega arith) (c .before .be32 .ensures) (omega arith)
 
@@ -50,8 +55,8 @@ add-t12 c = search needs
 sub-t13 : tie.Need-sub-t13
 sub-t13 c = search needs
 
-returns-4 : tie.Need-returns-4
-returns-4 c =
+returns-5 : tie.Need-returns-5
+returns-5 c =
     let a = c .before .before .before .before .before .before .args in
     record-found (a .s .now) (a .c) (λ h. omega arith) (omega arith) (c .before .be32 .ensures) (omega arith)
 
@@ -61,15 +66,16 @@ next-spec =
     (tie.spec
     begin-requires
     returns
-    left-requires
     returns-2
+    sub-last
+    returns-3
     add-be32
     be32-requires
     cast-size
     mul-size
-    returns-3
+    returns-4
     add-t10
     add-t11
     add-t12
     sub-t13
-    returns-4)
+    returns-5)
