@@ -69,7 +69,7 @@ counted-all ms (y ∷ ys) s true f bs t = counted-all ms ys s true f bs t
 counted-all ms (y ∷ ys) s false f bs t = counted-all ms ys s false f bs (adding ms t y)
 
 -- ---- a report
-pub assessed-is : (ms : List Mirror) → length ms ≡ 4 → (p : Report) → outcome (withError ms) (counted ms) (statusOnly 10036) (statusOnly 0) p ≡ assessmentOf ms p
+pub assessed-is : (ms : List Mirror) → length ms ≡ 5 → (p : Report) → outcome (withError ms) (counted ms) (statusOnly 10036) (statusOnly 0) p ≡ assessmentOf ms p
 unfolding outcome assessmentOf errorsAssessed mirrorTotals
 assessed-is ms e Malformed = refl
 assessed-is ms e (Whole xs ys) =

@@ -21,7 +21,7 @@ use Rattle.mirroring.specs.declared.enrol.Enrolled.{Enrolled}
 use Rattle.places.specs.declared.Found.the-variants.{At, Nothing}
 use Rattle.places.proofs.Sets.{true-false, eqb-sym, any-append, first-at, first-nothing}
 use Rattle.places.proofs.Loops.{fill-snoc}
-use Rattle.mirroring.proofs.Copies.{known, slots-new}
+use Rattle.mirroring.proofs.Copies.{known-new}
 
 -- ---- the ids in a list of bytes
 pub devices-length : (n : ℕ) (s : List ℕ) → length (devicesIn n s) ≡ n
@@ -64,7 +64,7 @@ record Whole (n : ℕ) : Type 0 where
   some : 0 < n
   few : n ≤ 64
 
-whole-by : (n : ℕ) (a b : Bool) → eqb (n % 16) 0 ≡ a → eqb n 0 ≡ b → cond (not a) false (cond b false (leb n 64)) ≡ true → Whole n
+whole-by : (n : ℕ) (a b : Bool) → eqb (n % 16) 0 ≡ a → eqb n 0 ≡ b → cond (cond a (not b) false) (leb n 64) false ≡ true → Whole n
 whole-by n true true p q e = true-false (sym e)
 whole-by n true false p q e = record { ids = eqb-true _ _ p; some = omega (arith, eqb-false n 0 q); few = leb-true _ _ e }
 whole-by n false b p q e = true-false (sym e)
@@ -78,7 +78,7 @@ none-devices zero s = refl
 none-devices (suc n) s = sym (ne-eqb (suc n) 0 (λ e. omega arith))
 
 module _ (s : List ℕ) where
-  bad-by : (a b c : Bool) → eqb (length s % 16) 0 ≡ a → eqb (length s) 0 ≡ b → leb (length s) 64 ≡ c → cond (not a) false (cond b false c) ≡ false → badMirrors s ≡ true
+  bad-by : (a b c : Bool) → eqb (length s % 16) 0 ≡ a → eqb (length s) 0 ≡ b → leb (length s) 64 ≡ c → cond (cond a (not b) false) c false ≡ false → badMirrors s ≡ true
   unfolding badMirrors mirrorsIn
   bad-by false b c p q r e = rw p
   bad-by true true c p q r e =
@@ -112,7 +112,7 @@ pub record Enrolling (s : List ℕ) (ms : List Mirror) (i : ℕ) : Type 0 where
   pub apart : twice (devicesIn i s) ≡ false
   pub so-far : ms ≡ placedMirrors (devicesIn i s)
 
-pub enrolling-none : (s : List ℕ) → wholeList (length s) ≡ true → (m : Mirror) → m ≡ noMirror → Enrolling s (replicate 4 m) 0
+pub enrolling-none : (s : List ℕ) → wholeList (length s) ≡ true → (m : Mirror) → m ≡ noMirror → Enrolling s (replicate 5 m) 0
 unfolding devicesIn twice fill
 enrolling-none s e m q =
     let w = whole-is (length s) e in
@@ -127,7 +127,7 @@ module _ {s : List ℕ} {ms : List Mirror} {i : ℕ} (r : Enrolling s ms i) wher
     device-is = rw (a, b, ← drop-drop 8 (16 * i) s)
 
     named : any (isAt high low) ms ≡ isMirror (halves (drop (16 * i) s)) (devicesIn i s)
-    named = rw (r .so-far, ← device-is) (known (record { high = high; low = low }) (slots-new (devicesIn i s) (omega (arith, devices-length i s, r .few))))
+    named = rw (r .so-far, ← device-is) (known-new (devicesIn i s) (record { high = high; low = low }) (omega (arith, devices-length i s, r .few)))
 
     pub enrolling-twice : {k : ℕ} → first (isAt high low) ms ≡ At k → refusedList ≡ enrolledOf s
     unfolding enrolledOf
@@ -143,14 +143,14 @@ module _ {s : List ℕ} {ms : List Mirror} {i : ℕ} (r : Enrolling s ms i) wher
       few = r .few;
       within = omega (arith, r .ids);
       apart = rw (add-one, devices-snoc i s, twice-snoc (devicesIn i s) (halves (drop (16 * i) s)), r .apart) (sym named ∙ first-nothing (isAt high low) ms e);
-      so-far = rw (add-one, devices-snoc i s, map-append, q, r .so-far) (put ∙ ap (λ (d : Device). fill (map mirrorOf (devicesIn i s) ++ mirrorOf d ∷ []) (replicate 4 noMirror)) device-is);
+      so-far = rw (add-one, devices-snoc i s, map-append, q, r .so-far) (put ∙ ap (λ (d : Device). fill (map mirrorOf (devicesIn i s) ++ mirrorOf d ∷ []) (replicate 5 noMirror)) device-is);
     }
       where
         long : length (map mirrorOf (devicesIn i s)) ≡ i
         long = length-map (devicesIn i s) mirrorOf ∙ devices-length i s
 
-        put : set (placedMirrors (devicesIn i s)) i (newMirror high low) ≡ fill (map mirrorOf (devicesIn i s) ++ newMirror high low ∷ []) (replicate 4 noMirror)
-        put = ap (λ n. set (placedMirrors (devicesIn i s)) n (newMirror high low)) (sym long) ∙ fill-snoc (map mirrorOf (devicesIn i s)) (replicate 4 noMirror) (newMirror high low)
+        put : set (placedMirrors (devicesIn i s)) i (newMirror high low) ≡ fill (map mirrorOf (devicesIn i s) ++ newMirror high low ∷ []) (replicate 5 noMirror)
+        put = ap (λ n. set (placedMirrors (devicesIn i s)) n (newMirror high low)) (sym long) ∙ fill-snoc (map mirrorOf (devicesIn i s)) (replicate 5 noMirror) (newMirror high low)
 
   pub enrolled-all : length s ≤ 16 * i → _≡_ {A = Enrolled} (record { mirrors = ms; good = true }) (enrolledOf s)
   unfolding enrolledOf mirrorsIn

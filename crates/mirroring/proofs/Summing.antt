@@ -126,9 +126,9 @@ none-each : (ms : List Mirror) → replicate {A = ℕ} (length ms) 0 ≡ map (λ
 none-each [] = refl
 none-each (m ∷ ms) = ap (λ (ns : List ℕ). 0 ∷ ns) (none-each ms)
 
-pub totals-are : (ms : List Mirror) → length ms ≡ 4 → (ys : List Statistic) → over (adding ms) noTotals ys ≡ totalsBy (λ g. map (sumAt g ys) ms)
+pub totals-are : (ms : List Mirror) → length ms ≡ 5 → (ys : List Statistic) → over (adding ms) noTotals ys ≡ totalsBy (λ g. map (sumAt g ys) ms)
 totals-are ms e ys =
-    let z : replicate {A = ℕ} 4 0 ≡ map (λ m. 0) ms = rw e at (none-each ms) in
+    let z : replicate {A = ℕ} 5 0 ≡ map (λ m. 0) ms = rw e at (none-each ms) in
     ap (λ (ns : List ℕ). over (adding ms) (record { read = cutSums ns; written = cutSums ns }) ys) z
     ∙ all-added ms ys (λ m. 0) (λ m. 0)
     ∙ ap₂ (λ (r w : List ℕ). record { read = cutSums r; written = cutSums w })

@@ -4,6 +4,7 @@ use mathlib.Core.Bool.{Bool, true, false, cond}
 use Prim.Native.Nat.{ℕ}
 use lib.ListN.{set, replicate}
 use lib.Dec.{eqb}
+use Rattle.statuses.specs.Names.{Status}
 use Rattle.reports.specs.Device.{halves}
 use Rattle.reports.specs.Statistics.{Statistic}
 use Rattle.reports.specs.Report.{DeviceError, Report, Whole, Malformed, over}
@@ -20,13 +21,13 @@ use Rattle.places.specs.declared.Found.{Found}
 use Rattle.places.specs.declared.Found.the-variants.{At, Nothing}
 
 abbrev pub noFlags : List ℕ
-noFlags = replicate 4 0
+noFlags = replicate 5 0
 
 -- ---- what a report changes
 abbrev pub noChange : Change
 noChange = record { unknown = false; failed = false; blamed = noFlags }
 
--- it has named a device that is no mirror
+-- it has named a device that is neither a mirror nor the proxy
 abbrev pub naming : Change → Change
 naming x = record { unknown = true; failed = x .failed; blamed = x .blamed }
 
@@ -35,18 +36,18 @@ abbrev pub blaming : ℕ → Change → Change
 blaming i x = record { unknown = x .unknown; failed = true; blamed = set (x .blamed) i 1 }
 
 -- ---- nothing but a status
-abbrev pub statusOnly : ℕ → Assessment
+abbrev pub statusOnly : Status → Assessment
 statusOnly s = record { status = s; change = noChange; totals = noTotals }
 
 abbrev pub withChange : Change → Assessment → Assessment
 withChange x a = record { status = a .status; change = x; totals = a .totals }
 
 -- ---- one device error
-abbrev pub withErrorAt : Assessment → ℕ → Found → Assessment
+abbrev pub withErrorAt : Assessment → Status → Found → Assessment
 withErrorAt a s Nothing = withChange (naming (a .change)) a
 withErrorAt a s (At i) = cond (eqb s 0) a (withChange (blaming i (a .change)) a)
 
-unfoldable pub withErrorOf : List Mirror → Assessment → ℕ → ℕ → ℕ → Assessment
+unfoldable pub withErrorOf : List Mirror → Assessment → ℕ → ℕ → Status → Assessment
 withErrorOf ms a hi lo s = withErrorAt a s (first (isAt hi lo) ms)
 
 abbrev pub withError : List Mirror → Assessment → DeviceError → Assessment

@@ -1,6 +1,6 @@
 -- DEFINITION. The totals of bytes read and written of one report, by mirror (Rules 3.11), in this order: a sum as it is told; a device's sum; the totals of
--- some devices.
-use mathlib.Core.List.{List, [], _∷_, map}
+-- some mirrors and a proxy.
+use mathlib.Core.List.{List, [], _∷_, _++_, map}
 use mathlib.Core.Bool.{cond}
 use Prim.Native.Nat.{ℕ, _+_}
 use lib.ListN.{replicate}
@@ -8,7 +8,7 @@ use lib.Dec.{ltb}
 use Rattle.places.specs.Lists.{fill}
 use Rattle.reports.specs.Device.{Device, halves}
 use Rattle.reports.specs.Statistics.{Statistic}
-use Rattle.mirroring.specs.Devices.{sameDevice}
+use Rattle.mirroring.specs.Devices.{sameDevice, Proxy, noProxy, proxyAt}
 use Rattle.mirroring.specs.declared.totals.Sums.{Sums}
 use Rattle.mirroring.specs.declared.totals.Totals.{Totals}
 
@@ -36,11 +36,16 @@ abbrev pub totalsBy : ((Statistic → ℕ) → List ℕ) → Totals
 totalsBy sums = record { read = cutSums (sums (λ y. y .read)); written = cutSums (sums (λ y. y .written)) }
 
 abbrev pub noSums : List ℕ
-noSums = replicate 4 0
+noSums = replicate 5 0
 
 abbrev pub noTotals : Totals
 noTotals = totalsBy (λ g. noSums)
 
--- the totals of some devices, by place; later places have none, and a record for another device counts nowhere
-unfoldable pub totalsOf : List Statistic → List Device → Totals
-totalsOf ys ds = totalsBy (λ g. fill (map (λ d. sumOf g d ys) ds) noSums)
+-- the sum of a proxy's records
+abbrev pub proxySum : (Statistic → ℕ) → Proxy → List Statistic → ℕ
+proxySum g noProxy ys = 0
+proxySum g (proxyAt d) ys = sumOf g d ys
+
+-- the totals by place: those of the mirrors, none at the others up to place 4, and there the proxy's; a record for another device counts nowhere
+unfoldable pub totalsOf : List Statistic → List Device → Proxy → Totals
+totalsOf ys ds p = totalsBy (λ g. fill (map (λ d. sumOf g d ys) ds) (replicate 4 0) ++ proxySum g p ys ∷ [])

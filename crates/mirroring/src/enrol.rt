@@ -1,5 +1,6 @@
 // The mirror list of a register call, as bytes, 16 a device (paper 01, "The recovery record"): the mirrors of a new file, or none if the
 // list is bad.
+use crate::mirrors::MIRRORS;
 use crate::mirrors::Mirror;
 use crate::mirrors::PLACES;
 use crate::mirrors::place;
@@ -19,13 +20,7 @@ pub struct Enrolled {
 fn whole(n: usize) -> bool
     ensures { λ r. ⌜ r ≡ wholeList n ⌝ }
 {
-    if n % 16 != 0 {
-        return false;
-    }
-    if n == 0 {
-        return false;
-    }
-    n <= 64
+    n % 16 == 0 && n != 0 && n <= 16 * MIRRORS
 }
 
 fn refused() -> Enrolled

@@ -1,22 +1,30 @@
-// A file's mirrors (paper 01, "The recovery record"): 1 to 4 devices, by place from 0, and which of them are blamed. First one place, then
-// the four: a device's place, blame, and the end of all blame.
+// A file's mirrors (paper 01, "The recovery record"): 1 to 4 devices, by place from 0, which of them are blamed, and a proxy (02, Ticket 7). First one
+// place, then all: a device's place, the proxy, blame, and the end of all blame.
 use places::Found;
 ghost use mathlib.Core.Path.{_≡_};
 ghost use mathlib.Core.List.{map};
 ghost use Prim.Native.Nat.{_<_};
+ghost use Rattle.places.specs.Lists.{any};
 ghost use Rattle.places.specs.Places.{first};
-ghost use Rattle.mirroring.specs.Mirrors.{noMirror, newMirror, isAt, isGood, unblamed, blamedIf, blamedAt};
+ghost use Rattle.mirroring.specs.Mirrors.{noMirror, newMirror, newProxy, isAt, isGood, unblamed, blamedIf, blamedAt, hasProxy, withProxy, withoutProxy};
 
-// How many places a file has for mirrors.
-pub const PLACES: usize = 4;
+// How many ordinary mirrors a file may have; they stand at the first places.
+pub const MIRRORS: usize = 4;
 
-// A place for a mirror: the two halves of its device's id, whether the place is used, and whether its device is blamed.
+// The place of a file's proxy, also where it has fewer mirrors.
+pub const PROXY: usize = 4;
+
+// How many places a file has in all.
+pub const PLACES: usize = 5;
+
+// A place: the two halves of its device's id, whether the place is used, whether its device is blamed, and whether it is a proxy and no ordinary mirror.
 #[repr(C)]
 pub struct Mirror {
     pub high: u64,
     pub low: u64,
     pub present: bool,
     pub blamed: bool,
+    pub proxy: bool,
 }
 
 impl Mirror {
@@ -29,10 +37,11 @@ impl Mirror {
             low: 0,
             present: false,
             blamed: false,
+            proxy: false,
         }
     }
 
-    // A new mirror.
+    // A new ordinary mirror.
     pub(crate) fn new(high: u64, low: u64) -> Mirror
         ensures { λ r. ⌜ r ≡ newMirror high low ⌝ }
     {
@@ -41,27 +50,35 @@ impl Mirror {
             low,
             present: true,
             blamed: false,
+            proxy: false,
         }
     }
 
-    // Whether the device is the mirror here.
+    // A new proxy.
+    pub(crate) fn new_proxy(high: u64, low: u64) -> Mirror
+        ensures { λ r. ⌜ r ≡ newProxy high low ⌝ }
+    {
+        Mirror {
+            high,
+            low,
+            present: true,
+            blamed: false,
+            proxy: true,
+        }
+    }
+
+    // Whether the device stands here.
     pub(crate) fn is(self, high: u64, low: u64) -> bool
         ensures { λ r. ⌜ r ≡ isAt high low self ⌝ }
     {
-        if !self.present {
-            return false;
-        }
-        if self.high != high {
-            return false;
-        }
-        self.low == low
+        self.present && self.high == high && self.low == low
     }
 
-    // Whether it can be copied from.
+    // Whether it can be copied from, as no proxy can.
     pub(crate) fn good(self) -> bool
         ensures { λ r. ⌜ r ≡ isGood self ⌝ }
     {
-        self.present && !self.blamed
+        self.present && !self.blamed && !self.proxy
     }
 
     // The place once its device is blamed, if it is.
@@ -99,7 +116,45 @@ pub(crate) fn place(mirrors: [Mirror; PLACES], high: u64, low: u64) -> Found
     Found::Nothing
 }
 
-// The mirrors once the file is repaired.
+// Whether a device stands at a place.
+pub fn stands(mirrors: [Mirror; PLACES], high: u64, low: u64) -> bool
+    ensures { λ r. ⌜ r ≡ any (isAt high low) mirrors ⌝ }
+{
+    match place(mirrors, high, low) {
+        Found::At(_) => true,
+        Found::Nothing => false,
+    }
+}
+
+// Whether a proxy is there.
+pub fn has_proxy(mirrors: [Mirror; PLACES]) -> bool
+    ensures { λ r. ⌜ r ≡ hasProxy mirrors ⌝ }
+{
+    let m = mirrors[PROXY];
+    m.present
+}
+
+// The mirrors with a proxy.
+pub fn with_proxy(mirrors: [Mirror; PLACES], high: u64, low: u64) -> [Mirror; PLACES]
+    ensures { λ r. ⌜ r ≡ withProxy high low mirrors ⌝ }
+{
+    let mut ms = mirrors;
+    let m = Mirror::new_proxy(high, low);
+    ms[PROXY] = m;
+    ms
+}
+
+// The mirrors without the proxy, whose blame goes with it.
+pub fn without_proxy(mirrors: [Mirror; PLACES]) -> [Mirror; PLACES]
+    ensures { λ r. ⌜ r ≡ withoutProxy mirrors ⌝ }
+{
+    let mut ms = mirrors;
+    let m = Mirror::none();
+    ms[PROXY] = m;
+    ms
+}
+
+// The mirrors once the file is repaired; the proxy stays.
 pub fn cleared(mirrors: [Mirror; PLACES]) -> [Mirror; PLACES]
     ensures { λ r. ⌜ r ≡ map unblamed mirrors ⌝ }
 {

@@ -10,7 +10,7 @@ ghost use mathlib.Core.Bool.{cond};
 const MOST: u64 = 18446744073709551615;
 
 // A sum of bytes for each mirror, by place, and 1 where it passed 2^64 - 1, at which it stays; a place without a mirror has none. A flag is as wide as a
-// sum, since the compiler packs four bytes into one number and takes them out again at each record.
+// sum, since the compiler packs bytes into one number and takes them out again at each record.
 #[repr(C)]
 pub struct Sums {
     pub bytes: [u64; PLACES],

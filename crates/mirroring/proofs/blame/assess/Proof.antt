@@ -20,7 +20,7 @@ Inv-loop mirrors body a₀ c₀ a c =
 abbrev μ-loop : tie.MeasureT-loop
 μ-loop mirrors body a₀ c₀ a c = length body - c .at
 
-long : (c : tie.Start Inv-loop μ-loop) → length (c .args .mirrors) ≡ 4
+long : (c : tie.Start Inv-loop μ-loop) → length (c .args .mirrors) ≡ 5
 long c = search (mapped-length, needs)
 
 errors-requires : tie.Need-errors-requires Inv-loop μ-loop

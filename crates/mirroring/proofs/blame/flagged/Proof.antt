@@ -12,9 +12,9 @@ abbrev Inv-loop : tie.InvT-loop
 Inv-loop at fs₀ i₀ fs i = Putting at 1 fs₀ fs i
 
 abbrev μ-loop : tie.MeasureT-loop
-μ-loop at fs₀ i₀ fs i = 4 - i
+μ-loop at fs₀ i₀ fs i = 5 - i
 
-long : (c : tie.Start Inv-loop μ-loop) → length (c .args .flags) ≡ 4
+long : (c : tie.Start Inv-loop μ-loop) → length (c .args .flags) ≡ 5
 long c = search needs
 
 loop-holds : tie.Need-loop-holds Inv-loop μ-loop

@@ -13,9 +13,9 @@ abbrev Inv-loop : tie.InvT-loop
 Inv-loop ms₀ i₀ ms i = Mapping (λ k. unblamed) ms₀ ms i
 
 abbrev μ-loop : tie.MeasureT-loop
-μ-loop ms₀ i₀ ms i = 4 - i
+μ-loop ms₀ i₀ ms i = 5 - i
 
-long : (c : tie.Start Inv-loop μ-loop) → length (c .args .mirrors) ≡ 4
+long : (c : tie.Start Inv-loop μ-loop) → length (c .args .mirrors) ≡ 5
 long c = search (mapped-length, needs)
 
 loop-holds : tie.Need-loop-holds Inv-loop μ-loop

@@ -14,9 +14,9 @@ abbrev Inv-loop : tie.InvT-loop
 Inv-loop high low mirrors i₀ i = Searching (isAt high low) mirrors i (first (isAt high low) mirrors)
 
 abbrev μ-loop : tie.MeasureT-loop
-μ-loop high low mirrors i₀ i = 4 - i
+μ-loop high low mirrors i₀ i = 5 - i
 
-long : (c : tie.Start Inv-loop μ-loop) → length (c .args .t1) ≡ 4
+long : (c : tie.Start Inv-loop μ-loop) → length (c .args .t1) ≡ 5
 long c = search (mapped-length, needs)
 
 loop-holds : tie.Need-loop-holds Inv-loop μ-loop

@@ -15,12 +15,12 @@ abbrev Inv-loop : tie.InvT-loop
 Inv-loop flags ms₀ i₀ ms i = Mapping (λ k. blamedIf (eqb (getD flags k 0) 1)) ms₀ ms i
 
 abbrev μ-loop : tie.MeasureT-loop
-μ-loop flags ms₀ i₀ ms i = 4 - i
+μ-loop flags ms₀ i₀ ms i = 5 - i
 
-long : (c : tie.Start Inv-loop μ-loop) → length (c .args .mirrors) ≡ 4
+long : (c : tie.Start Inv-loop μ-loop) → length (c .args .mirrors) ≡ 5
 long c = search (mapped-length, needs)
 
-flags-long : (c : tie.Start Inv-loop μ-loop) → length (c .args .t2) ≡ 4
+flags-long : (c : tie.Start Inv-loop μ-loop) → length (c .args .t2) ≡ 5
 flags-long c = search needs
 
 loop-holds : tie.Need-loop-holds Inv-loop μ-loop

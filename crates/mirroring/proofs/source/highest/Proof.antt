@@ -10,12 +10,12 @@ use Rattle.mirroring.proofs.source.highest.Statement.{statement}
 use Rattle.mirroring.proofs.source.highest.Tie as tie
 
 abbrev Inv-loop : tie.InvT-loop
-Inv-loop mirrors i₀ i = (i ≤ 4) × Downwards mirrors i
+Inv-loop mirrors i₀ i = (i ≤ 5) × Downwards mirrors i
 
 abbrev μ-loop : tie.MeasureT-loop
 μ-loop mirrors i₀ i = i
 
-long : (c : tie.Start Inv-loop μ-loop) → length (c .args .t1) ≡ 4
+long : (c : tie.Start Inv-loop μ-loop) → length (c .args .t1) ≡ 5
 long c = search (mapped-length, needs)
 
 loop-holds : tie.Need-loop-holds Inv-loop μ-loop

@@ -13,9 +13,9 @@ abbrev Inv-loop : tie.InvT-loop
 Inv-loop mirrors i₀ i = Upwards mirrors i
 
 abbrev μ-loop : tie.MeasureT-loop
-μ-loop mirrors i₀ i = 4 - i
+μ-loop mirrors i₀ i = 5 - i
 
-long : (c : tie.Start Inv-loop μ-loop) → length (c .args .t1) ≡ 4
+long : (c : tie.Start Inv-loop μ-loop) → length (c .args .t1) ≡ 5
 long c = search (mapped-length, needs)
 
 loop-holds : tie.Need-loop-holds Inv-loop μ-loop

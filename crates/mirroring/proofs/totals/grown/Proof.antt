@@ -13,12 +13,12 @@ abbrev Inv-loop : tie.InvT-loop
 Inv-loop extra bs₀ i₀ bs i = Mapping (growing extra) bs₀ bs i
 
 abbrev μ-loop : tie.MeasureT-loop
-μ-loop extra bs₀ i₀ bs i = 4 - i
+μ-loop extra bs₀ i₀ bs i = 5 - i
 
-long : (c : tie.Start Inv-loop μ-loop) → length (c .args .sums) ≡ 4
+long : (c : tie.Start Inv-loop μ-loop) → length (c .args .sums) ≡ 5
 long c = search needs
 
-extra-long : (c : tie.Start Inv-loop μ-loop) → length (c .args .t1) ≡ 4
+extra-long : (c : tie.Start Inv-loop μ-loop) → length (c .args .t1) ≡ 5
 extra-long c = search needs
 
 loop-holds : tie.Need-loop-holds Inv-loop μ-loop

@@ -13,15 +13,15 @@ abbrev Inv-loop : tie.InvT-loop
 Inv-loop extra sums fs₀ i₀ fs i = Mapping (passing extra sums) fs₀ fs i
 
 abbrev μ-loop : tie.MeasureT-loop
-μ-loop extra sums fs₀ i₀ fs i = 4 - i
+μ-loop extra sums fs₀ i₀ fs i = 5 - i
 
-long : (c : tie.Start Inv-loop μ-loop) → length (c .args .flags) ≡ 4
+long : (c : tie.Start Inv-loop μ-loop) → length (c .args .flags) ≡ 5
 long c = search needs
 
-extra-long : (c : tie.Start Inv-loop μ-loop) → length (c .args .t1) ≡ 4
+extra-long : (c : tie.Start Inv-loop μ-loop) → length (c .args .t1) ≡ 5
 extra-long c = search needs
 
-sums-long : (c : tie.Start Inv-loop μ-loop) → length (c .args .t2) ≡ 4
+sums-long : (c : tie.Start Inv-loop μ-loop) → length (c .args .t2) ≡ 5
 sums-long c = search needs
 
 loop-holds : tie.Need-loop-holds Inv-loop μ-loop

@@ -14,9 +14,9 @@ abbrev Inv-loop : tie.InvT-loop
 Inv-loop high low n mirrors es₀ i₀ es i = Mapping (sharing mirrors high low n) es₀ es i
 
 abbrev μ-loop : tie.MeasureT-loop
-μ-loop high low n mirrors es₀ i₀ es i = 4 - i
+μ-loop high low n mirrors es₀ i₀ es i = 5 - i
 
-mirrors-long : (c : tie.Start Inv-loop μ-loop) → length (c .args .t1) ≡ 4
+mirrors-long : (c : tie.Start Inv-loop μ-loop) → length (c .args .t1) ≡ 5
 mirrors-long c = search (mapped-length, needs)
 
 loop-holds : tie.Need-loop-holds Inv-loop μ-loop

@@ -1,16 +1,19 @@
--- Each return rewrites with the tests that led there.
-use borrow.Author.Tests.{not-true, not-false, eq-eqb, ne-eqb}
+-- By the tests: `two` is the first two of them.
+use mathlib.Core.Path.{_≡_, sym, _∙_}
+use mathlib.Core.Bool.{cond, false}
+use mathlib.Core.Logic.{⊎-elim}
+use lib.Dec.{eqb}
 use Rattle.mirroring.proofs.mirrors.Mirror.is.Statement.{statement}
 use Rattle.mirroring.proofs.mirrors.Mirror.is.Tie as tie
 
+two : (c : tie.Joined1) → c .if1 .if2 ≡ cond (c .before .args .self .present) (eqb (c .before .args .self .high) (c .before .args .high)) false
+two c = ⊎-elim (λ w. rw (w .0 .taken) (w .2)) (λ w. rw (w .0 .left) (w .1 ∙ w .0 .left)) (c .if1 .came)
+
 returns : tie.Need-returns
-returns c = rw (not-true (c .before .before .args .self .present) (c .if1 .taken))
+returns c = rw (sym (two (c .before .before)) ∙ c .before .if2 .taken)
 
 returns-2 : tie.Need-returns-2
-returns-2 c = rw (not-false (c .before .before .before .before .args .self .present) (c .before .before .if1 .left), ne-eqb _ _ (c .if2 .taken))
-
-returns-3 : tie.Need-returns-3
-returns-3 c = rw (not-false (c .before .before .before .before .before .args .self .present) (c .before .before .before .if1 .left), eq-eqb _ _ (c .before .if2 .left))
+returns-2 c = rw (sym (two (c .before)) ∙ c .if2 .left) (c .if2 .left)
 
 pub is-spec : {M : Type 1} → statement M
-is-spec = tie.close (tie.spec returns returns-2 returns-3)
+is-spec = tie.close (tie.spec returns returns-2)
