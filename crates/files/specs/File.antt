@@ -3,12 +3,13 @@
 use mathlib.Core.List.{List, [], _∷_, map}
 use mathlib.Core.Bool.{Bool, true, false, not, cond}
 use Prim.Native.Nat.{ℕ}
-use lib.ListN.{getD, set, replicate}
+use lib.ListN.{getD, set, replicate, length}
 use lib.Dec.{eqb}
-use Rattle.statuses.specs.Names.{Status, Client, FileNumber}
+use Rattle.statuses.specs.Names.{Bytes, Status, Client, FileNumber}
+use Rattle.reports.specs.Device.{halves}
 use Rattle.places.specs.Lists.{any, chosen, fill}
 use Rattle.places.specs.Places.{first, leftOut}
-use Rattle.mirroring.specs.Mirrors.{noMirrors, unblamed, blamedAt}
+use Rattle.mirroring.specs.Mirrors.{noMirrors, isDevice, unblamed, blamedAt, hasProxy, withProxy, withoutProxy}
 use Rattle.mirroring.specs.Source.{sourceIn}
 use Rattle.mirroring.specs.declared.source.Direction.{Direction}
 use Rattle.intents.specs.Intents.{noIntent, noIntents, intentOf, isIntent, isFree, isKept, isLost, firstTaken, reclaimedIf, unreclaimedIntent}
@@ -98,6 +99,24 @@ repairedFile n h f =
 
 unfoldable pub forgettable : FileNumber → Head → File → Status
 forgettable n h f = cond (h .grace) 10013 (cond (isFile n f) (cond (f .marked) 10008 (cond (firstTaken (f .intents)) 10008 0)) 70)
+
+-- a proxy more, whose device is s: 22 if that isn't 16 bytes or stands there, 17 if a proxy is there
+unfoldable pub proxyAddedFile : FileNumber → Head → Bytes → File → FileAnswered
+proxyAddedFile n h s f =
+    cond (h .grace) (fileAnswered 10013 h f)
+    (ofFile n h f
+    (cond (not (eqb (length s) 16)) (fileAnswered 22 h f)
+    (cond (any (isDevice (halves s)) (f .mirrors)) (fileAnswered 22 h f)
+    (cond (hasProxy (f .mirrors)) (fileAnswered 17 h f)
+    (fileAnswered 0 h (withMirrors (withProxy (halves s .high) (halves s .low) (f .mirrors)) f))))))
+
+-- and none, or 2; its blame goes with it, and the mark stays
+unfoldable pub proxyRemovedFile : FileNumber → Head → File → FileAnswered
+proxyRemovedFile n h f =
+    cond (h .grace) (fileAnswered 10013 h f)
+    (ofFile n h f
+    (cond (not (hasProxy (f .mirrors))) (fileAnswered 2 h f)
+    (fileAnswered 0 h (withMirrors (withoutProxy (f .mirrors)) f))))
 
 -- ---- a report (LAYOUTRETURN, step 7): one that names an unknown device only marks
 unfoldable pub changedFile : Change → File → File

@@ -1,4 +1,4 @@
-// One file of the record (paper 01, "The recovery record"): what it holds, and the calls on one file. A call tests for itself whether this is
+// One file of the record (paper 01, "The recovery record"; 02, Ticket 7): what it holds, and the calls on one file. A call tests for itself whether this is
 // the file of the number that it is given, gets what stands beside the files, and answers the status and both afterwards. Then what a report, a
 // restart and the end of grace do to a file, and what the lists ask of one.
 use crate::head::Head;
@@ -10,7 +10,7 @@ use mirroring::source::Direction;
 use places::Found;
 ghost use mathlib.Core.Path.{_≡_};
 ghost use mathlib.Core.Bool.{true, cond};
-ghost use Rattle.files.specs.File.{noFile, blankFile, fileOf, isFile, isVacant, fileAnswered, openedFile, reclaimedFile, closedFile, repairedFile, forgettable, restartedFile, endedFile, isListed, isReady, sourceOf, changedFile};
+ghost use Rattle.files.specs.File.{noFile, blankFile, fileOf, isFile, isVacant, fileAnswered, openedFile, reclaimedFile, closedFile, repairedFile, forgettable, proxyAddedFile, proxyRemovedFile, restartedFile, endedFile, isListed, isReady, sourceOf, changedFile};
 
 // The wide fields stand first. A place of the record is a file's if `used`.
 #[repr(C)]
@@ -205,6 +205,52 @@ impl File {
             return statuses::DELAY;
         }
         0
+    }
+
+    // Add a proxy: 10013 in grace; 70; 22 the device isn't 16 bytes, or is there already; 17 a proxy is there.
+    pub fn add_proxy(mut self, number: u64, head: Head, device: &[u8]) -> FileAnswered
+        ensures { λ r. ⌜ r ≡ proxyAddedFile number head (now (device .entry)) self ⌝ }
+    {
+        if head.grace {
+            return self.answered(statuses::GRACE, head);
+        }
+        if !self.is(number) {
+            return self.answered(statuses::STALE, head);
+        }
+        if device.len() != 16 {
+            return self.answered(statuses::INVAL, head);
+        }
+        let high = xdr::be64(device, 0);
+        let low = xdr::be64(device, 8);
+        let old = self.mirrors;
+        if mirroring::mirrors::stands(old, high, low) {
+            return self.answered(statuses::INVAL, head);
+        }
+        if mirroring::mirrors::has_proxy(old) {
+            return self.answered(statuses::EXIST, head);
+        }
+        let ms = mirroring::mirrors::with_proxy(old, high, low);
+        self.mirrors = ms;
+        self.answered(0, head)
+    }
+
+    // Remove the proxy: 10013 in grace; 70; 2 none. Its blame goes with it, and the file's mark stays.
+    pub fn remove_proxy(mut self, number: u64, head: Head) -> FileAnswered
+        ensures { λ r. ⌜ r ≡ proxyRemovedFile number head self ⌝ }
+    {
+        if head.grace {
+            return self.answered(statuses::GRACE, head);
+        }
+        if !self.is(number) {
+            return self.answered(statuses::STALE, head);
+        }
+        let old = self.mirrors;
+        if !mirroring::mirrors::has_proxy(old) {
+            return self.answered(statuses::NOENT, head);
+        }
+        let ms = mirroring::mirrors::without_proxy(old);
+        self.mirrors = ms;
+        self.answered(0, head)
     }
 
     // The file once a report has changed it: step 7 of a LAYOUTRETURN.
