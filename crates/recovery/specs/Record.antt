@@ -9,7 +9,7 @@ use Rattle.statuses.specs.Names.{Bytes, Status, Client, FileNumber}
 use Rattle.places.specs.Lists.{chosen}
 use Rattle.places.specs.Places.{first, placeOr}
 use Rattle.mirroring.specs.Mirrors.{enrolledOf}
-use Rattle.files.specs.File.{noFile, blankFile, fileOf, isFile, isVacant, openedFile, reclaimedFile, closedFile, repairedFile, forgettable, restartedFile, endedFile, isListed, isReady, sourceOf}
+use Rattle.files.specs.File.{noFile, blankFile, fileOf, isFile, isVacant, openedFile, reclaimedFile, closedFile, repairedFile, proxyAddedFile, proxyRemovedFile, forgettable, restartedFile, endedFile, isListed, isReady, sourceOf}
 use Rattle.files.specs.Head.{freshHead}
 use Rattle.files.specs.declared.head.Edition.{Edition}
 use Rattle.files.specs.declared.head.Edition.the-variants.{Current}
@@ -70,6 +70,13 @@ closeOf n c r = onPlace n (closedFile n (r .head) c) r
 
 unfoldable pub repairedOf : FileNumber → Record → Answered
 repairedOf n r = onPlace n (repairedFile n (r .head)) r
+
+-- s is the device
+unfoldable pub addProxyOf : FileNumber → Bytes → Record → Answered
+addProxyOf n s r = onPlace n (proxyAddedFile n (r .head) s) r
+
+unfoldable pub removeProxyOf : FileNumber → Record → Answered
+removeProxyOf n r = onPlace n (proxyRemovedFile n (r .head)) r
 
 -- ---- register and forget
 -- a file is entered by its number: from the first free place down, each file with a greater number moves up one place

@@ -1,5 +1,6 @@
 // The record (paper 01, "The recovery record"): at most 64 files, by rising number, the free places last, and what stands beside them. Each call
-// answers its status and the record afterwards. First the loops over the 64 places, then the calls in the paper's order.
+// answers its status and the record afterwards. First the loops over the 64 places, then the calls in the paper's order, and among them those on a file's
+// proxy (02, Ticket 7).
 use files::file::File;
 use files::file::FileAnswered;
 use files::head::Edition;
@@ -10,7 +11,7 @@ ghost use Prim.Native.Nat.{_<_};
 ghost use Rattle.files.specs.File.{restartedFile, endedFile};
 ghost use Rattle.files.specs.Head.{editionOf};
 ghost use Rattle.files.specs.declared.head.Edition.the-variants.{Old};
-ghost use Rattle.recovery.specs.Record.{freshAs, fresh, answered, placeIn, putFile, roomIn, enter, withoutFile, registerOf, openOf, reclaimOf, closeOf, repairedOf, forgetOf, endOf, restartOf};
+ghost use Rattle.recovery.specs.Record.{freshAs, fresh, answered, placeIn, putFile, roomIn, enter, withoutFile, registerOf, openOf, reclaimOf, closeOf, repairedOf, addProxyOf, removeProxyOf, forgetOf, endOf, restartOf};
 
 #[repr(C)]
 pub struct Record {
@@ -245,6 +246,26 @@ impl Record {
         let i = self.place(file);
         let f = self.files[i];
         let a = f.repaired(file, self.head);
+        self.stored(i, a)
+    }
+
+    // Add a proxy, whose device is 16 bytes: 10013 in grace; 70; 22 the device isn't 16 bytes, or is there already; 17 a proxy is there.
+    pub fn add_proxy(self, file: u64, device: &[u8]) -> Answered
+        ensures { λ r. ⌜ r ≡ addProxyOf file (now (device .entry)) self ⌝ }
+    {
+        let i = self.place(file);
+        let f = self.files[i];
+        let a = f.add_proxy(file, self.head, device);
+        self.stored(i, a)
+    }
+
+    // Remove the proxy: 10013 in grace; 70; 2 none.
+    pub fn remove_proxy(self, file: u64) -> Answered
+        ensures { λ r. ⌜ r ≡ removeProxyOf file self ⌝ }
+    {
+        let i = self.place(file);
+        let f = self.files[i];
+        let a = f.remove_proxy(file, self.head);
         self.stored(i, a)
     }
 
