@@ -9,13 +9,14 @@ use lib.ListN.{getD, set, length, take, drop, length-set, length-map, length-app
 use lib.Seq.{set-getD}
 use lib.Dec.{eqb, leb, ltb}
 use borrow.Author.Tests.{eqb-false, le-leb, lt-leb, leb-true, leb-false, ltb-true, ltb-false}
+use Rattle.statuses.specs.Names.{Bytes}
 use Rattle.statuses.specs.Rules.{_⇒_, refused}
 use Rattle.reports.specs.Device.{Device}
 use Rattle.places.specs.Lists.{any, chosen, none, discard, amend, Above, Rising}
 use Rattle.places.specs.Places.{first, bump, isFound, placeOr}
 use Rattle.mirroring.specs.Devices.{mirrorsIn, badMirrors}
 use Rattle.mirroring.specs.Mirrors.{placedMirrors, enrolledOf}
-use Rattle.files.specs.File.{noFile, blankFile, isFile, isVacant, fileOf, fileAnswered, openedFile, reclaimedFile, closedFile, repairedFile, forgettable, restartedFile, endedFile, isListed, isReady, sourceOf}
+use Rattle.files.specs.File.{noFile, blankFile, isFile, isVacant, fileOf, fileAnswered, openedFile, reclaimedFile, closedFile, repairedFile, proxyAddedFile, proxyRemovedFile, forgettable, restartedFile, endedFile, isListed, isReady, sourceOf}
 use Rattle.places.specs.declared.Found.{Found}
 use Rattle.places.specs.declared.Found.the-variants.{At, Nothing}
 use Rattle.files.specs.declared.file.File.{File}
@@ -24,14 +25,14 @@ use Rattle.files.specs.declared.head.Head.{Head}
 use Rattle.places.proofs.Slots.{All, Slots, Focus, Hit, slots-map, slots-chosen, slots-at, focus, pairs-map, missing, found}
 use Rattle.places.proofs.Sets.{true-false, first-nothing, none-at, first-no, rest-no}
 use Rattle.mirroring.proofs.Enrolling.{few-mirrors}
-use Rattle.ledger.specs.Ledger.{Row, Ledger, isRow, newRow, registered, rowOf, openRules, intentRules, closeRules, repairedRules, forgetRules, isOn, rowsOn, listOf, numbers, source, opened, hasReclaimed, closed, mended, restarted, ended, insert, withRows, withGrace, onRow}
-use Rattle.recovery.specs.Record.{withFiles, answered, placeIn, fileAt, putFile, onPlace, openOf, reclaimOf, closeOf, repairedOf, raised, roomIn, enter, pulled, withoutFile, isFull, registerWith, registerOf, forgets, forgetOf, endOf, restartOf, isWanted, numberOf, listingOf}
+use Rattle.ledger.specs.Ledger.{Row, Ledger, isRow, newRow, registered, rowOf, openRules, intentRules, closeRules, repairedRules, addProxyRules, removeProxyRules, forgetRules, isOn, rowsOn, listOf, numbers, source, opened, hasReclaimed, closed, mended, proxyAdded, proxyRemoved, restarted, ended, insert, withRows, withGrace, onRow}
+use Rattle.recovery.specs.Record.{withFiles, answered, placeIn, fileAt, putFile, onPlace, openOf, reclaimOf, closeOf, repairedOf, addProxyOf, removeProxyOf, raised, roomIn, enter, pulled, withoutFile, isFull, registerWith, registerOf, forgets, forgetOf, endOf, restartOf, isWanted, numberOf, listingOf}
 use Rattle.mirroring.specs.declared.source.Direction.{Direction}
 use Rattle.recovery.specs.declared.listing.Listing.{Listing}
 use Rattle.recovery.specs.declared.listing.Listing.the-variants.{Resilver, Offered}
 use Rattle.recovery.specs.declared.record.Record.{Record}
 use Rattle.ledger.proofs.Relation.{FileIs, NoFile, Matches, branch, FileKept, FileAgrees, RecordAgrees}
-use Rattle.ledger.proofs.OneFile.{some-taken, file-opened, file-reclaimed, file-closed, file-repaired, file-restarted, file-ended, file-source, file-new}
+use Rattle.ledger.proofs.OneFile.{some-taken, file-opened, file-reclaimed, file-closed, file-repaired, file-proxy-added, file-proxy-removed, file-restarted, file-ended, file-source, file-new}
 
 -- ---- the file that a call names
 is-file : (g : Bool) (n : ℕ) (f : File) (w : Row) → FileIs g f w → isFile n f ≡ isRow n w
@@ -142,6 +143,26 @@ module _ {r : Record} {l : Ledger} (m : Matches r l) (n c : ℕ) where
 pub repaired-agrees : {r : Record} {l : Ledger} → Matches r l → (n : ℕ) → RecordAgrees (repairedOf n r) l (onRow l n mended) (refused (not (registered n l) ⇒ 70 ∷ repairedRules (rowOf n l)))
 unfolding repairedOf repairedFile
 repaired-agrees {r} m n = on-file n (repairedFile n (r .head)) mended (λ w. refused (repairedRules w)) (λ w. refl) (λ f w i k. rw i (file-repaired (r .head) k)) (λ f i. rw i) m
+
+-- ---- the proxy; b is whether in grace
+module _ {r : Record} {l : Ledger} (m : Matches r l) (n : ℕ) where
+  add-proxy-by : (s : Bytes) (b : Bool) → l .grace ≡ b → RecordAgrees (addProxyOf n s r) l (onRow l n (proxyAdded s)) (cond b 10013 (cond (not (registered n l)) 70 (refused (addProxyRules s (rowOf n l)))))
+  unfolding addProxyOf proxyAddedFile
+  add-proxy-by s true e = refused-any n (proxyAddedFile n (r .head) s) 10013 refl (λ f. rw (m .grace ∙ e)) m
+  add-proxy-by s false e = on-file n (proxyAddedFile n (r .head) s) (proxyAdded s) (λ w. refused (addProxyRules s w)) (λ w. refl)
+      (λ f w i k. rw (m .grace ∙ e, i) (file-proxy-added _ s k)) (λ f i. rw (m .grace ∙ e, i)) m
+
+  pub add-proxy-agrees : (s : Bytes) → RecordAgrees (addProxyOf n s r) l (onRow l n (proxyAdded s)) (refused (l .grace ⇒ 10013 ∷ not (registered n l) ⇒ 70 ∷ addProxyRules s (rowOf n l)))
+  add-proxy-agrees s = add-proxy-by s (l .grace) refl
+
+  remove-proxy-by : (b : Bool) → l .grace ≡ b → RecordAgrees (removeProxyOf n r) l (onRow l n proxyRemoved) (cond b 10013 (cond (not (registered n l)) 70 (refused (removeProxyRules (rowOf n l)))))
+  unfolding removeProxyOf proxyRemovedFile
+  remove-proxy-by true e = refused-any n (proxyRemovedFile n (r .head)) 10013 refl (λ f. rw (m .grace ∙ e)) m
+  remove-proxy-by false e = on-file n (proxyRemovedFile n (r .head)) proxyRemoved (λ w. refused (removeProxyRules w)) (λ w. refl)
+      (λ f w i k. rw (m .grace ∙ e, i) (file-proxy-removed _ k)) (λ f i. rw (m .grace ∙ e, i)) m
+
+  pub remove-proxy-agrees : RecordAgrees (removeProxyOf n r) l (onRow l n proxyRemoved) (refused (l .grace ⇒ 10013 ∷ not (registered n l) ⇒ 70 ∷ removeProxyRules (rowOf n l)))
+  remove-proxy-agrees = remove-proxy-by (l .grace) refl
 
 -- ---- forget
 is-used : (g : Bool) (f : File) (w : Row) → FileIs g f w → isVacant f ≡ false

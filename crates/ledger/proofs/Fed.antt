@@ -5,16 +5,16 @@ use mathlib.Core.Bool.{Bool, true, false, cond}
 use lib.Dec.{leb}
 use Rattle.reports.specs.Report.{DeviceError, reportOf}
 use Rattle.wire.specs.Request.{bodyOf}
-use Rattle.places.specs.Lists.{any, amend, discard}
+use Rattle.places.specs.Lists.{any, chosen, amend, discard}
 use Rattle.places.proofs.Slots.{All, all-map}
 use Rattle.places.proofs.Sets.{true-false}
 use Rattle.mirroring.specs.Devices.{mirrorsIn}
 use Rattle.files.specs.declared.head.Edition.{Edition}
 use Rattle.files.specs.Head.{isOld}
-use Rattle.recovery.specs.Calls.{Call, register, opening, reclaim, close, repaired, forget, endGrace, restart, layoutReturn, listing}
+use Rattle.recovery.specs.Calls.{Call, register, opening, reclaim, close, repaired, addProxy, removeProxy, forget, endGrace, restart, layoutReturn, listing}
 use Rattle.recovery.specs.Record.{freshAs}
 use Rattle.recovery.specs.declared.record.Record.{Record}
-use Rattle.ledger.specs.Ledger.{Row, Ledger, noRows, isRow, newRow, insert, lost, restarted, ended, isFault, isStranger, blame, reported, errorsOf, withMark, withBlame, judge, apply, accepted, feed}
+use Rattle.ledger.specs.Ledger.{Row, Ledger, noRows, isRow, newRow, insert, lost, proxyRemoved, restarted, ended, isFault, isStranger, blame, reported, errorsOf, withMark, withBlame, judge, apply, accepted, feed}
 use Rattle.ledger.specs.History.{step, answers, ledgerAfter}
 use Rattle.ledger.specs.Demand3.{ledgerOf}
 use Rattle.ledger.proofs.Relation.{Matches}
@@ -91,6 +91,10 @@ sound-reported o xs w h = by (isOld o) (any (isStranger w) xs) (any isFault xs)
 pub as-was : {w v : Row} → v .marked ≡ w .marked → v .blamed ≡ w .blamed → Sound w → Sound v
 as-was e k h = record { no-blame = λ q. k ∙ h .no-blame (sym e ∙ q) }
 
+sound-removed : (w : Row) → Sound w → Sound (proxyRemoved w)
+unfolding chosen
+sound-removed w h = record { no-blame = λ e. rw (h .no-blame e) }
+
 sound-apply : (l : Ledger) (x : Call) → All Sound (l .rows) → All Sound (apply l x .rows)
 unfolding apply
 sound-apply l (register n s) h = all-insert (newRow n (mirrorsIn s)) (record { no-blame = λ e. refl }) h
@@ -98,6 +102,8 @@ sound-apply l (opening n c) h = all-amend (isRow n) _ (λ w k. as-was refl refl 
 sound-apply l (reclaim n c) h = all-amend (isRow n) _ (λ w k. as-was refl refl k) h
 sound-apply l (close n c) h = all-amend (isRow n) _ (λ w k. as-was refl refl k) h
 sound-apply l (repaired n) h = all-amend (isRow n) _ (λ w k. record { no-blame = λ e. refl }) h
+sound-apply l (addProxy n s) h = all-amend (isRow n) _ (λ w k. as-was refl refl k) h
+sound-apply l (removeProxy n) h = all-amend (isRow n) _ sound-removed h
 sound-apply l (forget n) h = all-discard (isRow n) h
 sound-apply l endGrace h = all-map ended sound-ended h
 sound-apply l restart h = all-map restarted (λ w k. as-was refl refl k) h

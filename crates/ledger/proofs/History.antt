@@ -7,21 +7,23 @@ use lib.Dec.{leb}
 use lib.ListN.{length}
 use Rattle.places.specs.Lists.{fill}
 use Rattle.files.specs.File.{blankFile}
-use Rattle.places.proofs.Slots.{Slots, all-replicate}
+use Rattle.places.proofs.Slots.{All, Slots, all-replicate}
 use Rattle.files.specs.declared.head.Edition.{Edition}
 use Rattle.files.specs.declared.head.Edition.the-variants.{Current, Old}
 use Rattle.files.specs.Head.{isOld}
-use Rattle.recovery.specs.Calls.{Call, register, opening, reclaim, close, repaired, forget, endGrace, restart, layoutReturn, listing, Answer, said, listed, lend}
-use Rattle.ledger.specs.Ledger.{Ledger, noRows, judge, apply, accepted, feed, isOn}
+use Rattle.files.specs.declared.file.File.{File}
+use Rattle.recovery.specs.Calls.{Call, register, opening, reclaim, close, repaired, addProxy, removeProxy, forget, endGrace, restart, layoutReturn, listing, Answer, said, listed, lend}
+use Rattle.ledger.specs.Ledger.{Row, Ledger, noRows, judge, apply, accepted, feed, isOn}
 use Rattle.recovery.specs.Record.{freshAs}
 use Rattle.ledger.specs.History.{Step, stepOf, step, answers, verdicts, recordAfter, ledgerAfter}
 use Rattle.ledger.specs.Demand3.{ledgerOf, Holds, Demand3}
 use Rattle.recovery.specs.declared.record.Record.{Record}
 use Rattle.recovery.specs.declared.record.Answered.{Answered}
-use Rattle.ledger.proofs.Relation.{Matches, RecordAgrees}
-use Rattle.ledger.proofs.Calls.{open-agrees, reclaim-agrees, close-agrees, repaired-agrees, forget-agrees, register-agrees, end-agrees, restart-agrees, list-agrees}
+use Rattle.ledger.proofs.Relation.{FileIs, NoFile, Matches, RecordAgrees}
+use Rattle.ledger.proofs.OneFile.{few-devices}
+use Rattle.ledger.proofs.Calls.{open-agrees, reclaim-agrees, close-agrees, repaired-agrees, add-proxy-agrees, remove-proxy-agrees, forget-agrees, register-agrees, end-agrees, restart-agrees, list-agrees}
 use Rattle.ledger.proofs.Returns.{StepIs, return-agrees}
-use Rattle.ledger.proofs.Sentences.{one-list}
+use Rattle.ledger.proofs.Sentences.{FewMirrors, never-the-proxy, one-list}
 
 by-status : (a : Answered) (l : Ledger) (x : Call) (t : ℕ) → RecordAgrees a l (apply l x) t → StepIs (stepOf a) l x (said t)
 unfolding feed
@@ -53,6 +55,8 @@ step-agrees r l (opening n c) m = by-status _ l (opening n c) _ (open-agrees m n
 step-agrees r l (reclaim n c) m = by-status _ l (reclaim n c) _ (reclaim-agrees m n c)
 step-agrees r l (close n c) m = by-status _ l (close n c) _ (close-agrees m n c)
 step-agrees r l (repaired n) m = by-status _ l (repaired n) _ (repaired-agrees m n)
+step-agrees r l (addProxy n s) m = by-status _ l (addProxy n s) _ (add-proxy-agrees m n s)
+step-agrees r l (removeProxy n) m = by-status _ l (removeProxy n) _ (remove-proxy-agrees m n)
 step-agrees r l (forget n) m = by-status _ l (forget n) _ (forget-agrees m n)
 step-agrees r l endGrace m = by-status _ l endGrace _ (end-agrees m)
 step-agrees r l restart m = by-status _ l restart _ (restart-agrees m)
@@ -67,6 +71,8 @@ same-edition l (opening n c) = refl
 same-edition l (reclaim n c) = refl
 same-edition l (close n c) = refl
 same-edition l (repaired n) = refl
+same-edition l (addProxy n s) = refl
+same-edition l (removeProxy n) = refl
 same-edition l (forget n) = refl
 same-edition l endGrace = refl
 same-edition l restart = refl
@@ -99,6 +105,11 @@ kept-edition (x ∷ xs) l (a ∷ given) = kept-edition xs (feed l x a) given ∙
     by true = same-edition l x
     by false = refl
 
+-- a row has at most four mirrors, as its file does
+few-rows : {g : Bool} {fs : List File} {ws : List Row} → Slots (FileIs g) NoFile fs ws → All FewMirrors ws
+few-rows (Slots.rest h) = All.all-nil
+few-rows (Slots.item r s) = All.all-cons (record { few = few-devices (r .copies .places) }) (few-rows s)
+
 named : (ed : Edition) → cond (isOld ed) Old Current ≡ ed
 named Current = refl
 named Old = refl
@@ -111,5 +122,6 @@ history ed calls =
       answered = all-answered calls (freshAs ed) (noRows ed) (fresh-matches ed);
       listings = λ k a b. list-agrees m k a b;
       lists = λ k e. one-list e (isOn k) (ledgerOf ed calls) (m .rising);
+      ordinary = λ k e. never-the-proxy e (isOn k) (few-rows (m .rows));
       edition = ap (λ b. cond b Old Current) (m .old ∙ ap isOld (kept-edition calls (noRows ed) (answers (freshAs ed) calls))) ∙ named ed;
     }

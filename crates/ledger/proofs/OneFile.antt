@@ -1,6 +1,6 @@
 -- Calls on one file: each answers what the rules of its row say, and leaves a file that goes with the row as the ledger changes it. In this order: tests of
--- intents; open; reclaim; close; repaired; restart; the end of grace; a report; the source; a new file.
-use mathlib.Core.Path.{_≡_, refl, ap, sym, _∙_}
+-- intents; open; reclaim; close; repaired; the proxy; restart; the end of grace; a report; the source; a new file.
+use mathlib.Core.Path.{_≡_, refl, ap, sym, _∙_, subst}
 use mathlib.Core.List.{List, [], _∷_}
 use mathlib.Core.Bool.{Bool, true, false, not, cond}
 use Prim.Native.Nat.{ℕ, suc, _+_, _<_, _≤_}
@@ -8,13 +8,15 @@ use native.Mathlib.Omega.{arith}
 use lib.ListN.{getD, length, length-set, length-map}
 use lib.Dec.{eqb, leb}
 use borrow.Author.Tests.{eqb-true, le-leb, lt-leb}
+use Rattle.statuses.specs.Names.{Bytes}
 use Rattle.statuses.specs.Rules.{refused}
-use Rattle.reports.specs.Device.{Device}
+use Rattle.reports.specs.Device.{Device, halves}
 use Rattle.reports.specs.Statistics.{Statistic}
 use Rattle.reports.specs.Report.{DeviceError, Whole}
 use Rattle.places.specs.Lists.{any, chosen, has, with, none}
 use Rattle.places.specs.Places.{bump, first, placeOr}
-use Rattle.mirroring.specs.Mirrors.{noMirror, isGood, placedMirrors}
+use Rattle.mirroring.specs.Devices.{Proxy, noProxy, proxyAt, isThere}
+use Rattle.mirroring.specs.Mirrors.{noMirror, isDevice, isGood, hasProxy, withProxy, withoutProxy, placedMirrors}
 use Rattle.mirroring.specs.Direction.{firstBy}
 use Rattle.mirroring.specs.Source.{goodFrom, sourceIn}
 use Rattle.mirroring.specs.declared.source.Direction.{Direction}
@@ -32,9 +34,9 @@ use Rattle.places.specs.declared.Found.{Found}
 use Rattle.places.specs.declared.Found.the-variants.{At, Nothing}
 use Rattle.places.proofs.Slots.{All, Pairs, Slots, Focus, Room, slots-left, slots-fill, slots-any, slots-chosen, focus, roomFor, pairs-as, all-replicate, fill-length, chosen-length, leftOut-length, missing, found, full, room}
 use Rattle.places.proofs.Sets.{true-false, has-with, with-old, with-new}
-use Rattle.mirroring.proofs.Copies.{MirrorIs, NoMirror, Copies, copies-unblamed, copies-new}
-use Rattle.ledger.specs.Ledger.{Row, newRow, source, unblamedFrom, openRules, intentRules, closeRules, repairedRules, opened, hasReclaimed, closed, mended, restarted, ended, reported, lost}
-use Rattle.ledger.proofs.Relation.{IntentIs, NoIntent, Intents, FileIs, with-intents, with-mark, with-copies, FileAgrees, branch}
+use Rattle.mirroring.proofs.Copies.{MirrorIs, PlacesAre, Copies, five, known, has-proxy, copies-unblamed, copies-proxied, copies-bare, copies-new}
+use Rattle.ledger.specs.Ledger.{Row, newRow, names, source, unblamedFrom, openRules, intentRules, closeRules, repairedRules, addProxyRules, removeProxyRules, opened, hasReclaimed, closed, mended, proxyAdded, proxyRemoved, restarted, ended, reported, lost}
+use Rattle.ledger.proofs.Relation.{IntentIs, NoIntent, Intents, FileIs, with-intents, with-mark, with-copies, with-proxy, FileAgrees, branch}
 use Rattle.ledger.proofs.Reported.{assessedFile, nothing-changed, file-after-report, whole-status}
 
 -- ---- tests of intents
@@ -138,6 +140,28 @@ file-repaired {g} {f} {w} d h = branch (not (w .marked)) (ap not (h .marked)) (�
     (λ z. branch (not (none (w .intents))) (some-taken h) (λ y. record { same = refl; kept = record { head = refl; file = h } })
     (λ y. record { same = refl; kept = record { head = refl; file = with-mark (with-copies h (copies-unblamed (h .copies))) refl } }))
 
+-- ---- the proxy, out of grace
+none-there : (p : Proxy) → isThere p ≡ false → p ≡ noProxy
+none-there noProxy e = refl
+none-there (proxyAt d) e = true-false e
+
+pub file-proxy-added : {g : Bool} {f : File} {w : Row} (d : Head) (s : Bytes) → FileIs g f w
+    → FileAgrees d g
+    (cond (not (eqb (length s) 16)) (fileAnswered 22 d f)
+    (cond (any (isDevice (halves s)) (f .mirrors)) (fileAnswered 22 d f)
+    (cond (hasProxy (f .mirrors)) (fileAnswered 17 d f)
+    (fileAnswered 0 d (file.withMirrors (withProxy (halves s .high) (halves s .low) (f .mirrors)) f))))) w (proxyAdded s w) (refused (addProxyRules s w))
+file-proxy-added {f = f} {w = w} d s h =
+    branch (not (eqb (length s) 16)) refl (λ z. record { same = refl; kept = record { head = refl; file = h } })
+    (λ z. branch (names w (halves s)) (known (halves s) (h .copies)) (λ y. record { same = refl; kept = record { head = refl; file = h } })
+    (λ y. branch (isThere (w .proxy)) (has-proxy (h .copies)) (λ x. record { same = refl; kept = record { head = refl; file = h } })
+    (λ x. record { same = refl; kept = record { head = refl; file = with-proxy h (copies-proxied (halves s) (subst (λ p. Copies (f .mirrors) (w .mirrors) p (w .blamed)) (none-there (w .proxy) x) (h .copies))) } })))
+
+pub file-proxy-removed : {g : Bool} {f : File} {w : Row} (d : Head) → FileIs g f w → FileAgrees d g (cond (not (hasProxy (f .mirrors))) (fileAnswered 2 d f) (fileAnswered 0 d (file.withMirrors (withoutProxy (f .mirrors)) f))) w (proxyRemoved w) (refused (removeProxyRules w))
+file-proxy-removed {w = w} d h =
+    branch (not (isThere (w .proxy))) (ap not (has-proxy (h .copies))) (λ z. record { same = refl; kept = record { head = refl; file = h } })
+    (λ z. record { same = refl; kept = record { head = refl; file = with-proxy h (copies-bare (h .copies)) } })
+
 -- ---- restart
 pub file-restarted : (g : Bool) (f : File) (w : Row) → FileIs g f w → FileIs true (restartedFile f) (restarted w)
 unfolding restartedFile has any
@@ -186,29 +210,46 @@ pub file-reported : {g : Bool} {f : File} {w : Row} (d : Head) (c : ℕ) (xs : L
 file-reported d c xs ys h = reports-at d c xs ys h (at-intent c h)
 
 -- ---- the source
+-- no place after the mirrors is good: a free one, nor the proxy
+no-proxy : (m : Mirror) → m .present ≡ true → m .proxy ≡ true → isGood m ≡ false
+no-proxy m h k = rw (h, k) (by (m .blamed))
+  where
+    by : (b : Bool) → cond (not b) false false ≡ false
+    by true = refl
+    by false = refl
+
+good-none : {p : Proxy} {n : ℕ} {ms : List Mirror} (k : ℕ) → PlacesAre p n ms [] → goodFrom k ms ≡ []
+unfolding goodFrom
+good-none k (PlacesAre.bare h e) = rw h
+good-none k (PlacesAre.proxied {m} h) = rw (no-proxy m (h .present) (h .proxy))
+good-none k (PlacesAre.free h s) = rw h (good-none (suc k) s)
+
 -- `b` is whether the first place is blamed
 good-item : {m : Mirror} {d : Device} (ms : List Mirror) (ds : List Device) (k : ℕ) (bs : List ℕ) (b : Bool) → has k bs ≡ b → m .blamed ≡ b → MirrorIs m d
     → goodFrom (suc k) ms ≡ unblamedFrom (suc k) ds bs → goodFrom k (m ∷ ms) ≡ unblamedFrom k (d ∷ ds) bs
 unfolding goodFrom unblamedFrom
 good-item ms ds k bs true e q r h = rw (e, r .present, q) h
-good-item ms ds k bs false e q r h = rw (e, r .present, q) (ap {B = List ℕ} (λ ps. k ∷ ps) h)
+good-item ms ds k bs false e q r h = rw (e, r .present, r .ordinary, q) (ap {B = List ℕ} (λ ps. k ∷ ps) h)
 
-good-none : {ms : List Mirror} (k : ℕ) → All NoMirror ms → goodFrom k ms ≡ []
-unfolding goodFrom
-good-none k All.all-nil = refl
-good-none k (All.all-cons h t) = rw h (good-none (suc k) t)
-
-good-from : {ms : List Mirror} {ds : List Device} (k : ℕ) (bs : List ℕ) → Slots MirrorIs NoMirror ms ds → ((i : ℕ) → i < length ms → getD ms i noMirror .blamed ≡ has (k + i) bs)
+good-from : {p : Proxy} {n : ℕ} {ms : List Mirror} {ds : List Device} (k : ℕ) (bs : List ℕ) → PlacesAre p n ms ds → ((i : ℕ) → i < length ms → getD ms i noMirror .blamed ≡ has (k + i) bs)
     → goodFrom k ms ≡ unblamedFrom k ds bs
 unfolding unblamedFrom
-good-from k bs (Slots.rest h) f = good-none k h
-good-from k bs (Slots.item {xs = ms} {ys = ds} r s) f =
+good-from k bs (PlacesAre.bare h e) f = good-none k (PlacesAre.bare h e)
+good-from k bs (PlacesAre.proxied h) f = good-none k (PlacesAre.proxied h)
+good-from k bs (PlacesAre.free h s) f = good-none k (PlacesAre.free h s)
+good-from k bs (PlacesAre.item {ms = ms} {ds = ds} r s) f =
     good-item ms ds k bs (has k bs) refl (f 0 (omega arith) ∙ ap (λ j. has j bs) (omega arith)) r (good-from (suc k) bs s (λ i p. f (suc i) (omega arith) ∙ ap (λ j. has j bs) (omega arith)))
+
+pub few-devices : {p : Proxy} {n : ℕ} {ms : List Mirror} {ds : List Device} → PlacesAre p n ms ds → length ds ≤ n
+few-devices (PlacesAre.bare h e) = omega arith
+few-devices (PlacesAre.proxied h) = omega arith
+few-devices (PlacesAre.free h s) = omega arith
+few-devices (PlacesAre.item r s) = omega (arith, few-devices s)
 
 pub file-source : (d : Direction) (g : Bool) (f : File) (w : Row) → FileIs g f w → sourceOf d f ≡ source d w
 unfolding sourceOf sourceIn
 file-source d g f w h =
-    ap (firstBy d) (good-from 0 (w .blamed) (h .copies .mirrors) (λ i p. h .copies .blame i p ∙ ap (λ j. has j (w .blamed)) (omega arith)))
+    ap (firstBy d) (good-from 0 (w .blamed) (h .copies .places) (λ i p. h .copies .blame i (omega (arith, p, five (h .copies))) ∙ ap (λ j. has j (w .blamed)) (omega arith)))
 
 -- ---- a new file
 pub file-new : (n : ℕ) (ds : List Device) → length ds ≤ 4 → FileIs false (fileOf n (placedMirrors ds)) (newRow n ds)

@@ -10,13 +10,14 @@ use Rattle.places.specs.Lists.{has, Rising}
 use Rattle.files.specs.Head.{isOld}
 use Rattle.files.specs.File as file
 use Rattle.intents.specs.declared.Intent.{Intent}
+use Rattle.mirroring.specs.Devices.{Proxy}
 use Rattle.mirroring.specs.declared.mirrors.Mirror.{Mirror}
 use Rattle.files.specs.declared.file.File.{File}
 use Rattle.files.specs.declared.file.FileAnswered.{FileAnswered}
 use Rattle.files.specs.declared.head.Head.{Head}
 use Rattle.places.proofs.Slots.{Slots}
 use Rattle.mirroring.proofs.Copies.{Copies}
-use Rattle.ledger.specs.Ledger.{Row, Ledger, numbers, withIntents, withMark, withBlame}
+use Rattle.ledger.specs.Ledger.{Row, Ledger, numbers, withProxy, withIntents, withMark, withBlame}
 use Rattle.recovery.specs.declared.record.Record.{Record}
 use Rattle.recovery.specs.declared.record.Answered.{Answered}
 
@@ -37,7 +38,7 @@ pub record Intents (g : Bool) (rs : List ℕ) (xs : List Intent) (cs : List ℕ)
 pub record FileIs (g : Bool) (f : File) (w : Row) : Type 0 where
   pub used : f .used ≡ true
   pub number : f .number ≡ w .number
-  pub copies : Copies (f .mirrors) (w .mirrors) (w .blamed)
+  pub copies : Copies (f .mirrors) (w .mirrors) (w .proxy) (w .blamed)
   pub intents : Intents g (w .reclaimed) (f .intents) (w .intents)
   pub marked : f .marked ≡ w .marked
 
@@ -60,8 +61,11 @@ module _ {g : Bool} {f : File} {w : Row} (h : FileIs g f w) where
   pub with-mark : {a b : Bool} → a ≡ b → FileIs g (file.withMark a f) (withMark b w)
   with-mark e = record { used = h .used; number = h .number; copies = h .copies; intents = h .intents; marked = e }
 
-  pub with-copies : {ms : List Mirror} {bs : List ℕ} → Copies ms (w .mirrors) bs → FileIs g (file.withMirrors ms f) (withBlame bs w)
+  pub with-copies : {ms : List Mirror} {bs : List ℕ} → Copies ms (w .mirrors) (w .proxy) bs → FileIs g (file.withMirrors ms f) (withBlame bs w)
   with-copies s = record { used = h .used; number = h .number; copies = s; intents = h .intents; marked = h .marked }
+
+  pub with-proxy : {ms : List Mirror} {p : Proxy} {bs : List ℕ} → Copies ms (w .mirrors) p bs → FileIs g (file.withMirrors ms f) (withProxy p (withBlame bs w))
+  with-proxy s = record { used = h .used; number = h .number; copies = s; intents = h .intents; marked = h .marked }
 
 -- ---- an answer agrees: the status is t, and what is left goes with l′ where t is 0 and with l otherwise
 pub record Agrees {X S L : Type 0} (M : S → L → Type 0) (st : X → ℕ) (af : X → S) (x : X) (l l′ : L) (t : ℕ) : Type 0 where

@@ -11,7 +11,7 @@ use Rattle.reports.specs.Statistics.{Statistic}
 use Rattle.reports.specs.Report.{DeviceError, Whole, Malformed, over}
 use Rattle.places.specs.Lists.{any, with}
 use Rattle.places.specs.Places.{first}
-use Rattle.mirroring.specs.Devices.{deviceOf, placeOf}
+use Rattle.mirroring.specs.Devices.{deviceOf}
 use Rattle.mirroring.specs.Mirrors.{isDevice, blamedAt}
 use Rattle.mirroring.specs.Blame.{blaming, statusOnly, withChange, withErrorAt, withErrorOf, withError, errorsAssessed, assessmentOf}
 use Rattle.mirroring.specs.TotalsSteps.{mirrorTotals}
@@ -28,16 +28,15 @@ use Rattle.recovery.specs.LayoutReturn.{answeredBy}
 use Rattle.places.specs.declared.Found.{Found}
 use Rattle.places.specs.declared.Found.the-variants.{At, Nothing}
 use Rattle.places.proofs.Sets.{none-first}
-use Rattle.places.proofs.Slots.{Slots}
-use Rattle.mirroring.proofs.Copies.{Copies, MirrorIs, NoMirror, known, placed, none-blamed, flag-raised}
+use Rattle.mirroring.proofs.Copies.{Copies, five, known, placesWith, placed, none-blamed, flag-raised}
 use Rattle.files.specs.declared.head.Edition.the-variants.{Current}
 use Rattle.mirroring.proofs.Assessing.{status-kept}
-use Rattle.ledger.specs.Ledger.{Row, names, isFault, isStranger, blame, reported, withMark, withBlame}
+use Rattle.ledger.specs.Ledger.{Row, names, placeIn, isFault, isStranger, blame, reported, withMark, withBlame}
 use Rattle.ledger.proofs.Relation.{FileIs, with-mark, with-copies}
 
 -- no stranger has been named yet; ms are the file's mirrors
 pub record Sees (ms : List Mirror) (h : Assessment) (w : Row) (bs : List ℕ) (b : Bool) : Type 0 where
-  pub copies : Copies (blamedAt (h .change .blamed) ms) (w .mirrors) bs
+  pub copies : Copies (blamedAt (h .change .blamed) ms) (w .mirrors) (w .proxy) bs
   pub flags : length (h .change .blamed) ≡ length ms
   pub unknown : h .change .unknown ≡ false
   pub failed : h .change .failed ≡ b
@@ -62,30 +61,30 @@ unknown-stays ms [] h e = e
 unknown-stays ms (x ∷ xs) h e = unknown-stays ms xs (withError ms h x) (unknown-at h (x .status) (first (isDevice (deviceOf x)) ms) e)
 
 -- ---- one device error
-module _ (ms : List Mirror) (w : Row) (s : Slots MirrorIs NoMirror ms (w .mirrors)) (h : Assessment) where
+module _ {was : List ℕ} (ms : List Mirror) (w : Row) (s : Copies ms (w .mirrors) (w .proxy) was) (h : Assessment) where
   error-stranger : (x : DeviceError) → names w (deviceOf x) ≡ false → withError ms h x .change .unknown ≡ true
   unfolding withErrorOf
   error-stranger x e = rw (none-first (isDevice (deviceOf x)) ms (known (deviceOf x) s ∙ e))
 
-  error-at : {bs : List ℕ} {b : Bool} (t i : ℕ) → i < length ms → Sees ms h w bs b → (z : Bool) → eqb t 0 ≡ z → Sees ms (withErrorAt h t (At i)) w (cond (not z) (with i bs) bs) (cond (not z) true b)
+  error-at : {bs : List ℕ} {b : Bool} (t i : ℕ) → i < placesWith 4 (w .proxy) → Sees ms h w bs b → (z : Bool) → eqb t 0 ≡ z → Sees ms (withErrorAt h t (At i)) w (cond (not z) (with i bs) bs) (cond (not z) true b)
   error-at t i p k true e = rw e k
   error-at t i p k false e = rw e (record {
-    copies = flag-raised ms (h .change .blamed) i (omega (arith, p, k .flags)) p (k .copies);
+    copies = flag-raised ms (h .change .blamed) i (k .flags) p (k .copies);
     flags = length-set (h .change .blamed) i 1 ∙ k .flags;
     unknown = k .unknown;
     failed = refl;
   })
 
   error-known : {bs : List ℕ} {b : Bool} (x : DeviceError) → Sees ms h w bs b → names w (deviceOf x) ≡ true
-      → Sees ms (withError ms h x) w (cond (isFault x) (with (placeOf (deviceOf x) (w .mirrors)) bs) bs) (cond (isFault x) true b)
+      → Sees ms (withError ms h x) w (cond (isFault x) (with (placeIn w (deviceOf x)) bs) bs) (cond (isFault x) true b)
   unfolding withErrorOf
   error-known x k e =
       let z = placed (deviceOf x) s e in
-      rw (z .at) (error-at (x .status) (placeOf (deviceOf x) (w .mirrors)) (z .inside) k (eqb (x .status) 0) refl)
+      rw (z .at) (error-at (x .status) (placeIn w (deviceOf x)) (z .inside) k (eqb (x .status) 0) refl)
 
 -- ---- all of them
 more : (ms : List Mirror) (h : Assessment) (w : Row) (x : DeviceError) (xs : List DeviceError) (bs : List ℕ) (b : Bool) → isStranger w x ≡ false
-    → Assesses ms h w xs (cond (isFault x) (with (placeOf (deviceOf x) (w .mirrors)) bs) bs) (cond (isFault x) true b) → Assesses ms h w (x ∷ xs) bs b
+    → Assesses ms h w xs (cond (isFault x) (with (placeIn w (deviceOf x)) bs) bs) (cond (isFault x) true b) → Assesses ms h w (x ∷ xs) bs b
 unfolding any blame
 more ms h w x xs bs b e (named p q) = named (rw (e, p)) q
 more ms h w x xs bs b e (mirrors-only p q) = mirrors-only (rw (e, p)) (record { copies = q .copies; flags = q .flags; unknown = q .unknown; failed = q .failed ∙ by (isFault x) b (any isFault xs) })
@@ -95,7 +94,7 @@ more ms h w x xs bs b e (mirrors-only p q) = mirrors-only (rw (e, p)) (record { 
     by true false c = refl
     by false b c = refl
 
-module _ (ms : List Mirror) (w : Row) (s : Slots MirrorIs NoMirror ms (w .mirrors)) where
+module _ {was : List ℕ} (ms : List Mirror) (w : Row) (s : Copies ms (w .mirrors) (w .proxy) was) where
   assessed-item : (h : Assessment) (x : DeviceError) (xs : List DeviceError) (bs : List ℕ) (b z : Bool) → names w (deviceOf x) ≡ z → Sees ms h w bs b
       → ((cs : List ℕ) (c : Bool) → Sees ms (withError ms h x) w cs c → Assesses ms (over (withError ms) (withError ms h x) xs) w xs cs c) → Assesses ms (over (withError ms) (withError ms h x) xs) w (x ∷ xs) bs b
   unfolding any
@@ -113,7 +112,7 @@ module _ (ms : List Mirror) (w : Row) (s : Slots MirrorIs NoMirror ms (w .mirror
 
 -- ---- a whole report
 pub assesses-report : {g : Bool} {f : File} {w : Row} (xs : List DeviceError) → FileIs g f w → Assesses (f .mirrors) (over (withError (f .mirrors)) (statusOnly 0) xs) w xs (w .blamed) false
-assesses-report {g} {f} {w} xs k = assessed-all (f .mirrors) w (k .copies .mirrors) xs (statusOnly 0) (w .blamed) false (record { copies = rw (none-blamed 4 (f .mirrors)) (k .copies); flags = sym (k .copies .four); unknown = refl; failed = refl })
+assesses-report {g} {f} {w} xs k = assessed-all (f .mirrors) w (k .copies) xs (statusOnly 0) (w .blamed) false (record { copies = rw (none-blamed 5 (f .mirrors)) (k .copies); flags = sym (five (k .copies)); unknown = refl; failed = refl })
 
 after-report : {g : Bool} {f : File} {w : Row} (h : Assessment) (xs : List DeviceError) → FileIs g f w → Assesses (f .mirrors) h w xs (w .blamed) false → FileIs g (changedFile (h .change) f) (reported Current xs w)
 unfolding changedFile

@@ -22,10 +22,11 @@ use Rattle.places.proofs.Sets.{true-false, first-no, rest-no}
 use Rattle.mirroring.specs.Mirrors.{noMirror}
 use Rattle.mirroring.specs.Totals.{noTotals}
 use Rattle.mirroring.specs.declared.mirrors.Mirror.{Mirror}
+use Rattle.mirroring.proofs.Copies.{five}
 use Rattle.files.specs.File.{noFile}
 use Rattle.files.specs.declared.head.Edition.{Edition}
 use Rattle.files.specs.declared.head.Edition.the-variants.{Current, Old}
-use Rattle.recovery.specs.Calls.{Call, register, opening, reclaim, close, repaired, forget, endGrace, restart, layoutReturn, listing, replied, lend}
+use Rattle.recovery.specs.Calls.{Call, register, opening, reclaim, close, repaired, addProxy, removeProxy, forget, endGrace, restart, layoutReturn, listing, replied, lend}
 use Rattle.recovery.specs.declared.listing.Listing.the-variants.{Resilver}
 use Rattle.mirroring.specs.declared.source.Direction.the-variants.{Highest}
 use Rattle.recovery.specs.Record.{freshAs, endOf}
@@ -129,6 +130,8 @@ step-side o (opening n c) k h = side h
 step-side o (reclaim n c) k h = one-file o n (λ w. refused (intentRules c w)) (hasReclaimed c) (reclaim-kept c) h
 step-side o (close n c) k h = one-file o n (λ w. refused (closeRules true c w)) (closed c) (close-kept c) h
 step-side o (repaired n) k h = one-file o n (λ w. refused (repairedRules w)) mended repaired-kept h
+step-side o (addProxy n s) k h = side h
+step-side o (removeProxy n) k h = side h
 step-side o (forget n) k h = side h
 step-side o endGrace k h = absurd (k refl)
 step-side o restart k h = side (pairs-both restarted restart-kept h)
@@ -183,6 +186,7 @@ through-side (x ∷ xs) r l l′ m g h = through-side xs (step r x .after) (feed
 record AtLeast (w v : Row) : Type 0 where
   number : v .number ≡ w .number
   mirrors : v .mirrors ≡ w .mirrors
+  proxy : v .proxy ≡ w .proxy
   marked : w .marked ≡ true → v .marked ≡ true
   blamed : (i : ℕ) → has i (w .blamed) ≡ true → has i (v .blamed) ≡ true
 
@@ -194,7 +198,7 @@ lost-too w v h e = any-within (λ c. not (has c (w .reclaimed))) (λ c. not (has
     by false f q = refl
 
 ended-kept : (w v : Row) → Worse w v → AtLeast (ended w) (ended v)
-ended-kept w v h = record { number = h .number; mirrors = h .mirrors; marked = λ e. by (lost w) (lost v) (lost-too w v h) e; blamed = h .blamed }
+ended-kept w v h = record { number = h .number; mirrors = h .mirrors; proxy = h .proxy; marked = λ e. by (lost w) (lost v) (lost-too w v h) e; blamed = h .blamed }
   where
     by : (a b : Bool) → (a ≡ true → b ≡ true) → cond a true (w .marked) ≡ true → cond b true (v .marked) ≡ true
     by a true f e = refl
@@ -214,7 +218,7 @@ module _ (n : ℕ) where
 
   first-row : {ws vs : List Row} (d : Row) → Pairs AtLeast ws vs → AtLeast (firstOr (isRow n) d ws) (firstOr (isRow n) d vs)
   unfolding firstOr
-  first-row d Pairs.pairs-nil = record { number = refl; mirrors = refl; marked = λ e. e; blamed = λ i e. e }
+  first-row d Pairs.pairs-nil = record { number = refl; mirrors = refl; proxy = refl; marked = λ e. e; blamed = λ i e. e }
   first-row d (Pairs.pairs-cons {x = w} {y = v} {xs = ws} {ys = vs} h s) = by (isRow n w) (isRow n v) (ap (λ m. eqb m n) (h .number)) (first-row d s)
     where
       by : (a b : Bool) → b ≡ a → AtLeast (firstOr (isRow n) d ws) (firstOr (isRow n) d vs) → AtLeast (cond a w (firstOr (isRow n) d ws)) (cond b v (firstOr (isRow n) d vs))
@@ -302,9 +306,9 @@ unfolding any firstOr
 no-row p d [] e = refl
 no-row p d (w ∷ ws) e = rw (first-no (p w) (any p ws) e) (no-row p d ws (rest-no (p w) (any p ws) e))
 
--- i is one of the four places, or none is blamed there
+-- i is one of the five places, or none is blamed there
 module _ (r : Record) (l : Ledger) (n i : ℕ) where
-  blame-by : AtFile n r l → (b : Bool) → ltb i 4 ≡ b → isBlamed n i r ≡ cond b (has i (rowOf n l .blamed)) false
+  blame-by : AtFile n r l → (b : Bool) → ltb i 5 ≡ b → isBlamed n i r ≡ cond b (has i (rowOf n l .blamed)) false
   unfolding rowOf
   blame-by (missing a e) b k = rw (not-there r n a, no-row (isRow n) (newRow n []) (l .rows) e, nothing-in i) (by b)
     where
@@ -313,13 +317,13 @@ module _ (r : Record) (l : Ledger) (n i : ℕ) where
       by false = refl
   blame-by (found j w z) true k =
       let f = z .pair noFile in
-      rw (here n r l j w z, it-is n r l j w z, z .the (newRow n [])) (f .copies .blame i (omega (arith, ltb-true i 4 k, f .copies .four)))
+      rw (here n r l j w z, it-is n r l j w z, z .the (newRow n [])) (f .copies .blame i (ltb-true i 5 k))
   blame-by (found j w z) false k =
       let f = z .pair noFile in
-      rw (here n r l j w z, it-is n r l j w z) (ap (λ (m : Mirror). m .blamed) (List·getD-eq-default (getD (r .files) j noFile .mirrors) noMirror (omega (arith, ltb-false i 4 k, f .copies .four))))
+      rw (here n r l j w z, it-is n r l j w z) (ap (λ (m : Mirror). m .blamed) (List·getD-eq-default (getD (r .files) j noFile .mirrors) noMirror (omega (arith, ltb-false i 5 k, five (f .copies)))))
 
-blame-is : (ed : Edition) (calls : List Call) (n i : ℕ) → isBlamed n i (recordAfter (freshAs ed) calls) ≡ cond (ltb i 4) (has i (rowOf n (ledgerOf ed calls) .blamed)) false
-blame-is ed calls n i = blame-by (recordAfter (freshAs ed) calls) (ledgerOf ed calls) n i (at-file n (after-all calls (freshAs ed) (noRows ed) (fresh-matches ed))) (ltb i 4) refl
+blame-is : (ed : Edition) (calls : List Call) (n i : ℕ) → isBlamed n i (recordAfter (freshAs ed) calls) ≡ cond (ltb i 5) (has i (rowOf n (ledgerOf ed calls) .blamed)) false
+blame-is ed calls n i = blame-by (recordAfter (freshAs ed) calls) (ledgerOf ed calls) n i (at-file n (after-all calls (freshAs ed) (noRows ed) (fresh-matches ed))) (ltb i 5) refl
 
 pub restart-twice : RestartTwice
 restart-twice ed before during g =
@@ -328,8 +332,9 @@ restart-twice ed before during g =
     record {
       listed = λ n e. is-listed ed twice n ∙ passes-too n (ledgerOf ed once) (ledgerOf ed twice) (same-file ed before during g n) (sym (is-listed ed once n) ∙ e);
       blamed = λ n i e. same-file ed before during g n .row .blamed i e;
-      held = λ n i e. blame-is ed twice n i ∙ both-true (ltb i 4) (same-file ed before during g n .row .blamed i) (sym (blame-is ed once n i) ∙ e);
+      held = λ n i e. blame-is ed twice n i ∙ both-true (ltb i 5) (same-file ed before during g n .row .blamed i) (sym (blame-is ed once n i) ∙ e);
       mirrors = λ n. same-file ed before during g n .row .mirrors;
+      proxy = λ n. same-file ed before during g n .row .proxy;
     }
 
 -- ---- a restart and the end of grace at once

@@ -1,5 +1,5 @@
 -- The ledger's lists are the lists that the paper's sentences mean, and there is no other. In this order: what is chosen of rising rows; two rising lists
--- of the same numbers; the source; one list.
+-- of the same numbers; the source; rows of a list; the proxy's place; one list.
 use mathlib.Core.Path.{_≡_, refl, ap, ap₂, sym, _∙_}
 use mathlib.Core.List.{List, [], _∷_}
 use mathlib.Core.Bool.{Bool, true, false, cond}
@@ -224,7 +224,7 @@ same-sources : {d : Direction} {l : Ledger} {ns ss ts : List ℕ} → Sources d 
 same-sources sources-nil sources-nil = refl
 same-sources (sources-cons a s) (sources-cons b t) = ap₂ {C = List ℕ} (λ x y. x ∷ y) (one-source a b) (same-sources s t)
 
--- ---- one list: the row of a row's number is that row
+-- ---- rows of a list: the row of a row's number is that row
 abbrev Own : List Row → Row → Type 0
 Own us w = firstOr (isRow (w .number)) (newRow (w .number) []) us ≡ w
 
@@ -247,6 +247,26 @@ all-chosen {P} q (All.all-cons {x = w} {xs = ws} e k) = by (q w) (all-chosen q k
     by true s = All.all-cons e s
     by false s = s
 
+-- ---- the proxy's place is no source, where a row has at most four mirrors
+pub record FewMirrors (w : Row) : Type 0 where
+  pub few : length (w .mirrors) ≤ 4
+
+not-the-proxy : (d : Direction) (w : Row) → FewMirrors w → eqb (source d w) 4 ≡ false
+not-the-proxy d w h = by (source-is w d)
+  where
+    by : {s : ℕ} → IsSource d w s → eqb s 4 ≡ false
+    by {s} (foremost a f g) = ne-eqb s 4 (λ e. omega (arith, a, h .few, e))
+    by {s} (nowhere e g) = ne-eqb s 4 (λ k. omega (arith, e, k))
+
+none-the-proxy : (d : Direction) {ws : List Row} → All FewMirrors ws → has 4 (sources d ws) ≡ false
+unfolding has any
+none-the-proxy d All.all-nil = refl
+none-the-proxy d (All.all-cons {x = w} h t) = rw (not-the-proxy d w h) (none-the-proxy d t)
+
+pub never-the-proxy : (d : Direction) (q : Row → Bool) {ws : List Row} → All FewMirrors ws → has 4 (sources d (chosen q ws)) ≡ false
+never-the-proxy d q h = none-the-proxy d (all-chosen q h)
+
+-- ---- one list: each row has its source
 own-sources : (d : Direction) (l : Ledger) {ws : List Row} → All (Own (l .rows)) ws → Sources d l (numbers ws) (sources d ws)
 unfolding rowOf
 own-sources d l All.all-nil = sources-nil

@@ -1,25 +1,24 @@
--- The totals that a LAYOUTRETURN is answered with are the ledger's (Ticket 3). In this order: a file's mirrors by place; a file's report; the record's.
+-- The totals that a LAYOUTRETURN is answered with are the ledger's (Tickets 3 and 7). In this order: a file's report; the record's.
 use mathlib.Core.Path.{_≡_, refl, ap, ap₂, sym, _∙_}
-use mathlib.Core.List.{List, [], _∷_, map}
+use mathlib.Core.List.{List, [], _∷_, _++_, map}
 use mathlib.Core.Bool.{Bool, cond}
 use Prim.Native.Nat.{ℕ}
-use lib.ListN.{length, replicate}
+use lib.ListN.{replicate}
 use lib.Dec.{eqb}
 use Rattle.statuses.specs.Rules.{_⇒_, refused}
-use Rattle.reports.specs.Device.{Device}
 use Rattle.reports.specs.Statistics.{Statistic}
 use Rattle.reports.specs.Report.{DeviceError, Report, Whole, Malformed}
 use Rattle.places.specs.Lists.{any, has, fill}
 use Rattle.places.specs.Places.{first}
 use Rattle.intents.specs.Intents.{isIntent}
-use Rattle.places.proofs.Slots.{All, Slots, missing, found}
+use Rattle.places.proofs.Slots.{missing, found}
 use Rattle.mirroring.specs.Blame.{errorsAssessed, assessmentOf}
-use Rattle.mirroring.specs.Totals.{cutSums, sumOf, noSums, noTotals, totalsOf}
+use Rattle.mirroring.specs.Totals.{cutSums, sumOf, proxySum, noTotals, totalsOf}
 use Rattle.mirroring.specs.TotalsSteps.{sumAt, mirrorTotals}
 use Rattle.mirroring.specs.declared.mirrors.Mirror.{Mirror}
 use Rattle.mirroring.specs.declared.blame.Assessment.{Assessment}
 use Rattle.mirroring.specs.declared.totals.Totals.{Totals}
-use Rattle.mirroring.proofs.Copies.{MirrorIs, NoMirror}
+use Rattle.mirroring.proofs.Copies.{sums-of}
 use Rattle.files.specs.File.{noFile}
 use Rattle.layoutreturn.specs.LayoutReturn.{ofClient, ofIntent, reportOn}
 use Rattle.files.specs.declared.file.File.{File}
@@ -31,31 +30,17 @@ use Rattle.ledger.proofs.Reported.{Assesses, named, mirrors-only, asses
 use Rattle.ledger.proofs.OneFile.{AtIntent, at-intent}
 use Rattle.ledger.proofs.Calls.{AtFile, at-file, not-there, here, it-is}
 
--- ---- a file's mirrors by place
-module _ (g : Statistic → ℕ) (ys : List Statistic) where
-  no-sums : {ms : List Mirror} → All NoMirror ms → map (sumAt g ys) ms ≡ replicate (length ms) 0
-  no-sums All.all-nil = refl
-  no-sums (All.all-cons h t) = rw (h, no-sums t)
-
-  sum-of : (m : Mirror) (d : Device) → MirrorIs m d → sumAt g ys m ≡ sumOf g d ys
-  sum-of m d h = rw (h .present, h .high, h .low)
-
-  sums-of : {ms : List Mirror} {ds : List Device} → Slots MirrorIs NoMirror ms ds → map (sumAt g ys) ms ≡ fill (map (λ d. sumOf g d ys) ds) (replicate (length ms) 0)
-  unfolding fill
-  sums-of (Slots.rest h) = no-sums h
-  sums-of (Slots.item {x} {y} r s) = rw (sum-of x y r, sums-of s)
-
 -- ---- a file's report
 unknown-by : {ms : List Mirror} {h : Assessment} {w : Row} {xs : List DeviceError} {bs : List ℕ} {b : Bool} → Assesses ms h w xs bs b → h .change .unknown ≡ any (isStranger w) xs
 unknown-by (named p q) = q ∙ sym p
 unknown-by (mirrors-only p q) = q .unknown ∙ sym p
 
-mirror-totals : {g : Bool} {f : File} {w : Row} (xs : List DeviceError) (ys : List Statistic) → FileIs g f w → mirrorTotals (f .mirrors) (Whole xs ys) ≡ totalsOf ys (w .mirrors)
+mirror-totals : {g : Bool} {f : File} {w : Row} (xs : List DeviceError) (ys : List Statistic) → FileIs g f w → mirrorTotals (f .mirrors) (Whole xs ys) ≡ totalsOf ys (w .mirrors) (w .proxy)
 unfolding mirrorTotals totalsOf
 mirror-totals {g} {f} {w} xs ys k = ap₂ {C = Totals} (λ (r s : List ℕ). record { read = cutSums r; written = cutSums s }) (by-place (λ y. y .read)) (by-place (λ y. y .written))
   where
-    by-place : (p : Statistic → ℕ) → map (sumAt p ys) (f .mirrors) ≡ fill (map (λ d. sumOf p d ys) (w .mirrors)) noSums
-    by-place p = rw (k .copies .four) at (sums-of p ys (k .copies .mirrors))
+    by-place : (p : Statistic → ℕ) → map (sumAt p ys) (f .mirrors) ≡ fill (map (λ d. sumOf p d ys) (w .mirrors)) (replicate 4 0) ++ proxySum p (w .proxy) ys ∷ []
+    by-place p = sums-of p ys (k .copies .places)
 
 file-totals : {g : Bool} {f : File} {w : Row} (xs : List DeviceError) (ys : List Statistic) → FileIs g f w → assessmentOf (f .mirrors) (Whole xs ys) .totals ≡ rowTotals (Whole xs ys) w
 unfolding assessmentOf errorsAssessed

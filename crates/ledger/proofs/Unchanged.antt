@@ -7,6 +7,8 @@ use Prim.Native.Nat.{ℕ}
 use lib.ListN.{getD, length}
 use lib.Dec.{eqb}
 use borrow.Author.Tests.{eqb-true}
+use Rattle.statuses.specs.Names.{Bytes}
+use Rattle.reports.specs.Device.{halves}
 use Rattle.reports.specs.Report.{Report, Whole, Malformed, reportOf}
 use Rattle.wire.specs.Request.{bodyOf}
 use Rattle.places.specs.Lists.{any}
@@ -14,22 +16,22 @@ use Rattle.places.specs.Places.{first, isFound}
 use Rattle.places.specs.declared.Found.{Found}
 use Rattle.places.specs.declared.Found.the-variants.{At, Nothing}
 use Rattle.places.proofs.Sets.{true-false, first-nothing, first-no, rest-no}
-use Rattle.mirroring.specs.Mirrors.{enrolledOf}
+use Rattle.mirroring.specs.Mirrors.{isDevice, hasProxy, enrolledOf}
 use Rattle.mirroring.specs.Blame.{statusOnly, assessmentOf}
 use Rattle.mirroring.specs.declared.blame.Assessment.{Assessment}
 use Rattle.mirroring.specs.declared.totals.Totals.{Totals}
 use Rattle.mirroring.specs.declared.enrol.Enrolled.{Enrolled}
 use Rattle.intents.specs.Intents.{noIntent, isIntent, isFree, firstTaken, reclaimedIf}
 use Rattle.intents.specs.declared.Intent.{Intent}
-use Rattle.files.specs.File.{isFile, unreclaimedBar, fileAnswered, ofFile, takes, opens, openedFile, reclaims, reclaimedFile, leaves, closedFile, repairedFile, mendedFile, forgettable}
+use Rattle.files.specs.File.{isFile, unreclaimedBar, fileAnswered, ofFile, takes, opens, openedFile, reclaims, reclaimedFile, leaves, closedFile, repairedFile, mendedFile, proxyAddedFile, proxyRemovedFile, forgettable}
 use Rattle.layoutreturn.specs.LayoutReturn.{handedOnCode, decisionOf, ofClient, reportOn}
 use Rattle.layoutreturn.specs.declared.Decision.{Decision}
 use Rattle.layoutreturn.specs.declared.Decision.the-variants as decision
 use Rattle.files.specs.declared.head.Head.{Head}
 use Rattle.files.specs.declared.file.File.{File}
 use Rattle.files.specs.declared.file.FileAnswered.{FileAnswered}
-use Rattle.recovery.specs.Calls.{register, opening, reclaim, close, repaired, forget, endGrace, restart, layoutReturn, listing, replied, handedOn}
-use Rattle.recovery.specs.Record.{answered, fileAt, onPlace, openOf, reclaimOf, closeOf, repairedOf, isFull, registerWith, registerOf, forgets, forgetOf, endOf, restartOf}
+use Rattle.recovery.specs.Calls.{register, opening, reclaim, close, repaired, addProxy, removeProxy, forget, endGrace, restart, layoutReturn, listing, replied, handedOn}
+use Rattle.recovery.specs.Record.{answered, fileAt, onPlace, openOf, reclaimOf, closeOf, repairedOf, addProxyOf, removeProxyOf, isFull, registerWith, registerOf, forgets, forgetOf, endOf, restartOf}
 use Rattle.recovery.specs.LayoutReturn.{reportedOf, returnedBy, layoutreturnOf, replyAfter}
 use Rattle.recovery.specs.declared.record.Record.{Record}
 use Rattle.recovery.specs.declared.record.Answered.{Answered}
@@ -102,6 +104,15 @@ module _ (d : Head) (f : File) where
   unfolding repairedFile
   repaired-kept n = of-file n (either (not (f .marked)) (refuses 22) (either (firstTaken (f .intents)) (refuses 10008) (accepts (mendedFile f))))
 
+  add-proxy-kept : (n : ℕ) (s : Bytes) → FileKept d f (proxyAddedFile n d s f)
+  unfolding proxyAddedFile
+  add-proxy-kept n s = either (d .grace) (refuses 10013) (of-file n
+      (either (not (eqb (length s) 16)) (refuses 22) (either (any (isDevice (halves s)) (f .mirrors)) (refuses 22) (either (hasProxy (f .mirrors)) (refuses 17) (accepts _)))))
+
+  remove-proxy-kept : (n : ℕ) → FileKept d f (proxyRemovedFile n d f)
+  unfolding proxyRemovedFile
+  remove-proxy-kept n = either (d .grace) (refuses 10013) (of-file n (either (not (hasProxy (f .mirrors))) (refuses 2) (accepts _)))
+
   -- ---- LAYOUTRETURN
   -- a refusal changes nothing
   refuses-report : (k : ℕ) → FileKept d f (assessedFile d f (statusOnly k))
@@ -152,12 +163,14 @@ return-by n c s d r (decision.ReadBody len) h =
     (handed-on (q (fileAt n r) .status) _ d (eqb (q (fileAt n r) .status) handedOnCode) refl h)
 
 refused-unchanged : RefusedUnchanged
-unfolding step registerOf openOf reclaimOf closeOf repairedOf forgetOf endOf restartOf layoutreturnOf
+unfolding step registerOf openOf reclaimOf closeOf repairedOf addProxyOf removeProxyOf forgetOf endOf restartOf layoutreturnOf
 refused-unchanged r (register n s) h = as-before r _ (either (r .head .grace) (refuses-all r 10013) (registering n (enrolledOf s) r)) h
 refused-unchanged r (opening n c) h = as-before r _ (on-place n (openedFile n (r .head) c) r (open-kept (r .head) (fileAt n r) n c)) h
 refused-unchanged r (reclaim n c) h = as-before r _ (on-place n (reclaimedFile n (r .head) c) r (reclaim-kept (r .head) (fileAt n r) n c)) h
 refused-unchanged r (close n c) h = as-before r _ (on-place n (closedFile n (r .head) c) r (close-kept (r .head) (fileAt n r) n c)) h
 refused-unchanged r (repaired n) h = as-before r _ (on-place n (repairedFile n (r .head)) r (repaired-kept (r .head) (fileAt n r) n)) h
+refused-unchanged r (addProxy n s) h = as-before r _ (on-place n (proxyAddedFile n (r .head) s) r (add-proxy-kept (r .head) (fileAt n r) n s)) h
+refused-unchanged r (removeProxy n) h = as-before r _ (on-place n (proxyRemovedFile n (r .head)) r (remove-proxy-kept (r .head) (fileAt n r) n)) h
 refused-unchanged r (forget n) h = as-before r _ (forgetting (forgettable n (r .head) (fileAt n r)) n r) h
 refused-unchanged r endGrace h = as-before r _ (either (r .head .grace) (accepts-all r _) (refuses-all r 10033)) h
 refused-unchanged r restart h = true-false h

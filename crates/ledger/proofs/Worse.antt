@@ -1,6 +1,6 @@
 -- Two rows of one file, the second of a ledger with one more restart inside a grace period: the relation `Worse`, and that each call in grace keeps it. In this
 -- order: the relation; reclaim; close; repaired; a report; restart.
-use mathlib.Core.Path.{_≡_, refl, ap, sym, _∙_}
+use mathlib.Core.Path.{_≡_, refl, ap, ap₂, sym, _∙_}
 use mathlib.Core.List.{List, [], _∷_}
 use mathlib.Core.Bool.{Bool, true, false, not, cond}
 use Prim.Native.Nat.{ℕ}
@@ -10,9 +10,9 @@ use Rattle.statuses.specs.Rules.{refused}
 use Rattle.reports.specs.Report.{DeviceError}
 use Rattle.places.specs.Lists.{any, has, with, none, discard}
 use Rattle.places.proofs.Sets.{true-false, has-with, any-same}
-use Rattle.mirroring.specs.Devices.{deviceOf, isMirror, placeOf}
+use Rattle.mirroring.specs.Devices.{deviceOf, isCopy, copyPlace}
 use Rattle.files.specs.declared.head.Edition.the-variants.{Current}
-use Rattle.ledger.specs.Ledger.{Row, intentRules, closeRules, repairedRules, hasReclaimed, closed, mended, restarted, isFault, isStranger, blame, reported, withMark, withBlame, withIntents}
+use Rattle.ledger.specs.Ledger.{Row, placeIn, intentRules, closeRules, repairedRules, hasReclaimed, closed, mended, restarted, isFault, isStranger, blame, reported, withMark, withBlame, withIntents}
 use Rattle.ledger.proofs.Fed.{Sound, as-was}
 use Rattle.ledger.proofs.Within.{Within, within-self, or-true, has-within, none-within, within-less, within-discard, within-but}
 
@@ -21,6 +21,7 @@ use Rattle.ledger.proofs.Within.{Within, within-self, or-true, has-with
 pub record Worse (w v : Row) : Type 0 where
   pub number : v .number ≡ w .number
   pub mirrors : v .mirrors ≡ w .mirrors
+  pub proxy : v .proxy ≡ w .proxy
   pub intents : Within (w .intents) (v .intents)
   pub reclaims : (c : ℕ) → has c (w .intents) ≡ true → has c (v .reclaimed) ≡ true → has c (w .reclaimed) ≡ true
   pub marked : w .marked ≡ true → v .marked ≡ true
@@ -36,6 +37,7 @@ pub after-restart : (w : Row) → Sound w → Worse w (restarted w)
 after-restart w h = record {
   number = refl;
   mirrors = refl;
+  proxy = refl;
   intents = within-self (w .intents);
   reclaims = λ c e k. true-false (sym k ∙ nothing-in c);
   marked = λ e. e;
@@ -66,6 +68,7 @@ reclaim-kept c w v h = by (has c (w .intents)) (has c (v .intents)) refl refl
     by true true e k = record {
       number = h .number;
       mirrors = h .mirrors;
+      proxy = h .proxy;
       intents = h .intents;
       reclaims = λ d p q. other d (eqb d c) true refl e p (sym (has-with c d (v .reclaimed)) ∙ q);
       marked = h .marked;
@@ -76,6 +79,7 @@ reclaim-kept c w v h = by (has c (w .intents)) (has c (v .intents)) refl refl
     by false true e k = record {
       number = h .number;
       mirrors = h .mirrors;
+      proxy = h .proxy;
       intents = h .intents;
       reclaims = λ d p q. other d (eqb d c) false refl e p (sym (has-with c d (v .reclaimed)) ∙ q);
       marked = h .marked;
@@ -93,7 +97,7 @@ unfolding has
 close-kept c w v h = by (has c (w .intents)) (has c (w .reclaimed)) (has c (v .intents)) (has c (v .reclaimed)) refl refl refl refl
   where
     fewer : {xs ys : List ℕ} → Within xs ys → ((d : ℕ) → has d xs ≡ true → has d (w .intents) ≡ true) → Worse (withIntents xs w) (withIntents ys v)
-    fewer s f = record { number = h .number; mirrors = h .mirrors; intents = s; reclaims = λ d p q. h .reclaims d (f d p) q; marked = h .marked; blamed = h .blamed; sound = as-was refl refl (h .sound) }
+    fewer s f = record { number = h .number; mirrors = h .mirrors; proxy = h .proxy; intents = s; reclaims = λ d p q. h .reclaims d (f d p) q; marked = h .marked; blamed = h .blamed; sound = as-was refl refl (h .sound) }
 
     less : (d : ℕ) → has d (discard (λ x. eqb x c) (w .intents)) ≡ true → has d (w .intents) ≡ true
     less d e = has-within d (within-less (λ x. eqb x c) (within-self (w .intents))) e
@@ -119,11 +123,11 @@ repaired-kept w v h = by (w .marked) (none (w .intents)) (v .marked) (none (v .i
   where
     by : (a b a′ b′ : Bool) → w .marked ≡ a → none (w .intents) ≡ b → v .marked ≡ a′ → none (v .intents) ≡ b′
         → Worse (cond (eqb (mending a b) 0) (mended w) w) (cond (eqb (mending a′ b′) 0) (mended v) v)
-    by true true true true p q r s = record { number = h .number; mirrors = h .mirrors; intents = h .intents; reclaims = h .reclaims; marked = λ e. e; blamed = λ i e. e; sound = record { no-blame = λ e. refl } }
+    by true true true true p q r s = record { number = h .number; mirrors = h .mirrors; proxy = h .proxy; intents = h .intents; reclaims = h .reclaims; marked = λ e. e; blamed = λ i e. e; sound = record { no-blame = λ e. refl } }
     by true true true false p q r s = clean v h
       where
         clean : (u : Row) → Worse w u → Worse (mended w) u
-        clean u k = record { number = k .number; mirrors = k .mirrors; intents = k .intents; reclaims = k .reclaims; marked = λ e. true-false (sym e); blamed = λ i e. true-false (sym e ∙ nothing-in i); sound = record { no-blame = λ e. refl } }
+        clean u k = record { number = k .number; mirrors = k .mirrors; proxy = k .proxy; intents = k .intents; reclaims = k .reclaims; marked = λ e. true-false (sym e); blamed = λ i e. true-false (sym e ∙ nothing-in i); sound = record { no-blame = λ e. refl } }
     by true true false b′ p q r s = true-false (sym (h .marked p) ∙ r)
     by true false true true p q r s = true-false (sym (none-within (h .intents) s) ∙ q)
     by true false true false p q r s = h
@@ -131,6 +135,7 @@ repaired-kept w v h = by (w .marked) (none (w .intents)) (v .marked) (none (v .i
     by false b true true p q r s = record {
       number = h .number;
       mirrors = h .mirrors;
+      proxy = h .proxy;
       intents = h .intents;
       reclaims = h .reclaims;
       marked = λ e. true-false (sym e ∙ p);
@@ -150,18 +155,18 @@ one-blamed i j k q true xs ys f e = has-with k i ys ∙ rw q (by (eqb i j) (sym 
 one-blamed i j k q false xs ys f e = f i e
 
 -- the same report blames more where more was blamed, and takes no blame away
-blame-more : (w v : Row) → v .mirrors ≡ w .mirrors → (zs : List DeviceError) (xs ys : List ℕ) → ((p : ℕ) → has p xs ≡ true → has p ys ≡ true) → (i : ℕ) → has i (blame w zs xs) ≡ true → has i (blame v zs ys) ≡ true
+blame-more : (w v : Row) → v .mirrors ≡ w .mirrors → v .proxy ≡ w .proxy → (zs : List DeviceError) (xs ys : List ℕ) → ((p : ℕ) → has p xs ≡ true → has p ys ≡ true) → (i : ℕ) → has i (blame w zs xs) ≡ true → has i (blame v zs ys) ≡ true
 unfolding blame
-blame-more w v m [] xs ys f i e = f i e
-blame-more w v m (z ∷ zs) xs ys f i e = blame-more w v m zs _ _ (λ p h. one-blamed p _ _ (ap (placeOf (deviceOf z)) m) (isFault z) xs ys f h) i e
+blame-more w v m q [] xs ys f i e = f i e
+blame-more w v m q (z ∷ zs) xs ys f i e = blame-more w v m q zs _ _ (λ p h. one-blamed p _ _ (ap₂ (copyPlace (deviceOf z)) m q) (isFault z) xs ys f h) i e
 
 blame-stays : (v : Row) (zs : List DeviceError) (ys : List ℕ) (i : ℕ) → has i ys ≡ true → has i (blame v zs ys) ≡ true
 unfolding blame
 blame-stays v [] ys i e = e
 blame-stays v (z ∷ zs) ys i e = blame-stays v zs _ i (by (isFault z))
   where
-    by : (b : Bool) → has i (cond b (with (placeOf (deviceOf z) (v .mirrors)) ys) ys) ≡ true
-    by true = has-with _ i ys ∙ or-true (eqb i (placeOf (deviceOf z) (v .mirrors))) (has i ys) e
+    by : (b : Bool) → has i (cond b (with (placeIn v (deviceOf z)) ys) ys) ≡ true
+    by true = has-with _ i ys ∙ or-true (eqb i (placeIn v (deviceOf z))) (has i ys) e
     by false = e
 
 module _ {w v : Row} (h : Worse w v) (xs : List DeviceError) where
@@ -170,6 +175,7 @@ module _ {w v : Row} (h : Worse w v) (xs : List DeviceError) where
   both-reported true true b e = record {
     number = h .number;
     mirrors = h .mirrors;
+    proxy = h .proxy;
     intents = h .intents;
     reclaims = h .reclaims;
     marked = λ q. q;
@@ -179,10 +185,11 @@ module _ {w v : Row} (h : Worse w v) (xs : List DeviceError) where
   both-reported false false true e = record {
     number = h .number;
     mirrors = h .mirrors;
+    proxy = h .proxy;
     intents = h .intents;
     reclaims = h .reclaims;
     marked = λ q. q;
-    blamed = λ i q. blame-more w v (h .mirrors) xs (w .blamed) (v .blamed) (h .blamed) i q;
+    blamed = λ i q. blame-more w v (h .mirrors) (h .proxy) xs (w .blamed) (v .blamed) (h .blamed) i q;
     sound = record { no-blame = λ q. true-false q };
   }
   both-reported false false false e = h
@@ -190,10 +197,11 @@ module _ {w v : Row} (h : Worse w v) (xs : List DeviceError) where
   both-reported false true b e = true-false e
 
   one-reported : (a b : Bool) → Worse w (cond a (withMark true v) (cond b (withMark true (withBlame (blame v xs (v .blamed)) v)) v))
-  one-reported true b = record { number = h .number; mirrors = h .mirrors; intents = h .intents; reclaims = h .reclaims; marked = λ q. refl; blamed = h .blamed; sound = h .sound }
+  one-reported true b = record { number = h .number; mirrors = h .mirrors; proxy = h .proxy; intents = h .intents; reclaims = h .reclaims; marked = λ q. refl; blamed = h .blamed; sound = h .sound }
   one-reported false true = record {
     number = h .number;
     mirrors = h .mirrors;
+    proxy = h .proxy;
     intents = h .intents;
     reclaims = h .reclaims;
     marked = λ q. refl;
@@ -207,7 +215,7 @@ report-kept c xs w v h = by (has c (w .intents)) (has c (v .intents)) refl refl
   where
     by : (a b : Bool) → has c (w .intents) ≡ a → has c (v .intents) ≡ b
         → Worse (cond (eqb (cond (not a) 10034 0) 0) (reported Current xs w) w) (cond (eqb (cond (not b) 10034 0) 0) (reported Current xs v) v)
-    by true true e k = both-reported h xs (any (isStranger w) xs) (any (isStranger v) xs) (any isFault xs) (any-same (isStranger v) (isStranger w) (λ x. ap (λ ms. not (isMirror (deviceOf x) ms)) (h .mirrors)) xs)
+    by true true e k = both-reported h xs (any (isStranger w) xs) (any (isStranger v) xs) (any isFault xs) (any-same (isStranger v) (isStranger w) (λ x. ap₂ (λ ms p. not (isCopy (deviceOf x) ms p)) (h .mirrors) (h .proxy)) xs)
     by true false e k = true-false (sym (has-within c (h .intents) e) ∙ k)
     by false true e k = one-reported h xs (any (isStranger v) xs) (any isFault xs)
     by false false e k = h
@@ -216,6 +224,7 @@ pub restart-kept : (w v : Row) → Worse w v → Worse (restarted w) (restarted 
 restart-kept w v h = record {
   number = h .number;
   mirrors = h .mirrors;
+  proxy = h .proxy;
   intents = h .intents;
   reclaims = λ c e k. k;
   marked = h .marked;

@@ -3,9 +3,9 @@
 use mathlib.Core.List.{List, [], _∷_}
 use mathlib.Core.Bool.{cond}
 use Rattle.statuses.specs.Names.{Bytes}
-use Rattle.recovery.specs.Calls.{Call, register, opening, reclaim, close, repaired, forget, endGrace, restart, layoutReturn, listing, Answer, said, replied, handedOn}
+use Rattle.recovery.specs.Calls.{Call, register, opening, reclaim, close, repaired, addProxy, removeProxy, forget, endGrace, restart, layoutReturn, listing, Answer, said, replied, handedOn}
 use Rattle.ledger.specs.Ledger.{Ledger, judge, feed}
-use Rattle.recovery.specs.Record.{registerOf, openOf, reclaimOf, closeOf, repairedOf, forgetOf, endOf, restartOf, listingOf}
+use Rattle.recovery.specs.Record.{registerOf, openOf, reclaimOf, closeOf, repairedOf, addProxyOf, removeProxyOf, forgetOf, endOf, restartOf, listingOf}
 use Rattle.recovery.specs.LayoutReturn.{layoutreturnOf, replyAfter}
 use Rattle.recovery.specs.declared.record.Record.{Record}
 use Rattle.recovery.specs.declared.record.Answered.{Answered}
@@ -29,6 +29,8 @@ step r (opening n c) = stepOf (openOf n c r)
 step r (reclaim n c) = stepOf (reclaimOf n c r)
 step r (close n c) = stepOf (closeOf n c r)
 step r (repaired n) = stepOf (repairedOf n r)
+step r (addProxy n s) = stepOf (addProxyOf n s r)
+step r (removeProxy n) = stepOf (removeProxyOf n r)
 step r (forget n) = stepOf (forgetOf n r)
 step r endGrace = stepOf (endOf r)
 step r restart = stepOf (restartOf r)

@@ -8,7 +8,7 @@ use lib.ListN.{length}
 use lib.Dec.{eqb, leb, ltb}
 use Rattle.statuses.specs.Names.{Bytes, Status, Client, FileNumber}
 use Rattle.statuses.specs.Rules.{Rule, _⇒_, firstOf, refused}
-use Rattle.reports.specs.Device.{Device}
+use Rattle.reports.specs.Device.{Device, halves}
 use Rattle.reports.specs.Report.{DeviceError, Report, Whole, Malformed, reportOf}
 use Rattle.wire.specs.Request.{requestOf, bodyOf}
 use Rattle.wire.specs.Reply.{replyIn}
@@ -16,22 +16,23 @@ use Rattle.wire.specs.declared.request.Kind.the-variants as kind
 use Rattle.wire.specs.declared.request.Request.{Request}
 use Rattle.wire.specs.declared.request.Request.the-variants as request
 use Rattle.places.specs.Lists.{any, chosen, has, with, none, amend, discard, firstOr}
-use Rattle.mirroring.specs.Devices.{deviceOf, mirrorsIn, isMirror, placeOf, badMirrors}
+use Rattle.mirroring.specs.Devices.{deviceOf, mirrorsIn, Proxy, noProxy, proxyAt, isThere, isCopy, copyPlace, badMirrors}
 use Rattle.mirroring.specs.Totals.{totalsOf, noTotals}
 use Rattle.mirroring.specs.Direction.{firstBy}
 use Rattle.mirroring.specs.declared.totals.Totals.{Totals}
 use Rattle.mirroring.specs.declared.source.Direction.{Direction}
 use Rattle.files.specs.Head.{isOld}
 use Rattle.files.specs.declared.head.Edition.{Edition}
-use Rattle.recovery.specs.Calls.{Call, register, opening, reclaim, close, repaired, forget, endGrace, restart, layoutReturn, listing, Answer, said, replied, handedOn, listed, lend}
+use Rattle.recovery.specs.Calls.{Call, register, opening, reclaim, close, repaired, addProxy, removeProxy, forget, endGrace, restart, layoutReturn, listing, Answer, said, replied, handedOn, listed, lend}
 use Rattle.recovery.specs.declared.listing.Listing.{Listing}
 use Rattle.recovery.specs.declared.listing.Listing.the-variants.{Resilver, Offered}
 
 -- ---- rows
--- a file's number, mirrors by place from 0, clients with an intent, clients that reclaimed, mark and blamed places
+-- a file's number, mirrors by place from 0, the proxy beside them at place 4 (Rules 4.8), clients with an intent, clients that reclaimed, mark and blamed places
 pub record Row : Type 0 where
   pub number : FileNumber
   pub mirrors : List Device
+  pub proxy : Proxy
   pub intents : List Client
   pub reclaimed : List Client
   pub marked : Bool
@@ -39,19 +40,22 @@ pub record Row : Type 0 where
 
 -- a row with number and mirrors only
 abbrev pub newRow : FileNumber → List Device → Row
-newRow n ds = record { number = n; mirrors = ds; intents = []; reclaimed = []; marked = false; blamed = [] }
+newRow n ds = record { number = n; mirrors = ds; proxy = noProxy; intents = []; reclaimed = []; marked = false; blamed = [] }
+
+abbrev pub withProxy : Proxy → Row → Row
+withProxy p w = record { number = w .number; mirrors = w .mirrors; proxy = p; intents = w .intents; reclaimed = w .reclaimed; marked = w .marked; blamed = w .blamed }
 
 abbrev pub withIntents : List Client → Row → Row
-withIntents cs w = record { number = w .number; mirrors = w .mirrors; intents = cs; reclaimed = w .reclaimed; marked = w .marked; blamed = w .blamed }
+withIntents cs w = record { number = w .number; mirrors = w .mirrors; proxy = w .proxy; intents = cs; reclaimed = w .reclaimed; marked = w .marked; blamed = w .blamed }
 
 abbrev pub withReclaimed : List Client → Row → Row
-withReclaimed cs w = record { number = w .number; mirrors = w .mirrors; intents = w .intents; reclaimed = cs; marked = w .marked; blamed = w .blamed }
+withReclaimed cs w = record { number = w .number; mirrors = w .mirrors; proxy = w .proxy; intents = w .intents; reclaimed = cs; marked = w .marked; blamed = w .blamed }
 
 abbrev pub withMark : Bool → Row → Row
-withMark b w = record { number = w .number; mirrors = w .mirrors; intents = w .intents; reclaimed = w .reclaimed; marked = b; blamed = w .blamed }
+withMark b w = record { number = w .number; mirrors = w .mirrors; proxy = w .proxy; intents = w .intents; reclaimed = w .reclaimed; marked = b; blamed = w .blamed }
 
 abbrev pub withBlame : List ℕ → Row → Row
-withBlame bs w = record { number = w .number; mirrors = w .mirrors; intents = w .intents; reclaimed = w .reclaimed; marked = w .marked; blamed = bs }
+withBlame bs w = record { number = w .number; mirrors = w .mirrors; proxy = w .proxy; intents = w .intents; reclaimed = w .reclaimed; marked = w .marked; blamed = bs }
 
 -- the record's edition (Rules 4.3), whether in grace, and the rows, which stand by rising number
 pub record Ledger : Type 0 where
@@ -80,15 +84,19 @@ unfoldable pub rowOf : FileNumber → Ledger → Row
 rowOf n l = firstOr (isRow n) (newRow n []) (l .rows)
 
 -- ---- what a row says
--- whether a device is one of the mirrors, and at which place
+-- whether a device is one of the mirrors or the proxy, and at which place
 abbrev pub names : Row → Device → Bool
-names w d = isMirror d (w .mirrors)
+names w d = isCopy d (w .mirrors) (w .proxy)
 
 abbrev pub placeIn : Row → Device → ℕ
-placeIn w d = placeOf d (w .mirrors)
+placeIn w d = copyPlace d (w .mirrors) (w .proxy)
 
 abbrev pub isStranger : Row → DeviceError → Bool
 isStranger w x = not (names w (deviceOf x))
+
+-- whether a proxy is there
+abbrev pub isProxied : Row → Bool
+isProxied w = isThere (w .proxy)
 
 -- whether a client has an intent, whether anybody has, and whether a client has reclaimed
 abbrev pub holds : Client → Row → Bool
@@ -109,7 +117,7 @@ unfoldable pub unblamedFrom : ℕ → List Device → List ℕ → List ℕ
 unblamedFrom k [] bs = []
 unblamedFrom k (d ∷ ds) bs = cond (has k bs) (unblamedFrom (suc k) ds bs) (k ∷ unblamedFrom (suc k) ds bs)
 
--- the first of them by the direction that is asked for, or 255 (02, Ticket 11)
+-- the first of them by the direction that is asked for, or 255 (02, Ticket 11); the proxy is none of the mirrors, so it is never the source (Rules 5.7)
 abbrev pub source : Direction → Row → ℕ
 source d w = firstBy d (unblamedFrom 0 (w .mirrors) (w .blamed))
 
@@ -126,6 +134,13 @@ closeRules g c w = not (holds c w) ⇒ 10025 ∷ cond g (not (reclaimedBy c w)) 
 
 abbrev pub repairedRules : Row → List (Rule Status)
 repairedRules w = not (w .marked) ⇒ 22 ∷ isOpen w ⇒ 10008 ∷ []
+
+-- a proxy is added, s being its device, or removed (Rules 4.9, 4.10)
+abbrev pub addProxyRules : Bytes → Row → List (Rule Status)
+addProxyRules s w = not (eqb (length s) 16) ⇒ 22 ∷ names w (halves s) ⇒ 22 ∷ isProxied w ⇒ 17 ∷ []
+
+abbrev pub removeProxyRules : Row → List (Rule Status)
+removeProxyRules w = not (isProxied w) ⇒ 2 ∷ []
 
 abbrev pub forgetRules : Row → List (Rule Status)
 forgetRules w = w .marked ⇒ 10008 ∷ isOpen w ⇒ 10008 ∷ []
@@ -149,10 +164,10 @@ abbrev pub listOf : Direction → List Row → List FileNumber → List ℕ → 
 listOf d ws a b = lend (numbers ws) (sources d ws) a b
 
 -- ---- LAYOUTRETURN
--- the totals of a report, by mirror (Rules 3.11); none if a named device is no mirror
+-- the totals of a report, by mirror and for the proxy (Rules 3.11); none if a named device is neither
 abbrev pub rowTotals : Report → Row → Totals
 rowTotals Malformed w = noTotals
-rowTotals (Whole xs ys) w = cond (any (isStranger w) xs) noTotals (totalsOf ys (w .mirrors))
+rowTotals (Whole xs ys) w = cond (any (isStranger w) xs) noTotals (totalsOf ys (w .mirrors) (w .proxy))
 
 -- an answer with a reply; only with status 0 does it have totals
 abbrev pub refusal : Status → Bytes → Answer
@@ -190,6 +205,8 @@ judge l (opening n c) = said (refused (l .grace ⇒ 10013 ∷ not (registered n 
 judge l (reclaim n c) = said (refused (not (l .grace) ⇒ 10033 ∷ not (registered n l) ⇒ 70 ∷ intentRules c (rowOf n l)))
 judge l (close n c) = said (refused (not (registered n l) ⇒ 70 ∷ closeRules (l .grace) c (rowOf n l)))
 judge l (repaired n) = said (refused (not (registered n l) ⇒ 70 ∷ repairedRules (rowOf n l)))
+judge l (addProxy n s) = said (refused (l .grace ⇒ 10013 ∷ not (registered n l) ⇒ 70 ∷ addProxyRules s (rowOf n l)))
+judge l (removeProxy n) = said (refused (l .grace ⇒ 10013 ∷ not (registered n l) ⇒ 70 ∷ removeProxyRules (rowOf n l)))
 judge l (forget n) = said (refused (l .grace ⇒ 10013 ∷ not (registered n l) ⇒ 70 ∷ forgetRules (rowOf n l)))
 judge l endGrace = said (refused (not (l .grace) ⇒ 10033 ∷ []))
 judge l restart = said 0
@@ -209,6 +226,13 @@ closed c w = withIntents (discard (λ x. eqb x c) (w .intents)) w
 abbrev pub mended : Row → Row
 mended w = withMark false (withBlame [] w)
 
+-- the proxy is added; it goes, and its blame with it (Rules 4.9, 4.10)
+abbrev pub proxyAdded : Bytes → Row → Row
+proxyAdded s w = withProxy (proxyAt (halves s)) w
+
+abbrev pub proxyRemoved : Row → Row
+proxyRemoved w = withProxy noProxy (withBlame (chosen (λ i. not (eqb i 4)) (w .blamed)) w)
+
 abbrev pub restarted : Row → Row
 restarted w = withReclaimed [] w
 
@@ -224,7 +248,7 @@ unfoldable pub blame : Row → List DeviceError → List ℕ → List ℕ
 blame w [] bs = bs
 blame w (x ∷ xs) bs = blame w xs (cond (isFault x) (with (placeIn w (deviceOf x)) bs) bs)
 
--- an old record takes no report; else, if a named device is no mirror, the file is marked and nobody blamed; else each fault is blamed, and one such marks
+-- an old record takes no report; else, if a named device is neither a mirror nor the proxy, the file is marked and nobody blamed; else each fault is blamed, and one such marks
 abbrev pub reported : Edition → List DeviceError → Row → Row
 reported e xs w =
     cond (isOld e) w
@@ -251,6 +275,8 @@ apply l (opening n c) = onRow l n (opened c)
 apply l (reclaim n c) = onRow l n (hasReclaimed c)
 apply l (close n c) = onRow l n (closed c)
 apply l (repaired n) = onRow l n mended
+apply l (addProxy n s) = onRow l n (proxyAdded s)
+apply l (removeProxy n) = onRow l n proxyRemoved
 apply l (forget n) = withRows (discard (isRow n) (l .rows)) l
 apply l endGrace = withGrace false (withRows (map ended (l .rows)) l)
 apply l restart = withGrace true (withRows (map restarted (l .rows)) l)

@@ -16,7 +16,7 @@ abbrev pub Nearer : Direction → ℕ → ℕ → Type 0
 Nearer Lowest i s = i < s
 Nearer Highest i s = s < i
 
--- s is the source of a row: the first mirror place not blamed, by the direction, or 255 if there is none
+-- s is the source of a row: the first mirror place not blamed, by the direction, or 255 if there is none; an ordinary mirror is meant, and never the proxy
 pub data IsSource (d : Direction) (w : Row) (s : ℕ) : Type 0 where
   foremost : s < length (w .mirrors) → has s (w .blamed) ≡ false → ((i : ℕ) → i < length (w .mirrors) → Nearer d i s → has i (w .blamed) ≡ true) → IsSource d w s
   nowhere : s ≡ 255 → ((i : ℕ) → i < length (w .mirrors) → has i (w .blamed) ≡ true) → IsSource d w s

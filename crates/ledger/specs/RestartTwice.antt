@@ -44,12 +44,13 @@ abbrev pub isBlamed : FileNumber → ℕ → Record → Bool
 isBlamed n place r = cond (isFile n (fileAt n r)) (getD (fileAt n r .mirrors) place noMirror .blamed) false
 
 -- what is listed and who is blamed after the calls `once` is so after the calls `twice` too, by the ledger's rows and by what the
--- record holds; a file's mirrors stand at the same places
+-- record holds; a file's mirrors stand at the same places, and so does its proxy
 pub record StillThere (e : Edition) (once twice : List Call) : Type 0 where
   pub listed : (n : FileNumber) → has n (resilverFiles e once) ≡ true → has n (resilverFiles e twice) ≡ true
   pub blamed : (n : FileNumber) (place : ℕ) → has place (rowAfter e n once .blamed) ≡ true → has place (rowAfter e n twice .blamed) ≡ true
   pub held : (n : FileNumber) (place : ℕ) → isBlamed n place (recordAfter (freshAs e) once) ≡ true → isBlamed n place (recordAfter (freshAs e) twice) ≡ true
   pub mirrors : (n : FileNumber) → rowAfter e n twice .mirrors ≡ rowAfter e n once .mirrors
+  pub proxy : (n : FileNumber) → rowAfter e n twice .proxy ≡ rowAfter e n once .proxy
 
 -- any history of a record of either edition, with one more restart anywhere inside a grace period: it is in grace after `before`, and stays so through `during`, up to the end
 abbrev pub RestartTwice : Type 0
