@@ -7,7 +7,7 @@ use lib.Dec.{eqb}
 use Rattle.places.specs.Lists.{fill}
 use Rattle.masks.specs.Mask.{setOf}
 
--- each place of a lent slice d has its mirror's total; those after the mirrors' places have 0, however long the slice is
+-- each place of a lent slice d has its mirror's total, and place 4 the proxy's; those after have 0, however long the slice is
 unfoldable pub columnOf : List ℕ → List ℕ → List ℕ
 columnOf ns d = fill ns (replicate (length d) 0)
 

@@ -16,7 +16,7 @@ use recovery::record::Record;
 ghost use mathlib.Core.Path.{_≡_};
 ghost use mathlib.Core.Bool.{not};
 ghost use Rattle.recovery.specs.Calls.{listed};
-ghost use Rattle.recovery.specs.Record.{freshAs, fresh, registerOf, openOf, reclaimOf, closeOf, repairedOf, forgetOf, endOf, restartOf};
+ghost use Rattle.recovery.specs.Record.{freshAs, fresh, registerOf, openOf, reclaimOf, closeOf, repairedOf, addProxyOf, removeProxyOf, forgetOf, endOf, restartOf};
 ghost use Rattle.recovery.specs.LayoutReturn.{layoutreturnOf, replyAfter};
 ghost use Rattle.recovery.specs.declared.listing.Listing.the-variants.{Resilver, Offered};
 ghost use Rattle.layoutreturn.specs.LayoutReturn.{decisionOf, outcomeBy, replyBy};
@@ -368,6 +368,29 @@ pub extern "C" fn sc_record_repaired(r: &mut Record, file: u64) -> u32
     s.status
 }
 
+// A proxy beside the mirrors (02, Ticket 7).
+#[no_mangle]
+pub extern "C" fn sc_record_add_proxy(r: &mut Record, file: u64, device: &[u8]) -> u32
+    ensures { λ s. ⌜ (s ≡ addProxyOf file (now (device .entry)) (now (r .entry)) .status) × (now (r .exit) ≡ addProxyOf file (now (device .entry)) (now (r .entry)) .after) ⌝ }
+{
+    let i = position(r, file);
+    let s = File::add_proxy(r.files[i], file, r.head, device);
+    r.files[i] = s.file;
+    r.head = s.head;
+    s.status
+}
+
+#[no_mangle]
+pub extern "C" fn sc_record_remove_proxy(r: &mut Record, file: u64) -> u32
+    ensures { λ s. ⌜ (s ≡ removeProxyOf file (now (r .entry)) .status) × (now (r .exit) ≡ removeProxyOf file (now (r .entry)) .after) ⌝ }
+{
+    let i = position(r, file);
+    let s = File::remove_proxy(r.files[i], file, r.head);
+    r.files[i] = s.file;
+    r.head = s.head;
+    s.status
+}
+
 #[no_mangle]
 pub extern "C" fn sc_record_forget(r: &mut Record, file: u64) -> u32
     ensures { λ s. ⌜ (s ≡ forgetOf file (now (r .entry)) .status) × (now (r .exit) ≡ forgetOf file (now (r .entry)) .after) ⌝ }
@@ -405,7 +428,8 @@ pub extern "C" fn sc_record_restart(r: &mut Record) -> u32
     s.status
 }
 
-// LAYOUTRETURN, with its totals in what the caller lends: place k of a slice gets mirror k's bytes, bit k of a mask says whether these passed 2^64 - 1.
+// LAYOUTRETURN, with its totals in what the caller lends: place k of a slice gets mirror k's bytes, place 4 the proxy's, bit k of a mask says whether these passed
+// 2^64 - 1.
 // All four are written on every call, with zeros unless the answer is 0.
 #[no_mangle]
 pub extern "C" fn sc_record_layoutreturn(

@@ -1,4 +1,4 @@
-// What C is handed of totals (Ticket 3): one column of them in a slice that it lends, and their flags in a mask.
+// What C is handed of totals (Tickets 3 and 7): one column of them in a slice that it lends, and their flags in a mask.
 use mirroring::mirrors::PLACES;
 use mirroring::totals::Sums;
 ghost use mathlib.Core.Path.{_≡_};
@@ -8,16 +8,16 @@ ghost use lib.ListN.{length, getD};
 ghost use Rattle.masks.specs.Mask.{plus};
 ghost use Rattle.capi.specs.Lent.{columnOf, maskOf};
 
-// The sum at a place, or 0 past the mirrors' places.
+// The sum at a place, or 0 past the last.
 fn sum(sums: [u64; PLACES], at: usize) -> u64
     ensures { λ r. ⌜ r ≡ getD sums at 0 ⌝ }
 {
     if at < PLACES { sums[at] } else { 0 }
 }
 
-// The same of a slice that has just the mirrors' places: the compiler writes them straight.
+// The same of a slice that has just those places: the compiler writes them straight.
 fn straight(sums: [u64; PLACES], lent: &mut [u64])
-    requires { ⌜ length (now lent) ≡ 4 ⌝ }
+    requires { ⌜ length (now lent) ≡ 5 ⌝ }
     ensures { λ _. ⌜ now (lent .exit) ≡ columnOf sums (now (lent .entry)) ⌝ }
 {
     let mut i: usize = 0;
@@ -28,7 +28,7 @@ fn straight(sums: [u64; PLACES], lent: &mut [u64])
     }
 }
 
-// Each place of a lent slice gets its mirror's sum.
+// Each place of a lent slice gets its mirror's sum, or the proxy's.
 fn column(sums: [u64; PLACES], lent: &mut [u64])
     ensures { λ _. ⌜ now (lent .exit) ≡ columnOf sums (now (lent .entry)) ⌝ }
 {

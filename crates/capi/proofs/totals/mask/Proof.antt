@@ -12,9 +12,9 @@ abbrev Inv-loop : tie.InvT-loop
 Inv-loop flags m₀ i₀ m i = Masking flags m i
 
 abbrev μ-loop : tie.MeasureT-loop
-μ-loop flags m₀ i₀ m i = 4 - i
+μ-loop flags m₀ i₀ m i = 5 - i
 
-long : (c : tie.Start Inv-loop μ-loop) → length (c .args .t1) ≡ 4
+long : (c : tie.Start Inv-loop μ-loop) → length (c .args .t1) ≡ 5
 long c = search needs
 
 loop-holds : tie.Need-loop-holds Inv-loop μ-loop

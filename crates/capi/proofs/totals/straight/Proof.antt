@@ -12,7 +12,7 @@ abbrev Inv-loop : tie.InvT-loop
 Inv-loop lent₀ sums i₀ lent i = Mapping (summed sums) lent₀ lent i
 
 abbrev μ-loop : tie.MeasureT-loop
-μ-loop lent₀ sums i₀ lent i = 4 - i
+μ-loop lent₀ sums i₀ lent i = 5 - i
 
 loop-holds : tie.Need-loop-holds Inv-loop μ-loop
 loop-holds c = mapping-none _ _

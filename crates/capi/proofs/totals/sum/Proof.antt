@@ -6,7 +6,7 @@ use borrow.Author.Needs.{needs}
 use Rattle.capi.proofs.totals.sum.Statement.{statement}
 use Rattle.capi.proofs.totals.sum.Tie as tie
 
-long : (c : tie.Start) → length (c .args .t1) ≡ 4
+long : (c : tie.Start) → length (c .args .t1) ≡ 5
 long c = search needs
 
 mul-result : tie.Need-mul-result
