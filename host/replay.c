@@ -17,7 +17,7 @@
 #include <string.h>
 
 enum {
-    MAX_REQUEST = 16384, /* bytes of a LAYOUTRETURN request or a mirror list */
+    MAX_REQUEST = 16384, /* bytes of a LAYOUTRETURN request, a mirror list or a proxy's device */
     MAX_BODY = 65536,    /* bytes of a layout body or a commit list */
     MAX_ROOM = 65536,    /* places of a lent reply or list */
     MAX_LIST = 196608,   /* bytes of extents to write */
@@ -264,6 +264,7 @@ static void print_answer(uint32_t answer)
 typedef uint32_t on_record(struct sc_record *);
 typedef uint32_t on_file(struct sc_record *, uint64_t);
 typedef uint32_t on_client(struct sc_record *, uint64_t, uint64_t);
+typedef uint32_t on_devices(struct sc_record *, uint64_t, const uint8_t *, size_t);
 typedef uint32_t listing(const struct sc_record *, uint64_t *, size_t, uint8_t *, size_t, uint64_t *);
 typedef uint32_t listing_by(const struct sc_record *, uint64_t *, size_t, uint8_t *, size_t, uint64_t *, uint32_t);
 typedef uint32_t on_node(struct sc_epochs *, uint32_t);
@@ -277,6 +278,7 @@ struct command {
         on_record *record;
         on_file *file;
         on_client *client;
+        on_devices *devices;
         listing *list;
         listing_by *list_by;
         on_node *node;
@@ -309,15 +311,15 @@ static bool run_on_client(const struct command *c, const struct word *argument)
     return true;
 }
 
-static bool run_register(const struct command *c, const struct word *argument)
+/* A file with the bytes of devices: a mirror list, or a proxy. */
+static bool run_on_devices(const struct command *c, const struct word *argument)
 {
-    (void)c;
     uint64_t file;
-    struct lent mirrors;
-    if (!read_number(argument[0], UINT64_MAX, &file) || !read_bytes(argument[1], MAX_REQUEST, &mirrors))
+    struct lent devices;
+    if (!read_number(argument[0], UINT64_MAX, &file) || !read_bytes(argument[1], MAX_REQUEST, &devices))
         return false;
-    uint32_t answer = sc_record_register(record, file, bytes_of(mirrors), mirrors.len);
-    take_back_bytes(argument[1], mirrors, "bytes in or beside the mirror list changed");
+    uint32_t answer = c->call.devices(record, file, bytes_of(devices), devices.len);
+    take_back_bytes(argument[1], devices, "bytes in or beside the devices changed");
     print_answer(answer);
     return true;
 }
@@ -808,12 +810,14 @@ static bool run_fresh_edition(const struct command *c, const struct word *argume
 /* ---- The table of commands: name, number of arguments, how it is run, and the call where several are run alike ---- */
 
 static const struct command commands[] = {
-    {"register", 2, run_register, {NULL}},
+    {"register", 2, run_on_devices, {.devices = sc_record_register}},
     {"open", 2, run_on_client, {.client = sc_record_open}},
     {"reclaim", 2, run_on_client, {.client = sc_record_reclaim}},
     {"close", 2, run_on_client, {.client = sc_record_close}},
     {"repaired", 1, run_on_file, {.file = sc_record_repaired}},
     {"forget", 1, run_on_file, {.file = sc_record_forget}},
+    {"addproxy", 2, run_on_devices, {.devices = sc_record_add_proxy}},
+    {"removeproxy", 1, run_on_file, {.file = sc_record_remove_proxy}},
     {"end", 0, run_on_record, {.record = sc_record_end_grace}},
     {"restart", 0, run_on_record, {.record = sc_record_restart}},
     {"layoutreturn", 4, run_layoutreturn, {NULL}},

@@ -32,16 +32,16 @@ extern "C" {
  * The first number rises where a server has to be changed, the second where calls are added, the third where neither is.
  */
 #define SC_VERSION_MAJOR 2
-#define SC_VERSION_MINOR 0
+#define SC_VERSION_MINOR 1
 #define SC_VERSION_PATCH 0
 
 /* ---- statuses, by NFS's own names (RFC 8881, 15.1) ----
  *
  * What a call answers where it refuses; 0 is success. The refusals of layout bodies are rules of their own, from 1 to 9.
  */
-#define SC_NOENT UINT32_C(2)                  /* the node is no member of the cluster */
-#define SC_EXIST UINT32_C(17)                 /* the file is registered, or the node a member, already */
-#define SC_INVAL UINT32_C(22)                 /* a node above 31, a bad mirror list or commit list, no direction, or nothing to repair or to finish */
+#define SC_NOENT UINT32_C(2)                  /* the node is no member of the cluster, or the file has no proxy */
+#define SC_EXIST UINT32_C(17)                 /* the file is registered or has a proxy, or the node is a member, already */
+#define SC_INVAL UINT32_C(22)                 /* a node above 31, a bad mirror list, proxy or commit list, no direction, or nothing to repair or to finish */
 #define SC_NOSPC UINT32_C(28)                 /* no room: in a table, in a buffer that is lent, or for another epoch */
 #define SC_STALE UINT32_C(70)                 /* no such file */
 #define SC_DELAY UINT32_C(10008)              /* not yet: the file needs repair, or an intent is open */
@@ -178,7 +178,8 @@ uint32_t sc_layoutreturn_reply(uint8_t *reply, size_t reply_len, uint32_t status
 
 /* ---- the recovery record ----
  *
- * At most 64 files, each with 1 to 4 mirror devices and at most 8 write intents, one a client; and whether the server is in grace.
+ * At most 64 files, each with 1 to 4 mirror devices, at most one proxy, and at most 8 write intents, one a client; and whether the server is in grace.
+ * The places of a file are 0 to 3 for its mirrors, in the order in which they are registered, and 4 for its proxy, also where it has fewer than four mirrors.
  *
  * A record is plain memory that the server owns, sizeof(struct sc_record) bytes aligned as a uint64_t. Its words are for these calls alone: a
  * server copies or stores it as a whole, and reads nothing out of it. sc_record_fresh or sc_record_fresh_old sets it up; no other call may come
@@ -186,10 +187,13 @@ uint32_t sc_layoutreturn_reply(uint8_t *reply, size_t reply_len, uint32_t status
  * A call changes the record where it lies, and leaves it as it was where it answers a refusal. Calls on two records may run at once.
  */
 struct sc_record {
-    uint64_t opaque[1921];
+    uint64_t opaque[2113];
 };
 
-SC_ASSERT(sizeof(struct sc_record) == 15368, "struct sc_record is as the library has it");
+SC_ASSERT(sizeof(struct sc_record) == 16904, "struct sc_record is as the library has it");
+
+#define SC_PLACES 5 /* the places of a file; a later version may have more */
+#define SC_PROXY 4  /* the place of its proxy */
 
 /* What sc_record_layoutreturn answers where a request is handed on: no status of NFS. */
 #define SC_HANDED_ON UINT32_C(0xffffffff)
@@ -201,7 +205,7 @@ void sc_record_fresh(struct sc_record *r);
  * it, and no report marks or blames. A record keeps its edition, current or old, until it is set up again. */
 void sc_record_fresh_old(struct sc_record *r);
 
-/* Registers a file with its mirrors, 16 bytes a device id, in the order of their places.
+/* Registers a file with its mirrors, 16 bytes a device id, in the order of their places. It has no proxy.
  * 10013: in grace; 22: no mirror, more than 4, one named twice, or no whole ids; 17: it is registered; 28: 64 files are. */
 uint32_t sc_record_register(struct sc_record *r, uint64_t file, const uint8_t *mirrors, size_t mirrors_len);
 
@@ -214,11 +218,19 @@ uint32_t sc_record_reclaim(struct sc_record *r, uint64_t file, uint64_t client);
 /* The client's intent goes. 70: no such file; 10025: it has no intent, or it is in grace and has not reclaimed. */
 uint32_t sc_record_close(struct sc_record *r, uint64_t file, uint64_t client);
 
-/* The file has been repaired: its mark and all blame go. 70: no such file; 22: it does not need repair; 10008: an intent is open. */
+/* The file has been repaired: its mark and all blame go, and its proxy stays. 70: no such file; 22: it does not need repair; 10008: an intent is open. */
 uint32_t sc_record_repaired(struct sc_record *r, uint64_t file);
 
-/* The file goes, and its place is free. 10013: in grace; 70: no such file; 10008: it needs repair, or an intent is open. */
+/* The file goes, with its proxy if it has one, and its place is free. 10013: in grace; 70: no such file; 10008: it needs repair, or an intent is open. */
 uint32_t sc_record_forget(struct sc_record *r, uint64_t file);
+
+/* A proxy, of a device id of 16 bytes, sits in the file's layout from now on and receives the writes. Reports name it and blame it and it has totals like a
+ * mirror, at place SC_PROXY, but it is never the source of a copy.
+ * 10013: in grace; 70: no such file; 22: device_len is not 16, or the device is a mirror of the file or its proxy already; 17: the file has a proxy. */
+uint32_t sc_record_add_proxy(struct sc_record *r, uint64_t file, const uint8_t *device, size_t device_len);
+
+/* The proxy goes, and its blame with it. The file's mark and the blame of its mirrors stay. 10013: in grace; 70: no such file; 2: it has no proxy. */
+uint32_t sc_record_remove_proxy(struct sc_record *r, uint64_t file);
 
 /* Grace ends: each file that has any intent not reclaimed since the latest restart needs repair, and each such intent goes. An intent that
  * was reclaimed and then closed no longer counts. 10033: not in grace. */
@@ -238,11 +250,10 @@ uint32_t sc_record_restart(struct sc_record *r);
  * the client has no intent on it.
  *
  * The totals of this one request, from the byte counts of its statistics records, are written on EVERY call, whatever it answers: read[k] and
- * written[k] are those of the mirror at place k, for each of the read_len and written_len places that are lent; places without a mirror get 0.
+ * written[k] are those of the mirror or proxy at place k, for each of the read_len and written_len places that are lent; any other place gets 0.
  * A total that would pass 2^64 - 1 is 2^64 - 1, and then bit k of *read_over or *written_over is set; no other bit is. All are 0 unless
- * the answer is 0, and where the report is ignored since an error record names a device that is no mirror. A record for such a device counts
- * nowhere. Statistics change nothing in the record. */
-#define SC_PLACES 4 /* places of a file that can have totals; a later version may have more */
+ * the answer is 0, and where the report is ignored since an error record names a device that is neither a mirror nor the proxy. A record for such a
+ * device counts nowhere. Statistics change nothing in the record. */
 uint32_t sc_record_layoutreturn(struct sc_record *r, uint64_t file, uint64_t client, const uint8_t *request, size_t request_len, uint8_t *reply,
                                 size_t reply_len, uint64_t *read, size_t read_len, uint64_t *written, size_t written_len,
                                 uint32_t *read_over, uint32_t *written_over);
@@ -253,7 +264,7 @@ uint32_t sc_record_layoutreturn(struct sc_record *r, uint64_t file, uint64_t cli
 #define SC_HIGHEST UINT32_C(2) /* from the last mirror down */
 
 /* The files that need repair, by rising number: file k of the list at files[k], and at sources[k] the first mirror place by the direction that is not
- * blamed, or 255 where there is none. files_len and sources_len are the places that are lent.
+ * blamed, or 255 where there is none, never the proxy's place. files_len and sources_len are the places that are lent.
  * 0: *count is the length of the list; later places stay as they were.
  * 22: the direction is none of these three; 28: a buffer is too short. *count is 0, and both buffers stay as they were. */
 uint32_t sc_record_resilver_by(const struct sc_record *r, uint64_t *files, size_t files_len, uint8_t *sources, size_t sources_len, uint64_t *count,
