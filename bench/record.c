@@ -10,9 +10,9 @@ PLAIN(gcc_)
 PLAIN(clang_)
 
 enum { FILES = 64, MANY = 1024 };
-static uint8_t mirrors[64], one[52 + 4096], twenty[52 + 4096], live[52 + 4096], four[52 + 4096], eight[52 + 4096], bulk[16], reply[24], sources[FILES];
+static uint8_t mirrors[64], proxy[16], one[52 + 4096], twenty[52 + 4096], live[52 + 4096], four[52 + 4096], eight[52 + 4096], bulk[16], reply[24], sources[FILES];
 static size_t one_len, twenty_len, live_len, four_len, eight_len;
-static uint64_t files[FILES], count, bytes_read[4], bytes_written[4];
+static uint64_t files[FILES], count, bytes_read[SC_PLACES], bytes_written[SC_PLACES];
 static uint32_t read_over, written_over;
 
 static uint64_t number(int k) { return 1000003 * (uint64_t)(k + 1); }
@@ -69,6 +69,7 @@ static const struct bench_job jobs[] = {
     {"close, and open again", 2 * MANY, 1.5, BOTH(full, close_open)},
     {"reclaim", MANY, 1.5, BOTH(grace, reclaim)},
     {"repaired", FILES, 1.5, BOTH(lost, repaired)},
+    {"add a proxy, and remove it", 2 * MANY, 1.5, BOTH(full_4, proxy)},
     {"LAYOUTRETURN, 1 error record", MANY, 1.5, BOTH(grace, report_1)},
     {"LAYOUTRETURN, 20 error records", MANY, 1.5, BOTH(grace, report_20)},
     {"LAYOUTRETURN, 1 statistics record", MANY, 1.2, BOTH(grace_4, statistics_1)},
@@ -143,6 +144,7 @@ int main(int argc, char **argv)
     const struct bench b = {jobs, sizeof jobs / sizeof jobs[0], 500, shuffle, set_back};
     for (int i = 0; i < 4; i++)
         memset(mirrors + 16 * i, 0xaa + 0x11 * i, 16);
+    memset(proxy, 0x99, sizeof proxy);
     one_len = request(one, 1, 0, 1, 1);
     twenty_len = request(twenty, 20, 0, 1, 1);
     live_len = request(live, 0, 1, 0, 3);

@@ -22,6 +22,7 @@ static void P(filled)(int intents, int restarted, int ended) { P(mirrored)(2, in
 static void P(empty)(void) { P(record_fresh)(&P(state)); }
 static void P(idle)(void) { P(filled)(0, 0, 0); }
 static void P(full)(void) { P(filled)(8, 0, 0); }
+static void P(full_4)(void) { P(mirrored)(4, 8, 0, 0); }
 static void P(grace)(void) { P(filled)(8, 1, 0); }
 static void P(grace_4)(void) { P(mirrored)(4, 8, 1, 0); }
 static void P(lost)(void) { P(filled)(8, 1, 1); }
@@ -35,11 +36,11 @@ static void P(half)(void)
             P(record_reclaim)(&P(state), number(k), (uint64_t)c);
 }
 
-/* a LAYOUTRETURN in the record, with four places lent for its totals */
+/* a LAYOUTRETURN in the record, with every place lent for its totals */
 static uint64_t P(returned)(int k, const uint8_t *request, size_t len)
 {
-    uint64_t status = P(record_layoutreturn)(&P(held), file[k], client[k], request, len, reply, sizeof reply, bytes_read, 4, bytes_written, 4, &read_over, &written_over);
-    return status + bytes_read[3] + bytes_written[0] + read_over + written_over;
+    uint64_t status = P(record_layoutreturn)(&P(held), file[k], client[k], request, len, reply, sizeof reply, bytes_read, SC_PLACES, bytes_written, SC_PLACES, &read_over, &written_over);
+    return status + bytes_read[3] + bytes_written[0] + bytes_read[SC_PROXY] + read_over + written_over;
 }
 
 /* calls that leave the record as it is come MANY times, on any file and client; calls that change it once on each file, in any order */
@@ -56,6 +57,7 @@ static void P(statistics_1)(void) { ANY P(returned)(k, live, live_len) + reply[7
 static void P(statistics_4)(void) { ANY P(returned)(k, four, four_len) + reply[7]; }
 static void P(statistics_8)(void) { ANY P(returned)(k, eight, eight_len) + reply[7]; }
 static void P(handed_on)(void) { ANY P(returned)(k, bulk, sizeof bulk); }
+static void P(proxy)(void) { ANY P(record_add_proxy)(&P(held), file[k], proxy, 16) + P(record_remove_proxy)(&P(held), file[k]); }
 static void P(enter)(void) { EACH P(record_register)(&P(held), each[k], mirrors, 32); }
 static void P(forget)(void) { EACH P(record_forget)(&P(held), each[k]); }
 static void P(restart)(void) { EACH P(record_restart)(&P(held)); }

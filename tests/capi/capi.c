@@ -1,7 +1,8 @@
 /*
  * The calls on a record through the archive: where a record lies and how big it is, marked examples K10 to K13, and random calls
  * (seed: the argument, or 1) beside tests/plain/record.c: each answer, each reply, all totals and both lists, from either direction, where nobody asks
- * for one, and for numbers that are none.
+ * for one, and for numbers that are none; and what the record holds of the mirrors, the proxy, the blame and the mark of each file, since no call tells
+ * of a proxy's blame.
  * Prints one line, and ends with 1 where anything differs.
  */
 #include "bytes.h"
@@ -32,7 +33,7 @@ static void expect(int good, const char *what, unsigned long n)
 }
 
 /* An answer beside plain C's. Each of these has to come up among the random calls. */
-static const uint32_t answers[] = {0, 17, 22, 28, 70, 10008, 10013, 10025, 10033, 10034, 10036, 10049, 10062, SC_HANDED_ON};
+static const uint32_t answers[] = {0, 2, 17, 22, 28, 70, 10008, 10013, 10025, 10033, 10034, 10036, 10049, 10062, SC_HANDED_ON};
 enum { ANSWERS = sizeof answers / sizeof answers[0] };
 static unsigned long seen[ANSWERS];
 
@@ -50,6 +51,39 @@ static void guards(unsigned long n)
             expect(0, "a byte beside the record", n);
 }
 
+/* ---- what a record holds: 64 files, then grace and the edition. A file: its number; its places, each of the two halves of a device's id and whether it
+ * is there, is blamed and is a proxy; eight intents of a client and two flags; whether there is such a file, and its mark. */
+enum { MIRRORS = 8, MIRROR_SIZE = 24, INTENTS = MIRRORS + SC_PLACES * MIRROR_SIZE, FLAGS = INTENTS + 8 * 16, FILE_SIZE = FLAGS + 8, HEAD = 64 * FILE_SIZE };
+
+/* The id of a device as the record holds it: two numbers. */
+static int holds(const uint8_t *mirror, const uint8_t *id)
+{
+    uint64_t high, low;
+    memcpy(&high, mirror, 8);
+    memcpy(&low, mirror + 8, 8);
+    return high == be64(id) && low == be64(id + 8);
+}
+
+/* Whether a place of a file is as plain C has it: nothing, a mirror or the proxy, blamed or not. */
+static int same_place(const uint8_t *mirror, const struct plain_file *f, size_t i)
+{
+    int proxy = i == PLAIN_PROXY && f->proxy, there = i < f->mirror_count || proxy;
+    return mirror[16] == there && mirror[17] == (f->blamed >> i & 1) && mirror[18] == proxy && (!there || holds(mirror, f->devices[i]));
+}
+
+/* The files of the record beside plain C's, both by rising number. */
+static void compare_files(unsigned long n)
+{
+    const uint8_t *at = (const uint8_t *)&held.r;
+    for (size_t k = 0; k < 64; k++, at += FILE_SIZE) {
+        const struct plain_file *f = &plain.files[k];
+        int good = at[FLAGS] == (k < plain.count);
+        for (size_t i = 0; i < SC_PLACES && k < plain.count; i++)
+            good = good && same_place(at + MIRRORS + MIRROR_SIZE * i, f, i);
+        expect(good && (k >= plain.count || at[FLAGS + 1] == f->marked), "the mirrors, the proxy, the blame or the mark of a file", n);
+    }
+}
+
 /* ---- where a record lies: fresh writes every field, to the last, and no byte past the struct */
 static void layout(void)
 {
@@ -63,22 +97,21 @@ static void layout(void)
     sc_record_fresh(&held.r);
     guards(1);
     const uint8_t *two = (const uint8_t *)&held.r;
-    /* a file: its number, four mirrors of two halves and two flags, eight intents of a client and two flags, two flags; then grace and the edition */
     for (size_t f = 0; f < 64; f++) {
-        size_t at = 240 * f;
-        int same = memcmp(one + at, two + at, 8) == 0 && memcmp(one + at + 232, two + at + 232, 2) == 0;
-        for (size_t m = 0; m < 4; m++)
-            same = same && memcmp(one + at + 8 + 24 * m, two + at + 8 + 24 * m, 18) == 0;
+        size_t at = FILE_SIZE * f;
+        int same = memcmp(one + at, two + at, 8) == 0 && memcmp(one + at + FLAGS, two + at + FLAGS, 2) == 0;
+        for (size_t m = 0; m < SC_PLACES; m++)
+            same = same && memcmp(one + at + MIRRORS + MIRROR_SIZE * m, two + at + MIRRORS + MIRROR_SIZE * m, 19) == 0;
         for (size_t i = 0; i < 8; i++)
-            same = same && memcmp(one + at + 104 + 16 * i, two + at + 104 + 16 * i, 10) == 0;
+            same = same && memcmp(one + at + INTENTS + 16 * i, two + at + INTENTS + 16 * i, 10) == 0;
         expect(same, "a fresh file", f);
     }
-    expect(one[15360] == 0 && two[15360] == 0, "fresh grace", 0);
-    expect(one[15361] == 0 && two[15361] == 0, "the edition", 0);
+    expect(one[HEAD] == 0 && two[HEAD] == 0, "fresh grace", 0);
+    expect(one[HEAD + 1] == 0 && two[HEAD + 1] == 0, "the edition", 0);
     sc_record_fresh_old(&held.r);
-    expect(two[15360] == 0 && two[15361] == 1, "the old edition", 0);
-    expect(sc_record_restart(&held.r) == 0 && two[15360] == 1, "grace after a restart", 0);
-    expect(_Alignof(struct sc_record) == _Alignof(uint64_t) && sizeof(struct sc_record) == 15368, "the struct", 0);
+    expect(two[HEAD] == 0 && two[HEAD + 1] == 1, "the old edition", 0);
+    expect(sc_record_restart(&held.r) == 0 && two[HEAD] == 1, "grace after a restart", 0);
+    expect(_Alignof(struct sc_record) == _Alignof(uint64_t) && sizeof(struct sc_record) == HEAD + 8, "the struct", 0);
 }
 
 /* ---- requests */
@@ -103,7 +136,7 @@ static size_t report(int first, int many, uint32_t status)
 
 /* ---- totals */
 /* What is lent for the totals of one call, with a word past each slice that no call may touch. */
-enum { LENT = 6, FILL = 0x5c };
+enum { LENT = 7, FILL = 0x5c };
 
 struct lent {
     uint64_t read[LENT + 1], written[LENT + 1];
@@ -178,9 +211,9 @@ static void example(int reclaims, int reports)
         static const uint8_t good[24] = {0, 0, 0, 0, 0, 0, 0, 1};
         static const uint64_t none[SC_PLACES];
         size_t n = report(reports, 1, 5);
-        struct lent t = lend(4, 4);
-        expect(n == 120 && sc_record_layoutreturn(&held.r, 7, 1, request, n, reply, 30, t.read, 4, t.written, 4, &t.read_over, &t.written_over) == 0, "a report", 0);
-        expect(column(t.read, 4, none) && column(t.written, 4, none) && t.read_over == 0 && t.written_over == 0 && flags_alone(&t), "a report's totals", 0);
+        struct lent t = lend(SC_PLACES, SC_PLACES);
+        expect(n == 120 && sc_record_layoutreturn(&held.r, 7, 1, request, n, reply, 30, t.read, SC_PLACES, t.written, SC_PLACES, &t.read_over, &t.written_over) == 0, "a report", 0);
+        expect(column(t.read, SC_PLACES, none) && column(t.written, SC_PLACES, none) && t.read_over == 0 && t.written_over == 0 && flags_alone(&t), "a report's totals", 0);
         expect(memcmp(reply, good, 24) == 0 && reply[24] == 0x99 && reply[29] == 0x99, "a reply", 0);
     }
     expect(sc_record_end_grace(&held.r) == 0, "the end of grace", 0);
@@ -226,10 +259,10 @@ static size_t statistic(size_t len, size_t count, const uint8_t *id, uint64_t re
 /* A request of the client 1 on the file 7 gets the answer; its totals are so many bytes and flags, or zeros. */
 static void totals(const char *what, size_t len, uint64_t client, size_t room, uint32_t answer, const uint64_t *read, const uint64_t *written, uint32_t read_over, uint32_t written_over)
 {
-    static const size_t lens[] = {0, 1, 3, 4, 5, 6};
-    for (size_t i = 0; i < 6; i++) {
+    static const size_t lens[] = {0, 1, 3, 4, 5, 6, 7};
+    for (size_t i = 0; i < 7; i++) {
         uint8_t reply[24];
-        struct lent t = lend(lens[i], lens[(i + 2) % 6]);
+        struct lent t = lend(lens[i], lens[(i + 2) % 7]);
         uint32_t x = sc_record_layoutreturn(&held.r, 7, client, request, len, reply, room, t.read, t.read_len, t.written, t.written_len, &t.read_over, &t.written_over);
         expect(x == answer, what, i);
         expect(column(t.read, t.read_len, read) && t.read_over == read_over, what, 10 + i);
@@ -279,6 +312,71 @@ static void edges(void)
     with_mirrors(0);
     expect(sc_record_end_grace(&held.r) == 0, "the end of grace", 0);
     totals("out of grace", len, 1, 24, 10033, none, none, 0, 0);
+}
+
+/* ---- proxies: file 7 with the mirrors of devices 0 to 2, or to 3, and of device 4 as its proxy */
+static uint32_t add(uint64_t file, int k) { return sc_record_add_proxy(&held.r, file, device[k], 16); }
+static uint32_t removed(uint64_t file) { return sc_record_remove_proxy(&held.r, file); }
+
+/* One byte of the place of the proxy of the one file: 16 whether it is there, 17 its blame, 18 whether it is a proxy. */
+static int at_proxy(size_t k) { return ((const uint8_t *)&held.r)[MIRRORS + MIRROR_SIZE * SC_PROXY + k]; }
+
+static void with_proxy(size_t mirrors)
+{
+    sc_record_fresh(&held.r);
+    expect(sc_record_register(&held.r, 7, device[0], 16 * mirrors) == 0 && add(7, 4) == 0 && sc_record_open(&held.r, 7, 1) == 0 && sc_record_restart(&held.r) == 0,
+           "a file with a proxy", mirrors);
+}
+
+/* The refusals of both calls, in their order; bytes of any length, of which none is read where they are not 16. */
+static void proxy_refusals(void)
+{
+    sc_record_fresh(&held.r);
+    expect(add(7, 4) == 70 && removed(7) == 70, "a proxy of no file", 0);
+    expect(sc_record_register(&held.r, 7, device[0], 48) == 0 && removed(7) == SC_NOENT, "a file without a proxy", 0);
+    for (int has = 0; has < 2; has++) {
+        for (size_t len = 0; len <= 48; len++)
+            expect(len == 16 || sc_record_add_proxy(&held.r, 7, device[4], len) == 22, "a proxy that is not of 16 bytes", len);
+        for (int k = 0; k < 3; k++)
+            expect(add(7, k) == 22, "a proxy that is a mirror", (unsigned long)k);
+        expect(add(7, 4) == (has ? 22 : 0) && add(7, 5) == 17, "a proxy that is there", (unsigned long)has);
+    }
+    expect(sc_record_restart(&held.r) == 0 && add(7, 3) == 10013 && add(8, 3) == 10013 && removed(7) == 10013 && removed(8) == 10013, "proxies in grace", 0);
+    expect(sc_record_add_proxy(&held.r, 7, device[4], 0) == 10013 && sc_record_end_grace(&held.r) == 0, "a proxy of no bytes in grace", 0);
+    expect(removed(7) == 0 && removed(7) == SC_NOENT && add(7, 5) == 0 && removed(7) == 0, "a proxy that goes, and another", 0);
+}
+
+/* Totals of the proxy at its own place, its blame, and what removing and repairing leave of it. */
+static void proxies(void)
+{
+    static const uint64_t most = UINT64_MAX, read[SC_PLACES] = {1, 0, 2, 0, UINT64_MAX}, written[SC_PLACES] = {3, 0, 4, 0, UINT64_MAX}, none[SC_PLACES];
+    static const size_t opaques[3] = {3, 127, 128};
+    proxy_refusals();
+    for (size_t mirrors = 3; mirrors <= 4; mirrors++) {
+        with_proxy(mirrors);
+        size_t count = report(4, 1, 0) - 4, len = count + 4;
+        len = statistic(len, count, device[4], most, 5, opaques);
+        len = statistic(len, count, device[0], 1, 3, opaques);
+        len = statistic(len, count, device[5], 7, 7, opaques);
+        len = statistic(len, count, device[4], 1, most - 5, opaques);
+        len = statistic(len, count, device[2], 2, 4, opaques);
+        totals("totals of a proxy", len, 1, 24, 0, read, written, 16, 0);
+        expect(lists(0, 0, 0, 0, 0) && at_proxy(16) == 1 && at_proxy(17) == 0 && at_proxy(18) == 1, "a proxy that is named", mirrors);
+        len = report(4, 1, 5);
+        totals("a proxy that is blamed", len, 1, 24, 0, none, none, 0, 0);
+        expect(lists(0, 1, 7, 0, (uint8_t)(mirrors - 1)) && at_proxy(17) == 1, "a proxy is no source", mirrors);
+        len = report(0, (int)mirrors, 5);
+        totals("mirrors that are blamed", len, 1, 24, 0, none, none, 0, 0);
+        expect(lists(0, 1, 7, 255, 255), "none but the proxy is left", mirrors);
+        expect(sc_record_end_grace(&held.r) == 0 && lists(1, 1, 7, 255, 255) && removed(7) == 0 && at_proxy(16) == 0 && at_proxy(17) == 0, "a removed proxy's blame", mirrors);
+        expect(lists(1, 1, 7, 255, 255) && add(7, 4) == 0 && at_proxy(17) == 0 && lists(1, 1, 7, 255, 255), "a mark and the mirrors' blame without the proxy", mirrors);
+        expect(sc_record_repaired(&held.r, 7) == 0 && lists(0, 0, 0, 0, 0) && add(7, 4) == 22 && add(7, 5) == 17, "a proxy after the repair", mirrors);
+        expect(sc_record_forget(&held.r, 7) == 0 && removed(7) == 70 && sc_record_register(&held.r, 7, device[4], 16) == 0 && removed(7) == SC_NOENT, "a file registered again", mirrors);
+    }
+    with_proxy(3);
+    report(4, 1, 5);
+    totals("a proxy to be repaired", 120, 1, 24, 0, none, none, 0, 0);
+    expect(at_proxy(17) == 1 && sc_record_end_grace(&held.r) == 0 && sc_record_repaired(&held.r, 7) == 0 && at_proxy(16) == 1 && at_proxy(17) == 0 && removed(7) == 0, "a repaired proxy", 0);
 }
 
 /* ---- random calls */
@@ -360,8 +458,8 @@ static void compare_lists(unsigned long n)
     }
 }
 
-/* How often a total was flagged, was 2^64 - 1 without a flag, and was neither that nor 0. */
-static unsigned long flagged, full, counted;
+/* How often a total was flagged, was 2^64 - 1 without a flag, and was neither that nor 0; how often one was a proxy's; and how often a proxy was blamed. */
+static unsigned long flagged, full, counted, of_proxies, blamed_proxies;
 
 /* So many statistics records of any devices at the end of a request, whose bytes often come to about 2^64. */
 static size_t statistics(size_t len, uint64_t many)
@@ -380,6 +478,7 @@ static size_t statistics(size_t len, uint64_t many)
 
 static void tell(const uint64_t *sums, size_t len, uint32_t over)
 {
+    of_proxies += len > SC_PROXY && sums[SC_PROXY] != 0;
     for (size_t i = 0; i < len && i < SC_PLACES; i++) {
         flagged += over >> i & 1;
         full += sums[i] == UINT64_MAX && !(over >> i & 1);
@@ -401,7 +500,7 @@ static void compare_returns(unsigned long n, uint64_t file, uint64_t client)
     uint8_t reply[2][30];
     memset(reply, 0x44, sizeof reply);
     size_t len = report((int)below(DEVICES), below(3) ? 0 : (int)below(4), below(3) ? 5 : 0), room = below(8) ? 30 : below(30);
-    struct lent t = lend(below(2) ? 4 : below(LENT + 1), below(2) ? 4 : below(LENT + 1)), u = t;
+    struct lent t = lend(below(2) ? SC_PLACES : below(LENT + 1), below(2) ? SC_PLACES : below(LENT + 1)), u = t;
     if (below(3) != 0)
         len = statistics(len, below(6));
     if (below(6) == 0)
@@ -420,6 +519,22 @@ static void compare_returns(unsigned long n, uint64_t file, uint64_t client)
     expect(memcmp(reply[0], reply[1], sizeof reply[0]) == 0, "a reply", n);
 }
 
+/* A proxy of any device, now and then of bytes that are no id. */
+static void compare_added(unsigned long n, uint64_t file)
+{
+    uint8_t id[32];
+    size_t len = below(12) ? 16 : below(33);
+    memcpy(id, device[below(DEVICES)], 16);
+    memcpy(id + 16, id, 16);
+    same(sc_record_add_proxy(&held.r, file, id, len), plain_record_add_proxy(&plain, file, id, len), "add a proxy", n);
+}
+
+static void count_blamed_proxies(void)
+{
+    for (size_t k = 0; k < plain.count; k++)
+        blamed_proxies += plain.files[k].blamed >> PLAIN_PROXY & 1;
+}
+
 static void random_calls(int old)
 {
     (old ? sc_record_fresh_old : sc_record_fresh)(&held.r);
@@ -431,7 +546,7 @@ static void random_calls(int old)
         int first = (int)below(DEVICES);
         for (size_t i = 0; i < 6; i++)
             memcpy(mirrors + 16 * i, device[below(20) ? (first + (int)i) % DEVICES : first], 16);
-        uint64_t kind = below(200);
+        uint64_t kind = below(225);
         if (kind < 2) {
             same(sc_record_restart(&held.r), plain_record_restart(&plain), "restart", n);
         } else if (kind < 4) {
@@ -450,14 +565,21 @@ static void random_calls(int old)
             same(sc_record_forget(&held.r, file), plain_record_forget(&plain, file), "forget", n);
         } else if (kind < 190) {
             compare_returns(n, file, client);
-        } else {
+        } else if (kind < 200) {
             compare_lists(n);
+        } else if (kind < 215) {
+            compare_added(n, file);
+        } else {
+            same(sc_record_remove_proxy(&held.r, file), plain_record_remove_proxy(&plain, file), "remove a proxy", n);
         }
         guards(n);
+        compare_files(n);
+        count_blamed_proxies();
     }
     for (int i = 0; !old && i < ANSWERS; i++)
         expect(seen[i] != 0, "an answer that never came up", answers[i]);
     expect(astray != 0 && alike != 0 && otherwise != 0 && (without != 0 || old), "sources of the random calls: other from the other end, or not, or none", without);
+    expect((of_proxies != 0 && blamed_proxies != 0) == !old, "proxies of the random calls: with totals, or blamed", of_proxies);
     expect((flagged != 0 && full != 0 && counted != 0) == !old, "totals of the random calls: flags, 2^64 - 1 without one, or others", flagged);
 }
 
@@ -470,10 +592,11 @@ int main(int argc, char **argv)
     layout();
     examples();
     edges();
+    proxies();
     random_calls(1);
     random_calls(0);
-    printf("capi: %d random calls beside plain C, with %lu totals (%lu flagged, %lu of 2^64 - 1 that are not); %lu lists from no direction; of the files on lists %lu have another\n"
-           "    source from the other end, %lu the same, %lu none; the struct, totals at the edge and K10 to K13: %lu differences\n",
-           CALLS, counted + flagged + full, flagged, full, astray, otherwise, alike, without, differences);
+    printf("capi: %d random calls beside plain C, with %lu totals (%lu flagged, %lu of 2^64 - 1 that are not; %lu columns with a proxy's); %lu lists from no direction; of the files\n"
+           "    on lists %lu have another source from the other end, %lu the same, %lu none; the struct, totals at the edge, proxies and K10 to K13: %lu differences\n",
+           CALLS, counted + flagged + full, flagged, full, of_proxies, astray, otherwise, alike, without, differences);
     return differences != 0;
 }

@@ -7,13 +7,26 @@ import sys
 CAPTURES = os.path.join(os.path.dirname(os.path.abspath(__file__)), "..", "captures")
 LAYOUT, MERGE, COMMIT = 0, 2, 4
 BLOCK_1, BLOCK_4096, ROOM_N, ROOM_MORE = 0, 3 << 3, 1 << 6, 2 << 6
-LAYOUTRETURN, GRACE, REGISTERED, INTENT, TWO_MIRRORS, FOUR_MIRRORS, OLD, ROOM_40 = 1, 2, 4, 8, 1 << 4, 3 << 4, 1 << 6, 2 << 6
+LAYOUTRETURN, GRACE, PROXIED, OPENED, TWO_MIRRORS, THREE_MIRRORS, FOUR_MIRRORS, OLD, ROOM_40 = 1, 2, 2 << 2, 3 << 2, 1 << 4, 2 << 4, 3 << 4, 1 << 6, 2 << 6
 CHOICES = [
-    LAYOUTRETURN | GRACE | REGISTERED | INTENT | FOUR_MIRRORS,
-    LAYOUTRETURN | GRACE | REGISTERED | INTENT | TWO_MIRRORS | ROOM_40,
-    LAYOUTRETURN | REGISTERED | INTENT | FOUR_MIRRORS,
-    LAYOUTRETURN | GRACE | REGISTERED | INTENT | FOUR_MIRRORS | OLD,
+    LAYOUTRETURN | GRACE | OPENED | FOUR_MIRRORS,
+    LAYOUTRETURN | GRACE | OPENED | TWO_MIRRORS | ROOM_40,
+    LAYOUTRETURN | OPENED | FOUR_MIRRORS,
+    LAYOUTRETURN | GRACE | OPENED | FOUR_MIRRORS | OLD,
+    LAYOUTRETURN | GRACE | PROXIED | THREE_MIRRORS,
+    LAYOUTRETURN | GRACE | PROXIED | FOUR_MIRRORS,
 ]
+
+
+# A device that many captures name, and the one that wire.c has as the proxy.
+SECOND, PROXY = b"\xb0" * 15 + b"\x02", b"\xe0" * 15 + b"\x05"
+
+
+def chosen(request):
+    """The request for each choice; where the file has a proxy, that is named in place of the second device."""
+    for choice in CHOICES:
+        proxied = choice & OPENED == PROXIED
+        yield bytes([choice]) + (request.replace(SECOND, PROXY) if proxied else request)
 
 
 def hex_words(name):
@@ -107,16 +120,13 @@ def seeds():
         yield bytes([MERGE]) + extents
     for name in ("layoutreturn-damaged.txt", "linux-layoutreturn.txt"):
         for request in hex_words(name):
-            for choice in CHOICES:
-                yield bytes([choice]) + request
+            yield from chosen(request)
     for request in list(hex_words("linux-layoutreturn.txt"))[:12]:
         for other in padded(request):
-            for choice in CHOICES:
-                yield bytes([choice]) + other
+            yield from chosen(other)
     for request in list(hex_words("linux-layoutreturn.txt"))[:17]:
         for other in at_the_edge(request):
-            for choice in CHOICES:
-                yield bytes([choice]) + other
+            yield from chosen(other)
 
 
 def main():

@@ -1,9 +1,9 @@
 /* The fuzz target for the wire checks: layout bodies, lists of extents to be merged, LAYOUTCOMMITs, and LAYOUTRETURN on a record of one file. Any difference from plain C
    (tests/plain) aborts. The first byte chooses: bit 0 layouts or LAYOUTRETURN. Layouts: bit 1 a list to be merged, else bit 2 a LAYOUTCOMMIT, else a body; of a LAYOUTCOMMIT bits 3 to 5 the block
-   size, 6 and 7 the room for its body. LAYOUTRETURN: bit 1 grace, 2 registered, 3 intent, 4 and 5 how many mirrors, 6 and 7 the edition and the reply's room. The other bytes are the body, the
-   list or the request, whose length also chooses how many totals are lent; of a LAYOUTCOMMIT a count of extents (2 bytes), the extents and the commit list. The libraries are not instrumented
+   size, 6 and 7 the room for its body. LAYOUTRETURN: bit 1 grace, 2 and 3 whether the file is registered, has an intent, or has an intent and a proxy, 4 and 5 how many mirrors, 6 and 7 the
+   edition and the reply's room. The other bytes are the body, the list or the request, whose length also chooses how many totals are lent and the bytes of a device that is to be a proxy; of a LAYOUTCOMMIT a count of extents (2 bytes), the extents and the commit list. The libraries are not instrumented
    (plain C is, and steers towards new cases), so every body, list, request, reply and total lent to them lies against a page that can't be touched, once at its start and once at its end.
-   In this order: pages; layout bodies; lists; merging; LAYOUTCOMMIT; reports; LAYOUTRETURN; the target. */
+   In this order: pages; layout bodies; lists; merging; LAYOUTCOMMIT; reports; the record; proxies; LAYOUTRETURN; the target. */
 #define _DEFAULT_SOURCE
 #include "bytes.h"
 #include "plain.h"
@@ -51,7 +51,7 @@ static uint8_t *at_edge(uint8_t *region, size_t len, bool end)
 }
 
 /* A region for each thing that is lent. */
-enum { INPUT, REPLY, READ, WRITTEN, READ_OVER, WRITTEN_OVER, WANTED, STORAGES, STATES, COMMITS, REGIONS };
+enum { INPUT, REPLY, READ, WRITTEN, READ_OVER, WRITTEN_OVER, WANTED, STORAGES, STATES, COMMITS, DEVICE, REGIONS };
 
 static uint8_t *regions[REGIONS];
 
@@ -216,25 +216,32 @@ static void report(const uint8_t *body, size_t len)
     errors(body, len, status);
 }
 
-/* ---- LAYOUTRETURN ---- */
+/* ---- The record ---- */
 
-static const uint8_t devices[PLAIN_MIRRORS][16] = {
+static const uint8_t devices[PLAIN_PLACES][16] = {
     {0xa0, 0xa0, 0xa0, 0xa0, 0xa0, 0xa0, 0xa0, 0xa0, 0xa0, 0xa0, 0xa0, 0xa0, 0xa0, 0xa0, 0xa0, 0x01},
     {0xb0, 0xb0, 0xb0, 0xb0, 0xb0, 0xb0, 0xb0, 0xb0, 0xb0, 0xb0, 0xb0, 0xb0, 0xb0, 0xb0, 0xb0, 0x02},
     {0xc0, 0xc0, 0xc0, 0xc0, 0xc0, 0xc0, 0xc0, 0xc0, 0xc0, 0xc0, 0xc0, 0xc0, 0xc0, 0xc0, 0xc0, 0x03},
     {0xd0, 0xd0, 0xd0, 0xd0, 0xd0, 0xd0, 0xd0, 0xd0, 0xd0, 0xd0, 0xd0, 0xd0, 0xd0, 0xd0, 0xd0, 0x04},
+    {0xe0, 0xe0, 0xe0, 0xe0, 0xe0, 0xe0, 0xe0, 0xe0, 0xe0, 0xe0, 0xe0, 0xe0, 0xe0, 0xe0, 0xe0, 0x05},
 };
+
+/* What a file is, by bits 2 and 3 of a choice. */
+enum { REGISTERED = 1, PROXIED = 2, OPENED = 3 };
 
 /* The record's state as a choice says, in the library and in plain C. */
 static void set_up(struct sc_record *r, struct plain_record *p, uint8_t choice)
 {
-    bool old = choice >> 6 == 1, in_grace = choice >> 1 & 1, registered = choice >> 2 & 1, intent = registered && (choice >> 3 & 1);
+    bool old = choice >> 6 == 1, in_grace = choice >> 1 & 1;
+    int is = choice >> 2 & 3;
     size_t mirrors = 16 * ((choice >> 4 & 3) + 1u);
     (old ? sc_record_fresh_old : sc_record_fresh)(r);
     (old ? plain_record_fresh_old : plain_record_fresh)(p);
-    if (registered)
+    if (is >= REGISTERED)
         same("register", sc_record_register(r, FILE_NUMBER, devices[0], mirrors) | plain_record_register(p, FILE_NUMBER, devices[0], mirrors), 0);
-    if (intent)
+    if (is == PROXIED)
+        same("add proxy", sc_record_add_proxy(r, FILE_NUMBER, devices[PLAIN_PROXY], 16) | plain_record_add_proxy(p, FILE_NUMBER, devices[PLAIN_PROXY], 16), 0);
+    if (is >= PROXIED)
         same("open", sc_record_open(r, FILE_NUMBER, CLIENT) | plain_record_open(p, FILE_NUMBER, CLIENT), 0);
     if (in_grace)
         same("restart", sc_record_restart(r) | plain_record_restart(p), 0);
@@ -274,9 +281,44 @@ static void check_end(struct sc_record *r, struct plain_record *p)
     check_lists(r, p);
 }
 
+/* ---- Proxies ---- */
+
+/* A proxy of so many bytes, which lie at an edge. */
+static void check_added(struct sc_record *r, struct plain_record *p, const uint8_t *bytes, size_t len, bool end)
+{
+    uint8_t *device = at_edge(regions[DEVICE], len, end);
+    memcpy(device, bytes, len);
+    same("add proxy", sc_record_add_proxy(r, FILE_NUMBER, device, len), plain_record_add_proxy(p, FILE_NUMBER, device, len));
+    same("proxy kept", memcmp(device, bytes, len) == 0, true);
+}
+
+static void check_removed(struct sc_record *r, struct plain_record *p)
+{
+    same("remove proxy", sc_record_remove_proxy(r, FILE_NUMBER), plain_record_remove_proxy(p, FILE_NUMBER));
+    check_lists(r, p);
+}
+
+/* Proxies that come and go, in grace or out of it: of the input's bytes where a device error would have its device, of other lengths too, and of each
+ * device; a repair between. */
+static void proxies(struct sc_record *r, struct plain_record *p, const uint8_t *bytes, size_t len, bool end)
+{
+    size_t at = len < 92 ? len : 92, most = len - at < 33 ? len - at : 33;
+    check_added(r, p, bytes + at, most < 16 || len / 4 % 4 == 0 ? most : 16, end);
+    check_removed(r, p);
+    for (int i = 0; i < PLAIN_PLACES; i++)
+        check_added(r, p, devices[i], 16, end);
+    same("close", sc_record_close(r, FILE_NUMBER, CLIENT), plain_record_close(p, FILE_NUMBER, CLIENT));
+    same("repaired", sc_record_repaired(r, FILE_NUMBER), plain_record_repaired(p, FILE_NUMBER));
+    check_lists(r, p);
+    check_removed(r, p);
+    check_removed(r, p);
+}
+
+/* ---- LAYOUTRETURN ---- */
+
 /* One column of totals, and its flags: lent at an edge, and filled before the call; what plain C says of it. */
 struct column {
-    uint64_t *bytes, plain[6];
+    uint64_t *bytes, plain[7];
     size_t len;
     uint32_t *over, plain_over;
 };
@@ -298,7 +340,7 @@ static void check_column(const struct column *c)
 
 static void layoutreturn(uint8_t choice, const uint8_t *bytes, size_t len, bool end)
 {
-    static const size_t rooms[4] = {24, 24, 40, 23}, sizes[5] = {4, 0, 3, 5, 6};
+    static const size_t rooms[4] = {24, 24, 40, 23}, sizes[5] = {5, 0, 4, 6, 7};
     static struct sc_record r;
     static struct plain_record p;
     size_t room = rooms[choice >> 6];
@@ -318,7 +360,9 @@ static void layoutreturn(uint8_t choice, const uint8_t *bytes, size_t len, bool 
     check_column(&read);
     check_column(&written);
     check_lists(&r, &p);
+    check_removed(&r, &p);
     check_end(&r, &p);
+    proxies(&r, &p, bytes, len, end);
     if (len >= 52)
         report(request + 52, len - 52);
 }

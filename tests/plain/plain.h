@@ -9,7 +9,8 @@
 #include <stddef.h>
 #include <stdint.h>
 
-enum { PLAIN_FILES = 64, PLAIN_MIRRORS = 4, PLAIN_INTENTS = 8, PLAIN_NODES = 32 };
+/* A file's proxy has the place after those of its mirrors. */
+enum { PLAIN_FILES = 64, PLAIN_MIRRORS = 4, PLAIN_PROXY = PLAIN_MIRRORS, PLAIN_PLACES = PLAIN_PROXY + 1, PLAIN_INTENTS = 8, PLAIN_NODES = 32 };
 
 /* The directions that a source is looked for from. */
 enum { PLAIN_LOWEST = 1, PLAIN_HIGHEST = 2 };
@@ -22,13 +23,13 @@ struct plain_intent {
     bool reclaimed;
 };
 
-/* The intents stand in the order in which they came; blamed has a bit for each mirror place. */
+/* The intents stand in the order in which they came; devices are by place, and blamed has a bit for each place. */
 struct plain_file {
     uint64_t number;
-    uint8_t mirrors[PLAIN_MIRRORS][16];
+    uint8_t devices[PLAIN_PLACES][16];
     struct plain_intent intents[PLAIN_INTENTS];
     uint8_t mirror_count, intent_count, blamed;
-    bool marked;
+    bool marked, proxy;
 };
 
 /* The files stand by rising number. */
@@ -70,6 +71,8 @@ struct plain_epochs {
     uint32_t P##record_close(struct plain_record *, uint64_t, uint64_t); \
     uint32_t P##record_repaired(struct plain_record *, uint64_t); \
     uint32_t P##record_forget(struct plain_record *, uint64_t); \
+    uint32_t P##record_add_proxy(struct plain_record *, uint64_t, const uint8_t *, size_t); \
+    uint32_t P##record_remove_proxy(struct plain_record *, uint64_t); \
     uint32_t P##record_end_grace(struct plain_record *); \
     uint32_t P##record_restart(struct plain_record *); \
     uint32_t P##record_layoutreturn(struct plain_record *, uint64_t, uint64_t, const uint8_t *, size_t, uint8_t *, size_t, uint64_t *, size_t, uint64_t *, size_t, \

@@ -18,12 +18,13 @@ static struct plain_intent *intent(struct plain_file *f, uint64_t client)
     return NULL;
 }
 
+/* The place of a mirror or of the proxy; -1 for any other device. */
 static int place(const struct plain_file *f, const uint8_t *device)
 {
     for (int i = 0; i < f->mirror_count; i++)
-        if (memcmp(f->mirrors[i], device, 16) == 0)
+        if (memcmp(f->devices[i], device, 16) == 0)
             return i;
-    return -1;
+    return f->proxy && memcmp(f->devices[PLAIN_PROXY], device, 16) == 0 ? PLAIN_PROXY : -1;
 }
 
 /* ---- the calls */
@@ -48,7 +49,7 @@ uint32_t FN(record_register)(struct plain_record *r, uint64_t file, const uint8_
     for (size_t i = 0; i < len; i += 16) {
         if (place(&f, mirrors + i) >= 0)
             return 22;
-        memcpy(f.mirrors[f.mirror_count++], mirrors + i, 16);
+        memcpy(f.devices[f.mirror_count++], mirrors + i, 16);
     }
     if (find(r, file) != NULL)
         return 17;
@@ -133,6 +134,36 @@ uint32_t FN(record_forget)(struct plain_record *r, uint64_t file)
     return 0;
 }
 
+uint32_t FN(record_add_proxy)(struct plain_record *r, uint64_t file, const uint8_t *device, size_t len)
+{
+    if (r->grace)
+        return 10013;
+    struct plain_file *f = find(r, file);
+    if (f == NULL)
+        return 70;
+    if (len != 16 || place(f, device) >= 0)
+        return 22;
+    if (f->proxy)
+        return 17;
+    memcpy(f->devices[PLAIN_PROXY], device, 16);
+    f->proxy = true;
+    return 0;
+}
+
+uint32_t FN(record_remove_proxy)(struct plain_record *r, uint64_t file)
+{
+    if (r->grace)
+        return 10013;
+    struct plain_file *f = find(r, file);
+    if (f == NULL)
+        return 70;
+    if (!f->proxy)
+        return 2;
+    f->proxy = false;
+    f->blamed &= (1 << PLAIN_PROXY) - 1;
+    return 0;
+}
+
 uint32_t FN(record_end_grace)(struct plain_record *r)
 {
     if (!r->grace)
@@ -161,9 +192,9 @@ uint32_t FN(record_restart)(struct plain_record *r)
 }
 
 /* ---- LAYOUTRETURN */
-/* Bytes by mirror place, and a bit for each place that had more than 2^64 - 1. */
+/* Bytes by place, and a bit for each place that had more than 2^64 - 1. */
 struct sums {
-    uint64_t bytes[PLAIN_MIRRORS];
+    uint64_t bytes[PLAIN_PLACES];
     uint32_t over;
 };
 
@@ -273,7 +304,7 @@ static uint32_t replied(struct plain_record *r, uint64_t file, uint64_t client, 
 static void hand_out(const struct sums *s, bool counts, uint64_t *lent, size_t len, uint32_t *over)
 {
     for (size_t i = 0; i < len; i++)
-        lent[i] = counts && i < PLAIN_MIRRORS ? s->bytes[i] : 0;
+        lent[i] = counts && i < PLAIN_PLACES ? s->bytes[i] : 0;
     *over = counts ? s->over : 0;
 }
 
@@ -288,7 +319,7 @@ uint32_t FN(record_layoutreturn)(struct plain_record *r, uint64_t file, uint64_t
 }
 
 /* ---- the lists */
-/* The first place by the direction that is not blamed, or 255; where none is asked for (0), by the highest. */
+/* The first mirror's place by the direction that is not blamed, or 255; where none is asked for (0), by the highest. */
 static uint8_t source(const struct plain_file *f, uint32_t direction)
 {
     unsigned left = ~(unsigned)f->blamed & ((1u << f->mirror_count) - 1);

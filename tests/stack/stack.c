@@ -11,8 +11,8 @@ enum { STACK = 256 * 1024, FILES = 64, LIMIT = 2048 };
 static _Alignas(64) unsigned char stack[STACK];
 static ucontext_t here, there;
 static struct sc_record record, before;
-static uint8_t mirrors[64], request[52 + 4 + 60 + 4], bulk[16], reply[24], sources[FILES];
-static uint64_t files[FILES], count, read_bytes[4], written_bytes[4];
+static uint8_t mirrors[64], proxy[16], request[52 + 4 + 60 + 4], bulk[16], reply[24], sources[FILES];
+static uint64_t files[FILES], count, read_bytes[SC_PLACES], written_bytes[SC_PLACES];
 static uint32_t read_over, written_over;
 static volatile uint32_t answer;
 enum { EXTENTS = 1024, EXTENT = 48, RANGES = 1024, BLOCK = 512 };
@@ -23,7 +23,7 @@ static struct sc_epochs epochs;
 
 static uint32_t layoutreturn(const uint8_t *s, size_t len)
 {
-    return sc_record_layoutreturn(&record, 7, 1, s, len, reply, sizeof reply, read_bytes, 4, written_bytes, 4, &read_over, &written_over);
+    return sc_record_layoutreturn(&record, 7, 1, s, len, reply, sizeof reply, read_bytes, SC_PLACES, written_bytes, SC_PLACES, &read_over, &written_over);
 }
 
 static void nothing(void) { answer = 0; }
@@ -33,6 +33,9 @@ static void enter(void) { answer = sc_record_register(&record, 5, mirrors, sizeo
 static void open_file(void) { answer = sc_record_open(&record, 7, 9); }
 static void close_file(void) { answer = sc_record_close(&record, 7, 9); }
 static void forget(void) { answer = sc_record_forget(&record, 5); }
+static void add_proxy(void) { answer = sc_record_add_proxy(&record, 13, proxy, sizeof proxy); }
+static void add_mirror(void) { answer = sc_record_add_proxy(&record, 13, mirrors + 48, 16); }
+static void remove_proxy(void) { answer = sc_record_remove_proxy(&record, 13); }
 static void restart(void) { answer = sc_record_restart(&record); }
 static void reclaim(void) { answer = sc_record_reclaim(&record, 7, 1); }
 static void reports(void) { answer = layoutreturn(request, sizeof request); }
@@ -85,7 +88,9 @@ static void start(void) { sc_epochs_fresh(&epochs); sc_epochs_join(&epochs, 3); 
 
 /* in the order of a history */
 static const struct { const char *what; void (*call)(void); uint32_t answer; } calls[] = {
-    {"register", enter, 0}, {"open", open_file, 0}, {"close", close_file, 0}, {"forget", forget, 0}, {"restart", restart, 0},
+    {"register", enter, 0}, {"open", open_file, 0}, {"close", close_file, 0}, {"forget", forget, 0},
+    {"add proxy", add_proxy, 0}, {"add proxy, a mirror", add_mirror, SC_INVAL}, {"remove proxy", remove_proxy, 0}, {"remove proxy, none", remove_proxy, SC_NOENT},
+    {"restart", restart, 0},
     {"reclaim", reclaim, 0}, {"LAYOUTRETURN", reports, 0}, {"LAYOUTRETURN, handed on", handed_on, SC_HANDED_ON},
     {"end of grace", end_grace, 0}, {"resilver list", resilver, 0}, {"offered for copying", offered, 0},
     {"resilver list, lowest", resilver_by, 0}, {"offered, lowest", offered_by, 0}, {"resilver, no direction", resilver_by_none, SC_INVAL},
@@ -129,14 +134,17 @@ static void put32(uint8_t *p, uint32_t x)
         p[i] = (uint8_t)(x >> (24 - 8 * i));
 }
 
-/* files 7, 10, 13 .. with four mirrors each; seven clients have opened 7, one of them 10; a request with an error of mirror 1, and one for all files */
+/* files 7, 10, 13 .. with four mirrors each, 7 with a proxy too; seven clients have opened 7, one of them 10; a request with an error of mirror 1, and one
+ * for all files */
 static void prepare(void)
 {
     for (int i = 0; i < 4; i++)
         memset(mirrors + 16 * i, 0xaa + 0x11 * i, 16);
+    memset(proxy, 0x99, sizeof proxy);
     sc_record_fresh(&record);
     for (uint64_t k = 0; k < 62; k++)
         sc_record_register(&record, 7 + 3 * k, mirrors, sizeof mirrors);
+    sc_record_add_proxy(&record, 7, proxy, sizeof proxy);
     for (uint64_t c = 1; c < 8; c++)
         sc_record_open(&record, 7, c);
     sc_record_open(&record, 10, 1);
