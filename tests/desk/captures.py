@@ -1,12 +1,13 @@
 #!/usr/bin/env python3
 """Makes scripts for replay from the captures, with the output that the captures themselves call for.
 
-    captures.py NAME CAPTURE SCRIPT EXPECTED [lowest|highest]
+    captures.py NAME CAPTURE SCRIPT EXPECTED [lowest|highest|proxy]
 
 NAME is layout-bodies, linux-layoutcommit, layoutreturn-damaged, linux-layoutreturn or ganesha-epochs. What is expected comes from the columns
 that other programs wrote beside each input, never from replay or the second program. In this order: layout bodies; LAYOUTCOMMIT;
 LAYOUTRETURN requests, and the report that a request leaves on a file; the two LAYOUTRETURN captures; epochs; main.
-The lists are asked for with the lowest source by name; for `highest` no direction is asked for, which gives the highest.
+The lists are asked for with the lowest source by name; for `highest` no direction is asked for, which gives the highest. For `proxy` the file of each
+report has a proxy (Ticket 7): the last of the devices that it would have as mirrors otherwise, and a fifth beside all four.
 """
 import struct
 import sys
@@ -14,7 +15,9 @@ import sys
 FILE, OTHER_FILE, CLIENT, OTHER_CLIENT = 7, 8, 1, 2
 # The word that a list is asked for with, and which of the places that are not blamed is then its source (Ticket 11).
 WORD, FIRST = ("", max) if sys.argv[5:] == ["highest"] else (" lowest", min)
-LETTERS = ["a0" * 15 + "01", "b0" * 15 + "02", "c0" * 15 + "03", "d0" * 15 + "04"]
+PROXIES = sys.argv[5:] == ["proxy"]
+LETTERS = ["a0" * 15 + "01", "b0" * 15 + "02", "c0" * 15 + "03", "d0" * 15 + "04", "e0" * 15 + "05"]
+PLACES, PROXY = 5, 4
 
 
 def lines_of(path):
@@ -57,10 +60,16 @@ def said(status):
     return f"{status} {int(status):08x}"
 
 
-def source_after(mirrors, errors):
-    """The resilver list's entry once this report is accepted (01, step 7), or nothing."""
-    known = all(device in mirrors for device, _ in errors)
-    blamed = {mirrors.index(device) for device, status in errors if status != 0} if known else set()
+def places(mirrors, proxy):
+    """Each device of a file with its place: mirrors from 0, and the proxy, if there is one, at 4."""
+    return dict(zip(mirrors, range(len(mirrors)))) | ({proxy: PROXY} if proxy else {})
+
+
+def source_after(mirrors, proxy, errors):
+    """The resilver list's entry once this report is accepted (01, step 7), or nothing. A proxy is no source."""
+    place = places(mirrors, proxy)
+    known = all(device in place for device, _ in errors)
+    blamed = {place[device] for device, status in errors if status != 0} if known else set()
     if known and not blamed:
         return ""
     return f"{FILE}:{FIRST(set(range(len(mirrors))) - blamed, default=255)}"
@@ -70,7 +79,7 @@ def listing(entry):
     return f"0 1 {entry}" if entry else "0 0"
 
 
-NO_TOTALS = "0:0 0:0 0:0 0:0"
+NO_TOTALS = "0:0 0:0 0:0 0:0 0:0"
 
 
 def total(sums):
@@ -78,20 +87,26 @@ def total(sums):
     return f"{min(sums, 2**64 - 1)}{'!' if sums > 2**64 - 1 else ''}"
 
 
-def totals_after(mirrors, errors, statistics):
+def totals_after(mirrors, proxy, errors, statistics):
     """The totals once this report is accepted (Ticket 3)."""
-    if any(device not in mirrors for device, _ in errors):
+    place = places(mirrors, proxy)
+    if any(device not in place for device, _ in errors):
         return NO_TOTALS
-    by_place = [[sum(record[k] for record in statistics if record[0] == mirror) for k in (1, 2)] for mirror in mirrors]
-    by_place += [[0, 0]] * (4 - len(mirrors))
+    by_place = [[0, 0] for _ in range(PLACES)]
+    for device, *counts in statistics:
+        for k, count in enumerate(counts):
+            if device in place:
+                by_place[place[device]][k] += count
     return " ".join(f"{total(read)}:{total(written)}" for read, written in by_place)
 
 
-def report(mirrors, request, in_grace, errors, statistics):
-    """A file with these mirrors and the request in grace; in_grace is the answer of steps 1 to 5, `ok` where step 6 is reached."""
+def report(mirrors, proxy, request, in_grace, errors, statistics):
+    """A file with these mirrors, and a proxy if it is not None, and the request in grace; in_grace is the answer of steps 1 to 5, `ok` where step 6 is reached."""
     reached = in_grace == "ok"
     yield "fresh", "0"
     yield f"register {FILE} {''.join(mirrors)}", "0"
+    if proxy:
+        yield f"addproxy {FILE} {proxy}", "0"
     yield f"open {FILE} {CLIENT}", "0"
     yield "restart", "0"
     yield f"layoutreturn {OTHER_FILE} {CLIENT} 24 {request}", said("70" if reached else in_grace)
@@ -100,30 +115,38 @@ def report(mirrors, request, in_grace, errors, statistics):
     yield f"layoutreturn {FILE} {CLIENT} 23 {request}", "28"
     yield f"resilver 1 1{WORD}", "0 0"
     yield f"layoutreturn {FILE} {CLIENT} 24 {request}", said("0" if reached else in_grace)
-    yield "totals", totals_after(mirrors, errors, statistics) if reached else NO_TOTALS
+    yield "totals", totals_after(mirrors, proxy, errors, statistics) if reached else NO_TOTALS
     yield f"layoutreturn {FILE} {CLIENT} 23 {request}", "28"
     yield "totals", NO_TOTALS
-    entry = source_after(mirrors, errors) if reached else ""
+    entry = source_after(mirrors, proxy, errors) if reached else ""
     yield f"resilver 1 1{WORD}", listing(entry)
     yield f"offered 1 1{WORD}", "0 0"
     yield f"reclaim {FILE} {CLIENT}", "0"
     yield "end", "0"
     yield f"close {FILE} {CLIENT}", "0"
     yield f"offered 1 1{WORD}", listing(entry)
+    if proxy:
+        yield f"removeproxy {FILE}", "0"
+        yield f"offered 1 1{WORD}", listing(entry)
+
+
+def copies(devices):
+    """These devices as the mirrors and the proxy of a file: up to four mirrors, and a proxy or None."""
+    return (devices[:-1], devices[-1]) if PROXIES and len(devices) > 1 else (devices[:4], None)
 
 
 def layoutreturn(request, in_grace, out_of_grace, errors, statistics):
-    """One request out of grace, then in grace with the letters' mirrors, and with the first four devices that it names."""
+    """One request out of grace, then in grace with the letters' mirrors, and with the first four or, with a proxy, five devices that it names."""
     yield "fresh", "0"
     yield f"register {FILE} {LETTERS[0]}", "0"
     yield f"request {request}", asked(request, out_of_grace)
     yield f"layoutreturn {FILE} {CLIENT} 24 {request}", said(out_of_grace)
     yield "totals", NO_TOTALS
-    yield from report(LETTERS, request, in_grace, errors, statistics)
-    named = list(dict.fromkeys([device for device, _ in errors] + [device for device, _, _ in statistics]))[:4]
+    yield from report(*copies(LETTERS), request, in_grace, errors, statistics)
+    named = list(dict.fromkeys([device for device, _ in errors] + [device for device, _, _ in statistics]))[: PLACES if PROXIES else 4]
     if named:
-        yield from report(named, request, in_grace, errors, statistics)
-        yield from report(named[::-1], request, in_grace, errors, statistics)
+        yield from report(*copies(named), request, in_grace, errors, statistics)
+        yield from report(*copies(named[::-1]), request, in_grace, errors, statistics)
 
 
 def device_errors(column):

@@ -23,11 +23,14 @@ ANSWERS = {
     "close": "0 70 10025",
     "repaired": "0 70 22 10008",
     "forget": "0 10013 70 10008",
+    "addproxy": "0 10013 70 22 17",
+    "addproxy of no id": "10013 70 22",
+    "removeproxy": "0 10013 70 2",
     "end": "0 10033",
     "restart": "0",
     "layoutreturn": "handed 0 28 10036 10062 10049 10025 10013 10033 70 10034",
     "request": "handed refused:10036 refused:10062 refused:10049 anonymous bypass current invalid ordinary",
-    "totals": "zeros bytes full flagged",
+    "totals": "zeros bytes full flagged proxy:bytes proxy:full proxy:flagged",
     "resilver": SOURCES,
     "resilver lowest": SOURCES,
     "resilver highest": SOURCES,
@@ -59,6 +62,13 @@ def words_of(line):
     return line.replace(b"\t", b" ").replace(b"\r", b" ").split()
 
 
+def total_kinds(places):
+    """What the totals of these places are: all 0 or not, 2^64 - 1 and flagged."""
+    numbers = b" ".join(places).replace(b":", b" ").split()
+    kinds = {"zeros": set(numbers) == {b"0"}, "bytes": set(numbers) != {b"0"}, "full": b"18446744073709551615" in numbers, "flagged": b"18446744073709551615!" in numbers}
+    return [kind for kind, seen in kinds.items() if seen]
+
+
 def keys(command, words):
     """The answers that one output line shows."""
     if words[0] == b"?":
@@ -66,9 +76,8 @@ def keys(command, words):
     if command == "epochs":
         return [(command, "shown")]
     if command == "totals":
-        numbers = b" ".join(words).replace(b":", b" ").split()
-        kinds = {"zeros": set(numbers) == {b"0"}, "bytes": set(numbers) != {b"0"}, "full": b"18446744073709551615" in numbers, "flagged": b"18446744073709551615!" in numbers}
-        return [(command, kind) for kind, seen in kinds.items() if seen]
+        kinds = total_kinds(words) + [f"proxy:{kind}" for kind in total_kinds(words[4:]) if kind != "zeros"]
+        return [(command, kind) for kind in kinds]
     if words[0] == b"refused":
         return [(command, "refused:" + words[1].decode())]
     sources = [("source:" + word.split(b":")[1].decode()) for word in words[2:]] if command.startswith(LISTS) else []
@@ -83,7 +92,8 @@ def calls_of(script):
             yield b"too long"
         elif words and not words[0].startswith(b"#"):
             asked = words[1:] if words[0] == b"fresh" else words[3:] if words[0] in (b"resilver", b"offered") else []
-            yield b" ".join(words[:1] + asked)
+            no_id = words[0] == b"addproxy" and len(words) == 3 and len(words[2]) != 32
+            yield b" ".join(words[:1] + asked + [b"of no id"] * no_id)
 
 
 def directions(before, after):

@@ -51,7 +51,7 @@ expected() {
     fi
 }
 
-# captured NAME [highest]: a capture, whose lists are asked for the lowest by name, or not at all, which gives the highest.
+# captured NAME [highest|proxy]: a capture, whose lists are asked for the lowest by name, or not at all, which gives the highest; or whose files have a proxy.
 captured() {
     if python3 "$desk/captures.py" "$1" "$desk/../captures/$1.txt" "$work/script" "$work/expected" "${2:-lowest}"; then
         expected "$1${2:+, $2}" "$work/script" "$work/expected"
@@ -68,7 +68,7 @@ random() {
     part "random $1" "$(wc -l < "$work/replay") answers, the same from both"
 }
 
-for name in incident marked lines directions; do
+for name in incident marked lines directions proxies; do
     expected "$name" "$desk/$name.txt" "$desk/$name.expected"
 done
 for name in layout-bodies linux-layoutcommit layoutreturn-damaged linux-layoutreturn ganesha-epochs; do
@@ -76,6 +76,7 @@ for name in layout-bodies linux-layoutcommit layoutreturn-damaged linux-layoutre
 done
 for name in layoutreturn-damaged linux-layoutreturn; do
     captured "$name" highest
+    captured "$name" proxy
 done
 # pairs COUNT: so many histories with and without one more restart (Ticket 14), on both programs, and the two lists of each compared.
 pairs() {

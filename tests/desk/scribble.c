@@ -32,6 +32,29 @@ uint32_t __wrap_sc_record_register(struct sc_record *r, uint64_t file, const uin
     return answer;
 }
 
+uint32_t __real_sc_record_add_proxy(struct sc_record *, uint64_t, const uint8_t *, size_t);
+uint32_t __wrap_sc_record_add_proxy(struct sc_record *, uint64_t, const uint8_t *, size_t);
+uint32_t __wrap_sc_record_add_proxy(struct sc_record *r, uint64_t file, const uint8_t *device, size_t device_len)
+{
+    uint32_t answer = __real_sc_record_add_proxy(r, file, device, device_len);
+    if (device_len > 0)
+        scribble("proxy", device);
+    scribble("proxy-after", device + device_len);
+    scribble("proxy-before", device - 1);
+    scribble("proxy-record-after", r + 1);
+    return answer;
+}
+
+uint32_t __real_sc_record_remove_proxy(struct sc_record *, uint64_t);
+uint32_t __wrap_sc_record_remove_proxy(struct sc_record *, uint64_t);
+uint32_t __wrap_sc_record_remove_proxy(struct sc_record *r, uint64_t file)
+{
+    uint32_t answer = __real_sc_record_remove_proxy(r, file);
+    scribble("removed-record-after", r + 1);
+    scribble("removed-record-before", (uint8_t *)r - 1);
+    return answer;
+}
+
 uint32_t __real_sc_record_layoutreturn(struct sc_record *, uint64_t, uint64_t, const uint8_t *, size_t, uint8_t *, size_t, uint64_t *, size_t,
                                        uint64_t *, size_t, uint32_t *, uint32_t *);
 uint32_t __wrap_sc_record_layoutreturn(struct sc_record *, uint64_t, uint64_t, const uint8_t *, size_t, uint8_t *, size_t, uint64_t *, size_t,
@@ -44,7 +67,7 @@ uint32_t __wrap_sc_record_layoutreturn(struct sc_record *r, uint64_t file, uint6
                                                     written_len, read_over, written_over);
     scribble("totals-after", read + read_len);
     scribble("totals-before", (uint8_t *)written - 1);
-    scribble("totals-of-a-fifth", written + 4);
+    scribble("totals-of-a-sixth", written + SC_PLACES);
     scribble("flags-after", read_over + 1);
     if (answer != 0)
         scribble("totals-of-a-refusal", written_over);

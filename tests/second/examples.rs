@@ -5,6 +5,8 @@ use crate::{run_line, Desk, Edition};
 const A: &str = "a0a0a0a0a0a0a0a0a0a0a0a0a0a0a001";
 const B: &str = "b0b0b0b0b0b0b0b0b0b0b0b0b0b0b002";
 const C: &str = "c0c0c0c0c0c0c0c0c0c0c0c0c0c0c003";
+const D: &str = "d0d0d0d0d0d0d0d0d0d0d0d0d0d0d004";
+const E: &str = "e0e0e0e0e0e0e0e0e0e0e0e0e0e0e005";
 
 /// Runs the lines on a fresh desk and gives what the last one prints.
 fn last(lines: &[&str]) -> String {
@@ -156,12 +158,59 @@ fn statistics_of_a_report() {
     let records = [statistic(B, 5, 6), statistic(A, 1, u64::MAX), statistic(C, 9, 9), statistic(B, u64::MAX, 0)];
     let accepted = format!("0 {:08x}{:08x}{:032x}", 0, 1, 0);
     assert_eq!(and(&[&counted("00000000", &records)]), accepted);
-    assert_eq!(and(&[&counted("00000000", &records), "totals"]), "1:18446744073709551615 18446744073709551615!:6 0:0 0:0");
+    assert_eq!(and(&[&counted("00000000", &records), "totals"]), "1:18446744073709551615 18446744073709551615!:6 0:0 0:0 0:0");
     assert_eq!(and(&[&counted("00000000", &records), "resilver 1 1 lowest"]), "0 0");
     let stranger = format!("{:08x}{:016x}{:016x}{:032x}{:08x}{C}{:08x}{:08x}", 1, 0, 0, 0, 1, 0, 38);
-    assert_eq!(and(&[&counted(&stranger, &records), "totals"]), "0:0 0:0 0:0 0:0");
-    assert_eq!(and(&[&counted("00000000", &records), "layoutreturn 7 1 23 -", "totals"]), "0:0 0:0 0:0 0:0");
-    assert_eq!(and(&["totals"]), "0:0 0:0 0:0 0:0");
+    assert_eq!(and(&[&counted(&stranger, &records), "totals"]), "0:0 0:0 0:0 0:0 0:0");
+    assert_eq!(and(&[&counted("00000000", &records), "layoutreturn 7 1 23 -", "totals"]), "0:0 0:0 0:0 0:0 0:0");
+    assert_eq!(and(&["totals"]), "0:0 0:0 0:0 0:0 0:0");
+}
+
+/// Ticket 7: the refusals of both calls, in their order.
+#[test]
+fn adding_and_removing_a_proxy() {
+    let (add_a, add_c, add_d) = (format!("addproxy 7 {A}"), format!("addproxy 7 {C}"), format!("addproxy 7 {D}"));
+    let and = |more: &[&str]| last(&[&[registered().as_str()], more].concat());
+    let spare = format!("addproxy 7 {C}00");
+    assert_eq!(and(&[&add_c]), "0");
+    assert_eq!(and(&[&add_a]), "22");
+    assert_eq!(and(&[&spare]), "22");
+    assert_eq!(and(&["addproxy 7 -"]), "22");
+    assert_eq!(and(&["addproxy 8 -"]), "70");
+    assert_eq!(and(&[&add_c, &add_d]), "17");
+    for there in [add_a.as_str(), &add_c, &spare, "addproxy 7 -"] {
+        assert_eq!(and(&[&add_c, there]), "22");
+    }
+    assert_eq!(and(&["removeproxy 7"]), "2");
+    assert_eq!(and(&["removeproxy 8"]), "70");
+    assert_eq!(and(&[&add_c, "removeproxy 7"]), "0");
+    assert_eq!(and(&[&add_c, "removeproxy 7", "removeproxy 7"]), "2");
+    assert_eq!(and(&[&add_c, "removeproxy 7", &add_d]), "0");
+    assert_eq!(and(&["restart", "addproxy 8 -"]), "10013");
+    assert_eq!(and(&[&add_c, "restart", "removeproxy 8"]), "10013");
+    assert_eq!(and(&[&add_c, "restart", "end", "removeproxy 7"]), "0");
+    assert_eq!(and(&[&add_c, "forget 7", &registered(), "removeproxy 7"]), "2");
+    assert_eq!(last(&[&format!("register 7 {A}{B}{C}{D}"), &format!("addproxy 7 {E}")]), "0");
+    assert_eq!(last(&[&format!("register 7 {A}{B}{C}{D}{E}")]), "22");
+}
+
+/// Ticket 7: a proxy is named, blamed and counted like a mirror, at place 4, and is no source; removing it keeps the mark, repairing it keeps the proxy.
+#[test]
+fn a_proxy_in_a_report() {
+    let history = [&registered(), &format!("addproxy 7 {C}"), "open 7 1", "restart", "reclaim 7 1"];
+    let and = |more: &[&str]| last(&[&history, more].concat());
+    let (clean, of_c) = (report(C, 0), report(C, 5));
+    assert_eq!(and(&[&clean, "resilver 1 1"]), "0 0");
+    for (asked, source) in [("lowest", "0"), ("highest", "1")] {
+        assert_eq!(and(&[&of_c, &format!("resilver 1 1 {asked}")]), format!("0 1 7:{source}"));
+        assert_eq!(and(&[&report(A, 5), &report(B, 5), &format!("resilver 1 1 {asked}")]), "0 1 7:255");
+    }
+    assert_eq!(and(&[&of_c, "end", "close 7 1", "removeproxy 7", "resilver 1 1 lowest"]), "0 1 7:0");
+    assert_eq!(and(&[&of_c, "end", "close 7 1", "repaired 7", "resilver 1 1"]), "0 0");
+    assert_eq!(and(&[&of_c, "end", "close 7 1", "repaired 7", "removeproxy 7"]), "0");
+    assert_eq!(and(&[&report(D, 0), "resilver 1 1 lowest"]), "0 1 7:0");
+    let records = [statistic(C, 5, 6), statistic(A, 1, 2), statistic(D, 9, 9), statistic(C, u64::MAX, 1)];
+    assert_eq!(and(&[&counted("00000000", &records), "totals"]), "1:2 0:0 0:0 0:0 18446744073709551615!:7");
 }
 
 /// Ticket 2: one client's word does not stand for another's, and it keeps its own intent.

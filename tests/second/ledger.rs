@@ -7,9 +7,13 @@ use std::collections::{BTreeMap, BTreeSet};
 
 const MOST_FILES: usize = 64;
 const MOST_MIRRORS: usize = 4;
+/// Ticket 7: the place of a proxy, and how many places there are with it.
+const PROXY: usize = 4;
+const PLACES: usize = 5;
 const MOST_INTENTS: usize = 8;
 const NO_SOURCE: u8 = 255;
 
+const NOENT: u32 = 2;
 const EXIST: u32 = 17;
 const INVAL: u32 = 22;
 const NOSPC: u32 = 28;
@@ -21,6 +25,7 @@ const RECLAIM_BAD: u32 = 10_034;
 #[derive(Default)]
 struct Row {
     mirrors: Vec<Device>,
+    proxy: Option<Device>,
     intents: BTreeSet<u64>,
     reclaimed: BTreeSet<u64>,
     marked: bool,
@@ -32,7 +37,16 @@ impl Row {
         !self.intents.is_empty()
     }
 
-    /// Ticket 11: of the mirror places not blamed, the first by the direction.
+    /// Ticket 7: each device with its place, the mirrors from 0 and then the proxy.
+    fn copies(&self) -> impl Iterator<Item = (usize, &Device)> {
+        self.mirrors.iter().enumerate().chain(self.proxy.iter().map(|proxy| (PROXY, proxy)))
+    }
+
+    fn place_of(&self, device: &Device) -> Option<usize> {
+        self.copies().find(|(_, copy)| *copy == device).map(|(place, _)| place)
+    }
+
+    /// Ticket 11: of the mirror places not blamed, the first by the direction. A proxy is no source (Ticket 7).
     fn source(&self, direction: Direction) -> u8 {
         let left = (0..self.mirrors.len()).filter(|place| !self.blamed.contains(place));
         let place = match direction {
@@ -53,23 +67,22 @@ impl Row {
 
     /// Step 7 of LAYOUTRETURN, and the totals that go with it.
     fn take(&mut self, report: &Report) -> Totals {
-        let place_of = |device: &Device| self.mirrors.iter().position(|mirror| mirror == device);
-        if report.errors.iter().any(|(device, _)| place_of(device).is_none()) {
+        if report.errors.iter().any(|(device, _)| self.place_of(device).is_none()) {
             self.marked = true;
             return Totals::default();
         }
         for (device, _) in report.errors.iter().filter(|(_, status)| *status != 0) {
-            self.blamed.extend(place_of(device));
+            self.blamed.extend(self.place_of(device));
             self.marked = true;
         }
         self.count(report)
     }
 
-    /// Ticket 3: for each mirror the sums over its statistics records.
+    /// Ticket 3: for each mirror and the proxy the sums over its statistics records.
     fn count(&self, report: &Report) -> Totals {
         let mut totals = Totals::default();
-        for (place, mirror) in self.mirrors.iter().enumerate() {
-            for record in report.statistics.iter().filter(|record| record.device == *mirror) {
+        for (place, copy) in self.copies() {
+            for record in report.statistics.iter().filter(|record| record.device == *copy) {
                 totals[place].0 += u128::from(record.read);
                 totals[place].1 += u128::from(record.written);
             }
@@ -78,8 +91,8 @@ impl Row {
     }
 }
 
-/// By mirror place, all bytes that one request's statistics say were read and written.
-pub type Totals = [(u128, u128); MOST_MIRRORS];
+/// By place, all bytes that one request's statistics say were read and written.
+pub type Totals = [(u128, u128); PLACES];
 
 /// The mirror devices of a list that is not bad.
 fn mirror_list(bytes: &[u8]) -> Option<Vec<Device>> {
@@ -176,6 +189,26 @@ impl Ledger {
         let row = self.row(file)?;
         refuse_if(row.marked || row.is_open(), DELAY)?;
         self.rows.remove(&file);
+        Ok(())
+    }
+
+    /// Ticket 7.
+    pub fn add_proxy(&mut self, file: u64, device: &[u8]) -> Result<(), u32> {
+        self.not_in_grace()?;
+        let row = self.row(file)?;
+        let device: Device = device.try_into().map_err(|_| INVAL)?;
+        refuse_if(row.place_of(&device).is_some(), INVAL)?;
+        refuse_if(row.proxy.is_some(), EXIST)?;
+        row.proxy = Some(device);
+        Ok(())
+    }
+
+    /// Ticket 7: the proxy's blame goes with it, and the mark stays.
+    pub fn remove_proxy(&mut self, file: u64) -> Result<(), u32> {
+        self.not_in_grace()?;
+        let row = self.row(file)?;
+        row.proxy.take().ok_or(NOENT)?;
+        row.blamed.remove(&PROXY);
         Ok(())
     }
 

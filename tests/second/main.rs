@@ -54,6 +54,8 @@ impl Desk {
             ("close", [f, c]) => Some(answered(self.ledger.close(number(f)?, number(c)?))),
             ("repaired", [f]) => Some(answered(self.ledger.repaired(number(f)?))),
             ("forget", [f]) => Some(answered(self.ledger.forget(number(f)?))),
+            ("addproxy", [f, d]) => Some(answered(self.ledger.add_proxy(number(f)?, &bytes(d, MAX_REQUEST)?))),
+            ("removeproxy", [f]) => Some(answered(self.ledger.remove_proxy(number(f)?))),
             ("end", []) => Some(answered(self.ledger.end_of_grace())),
             ("restart", []) => Some(answered(self.ledger.restart())),
             ("layoutreturn", [f, c, r, q]) => {

@@ -28,13 +28,15 @@ type Done = io::Result<()>;
 const ONCE_MORE: &str = "# once more";
 
 /// How often each call of a walk is made.
-const WALK: [(u64, &str); 12] = [
+const WALK: [(u64, &str); 14] = [
     (9, "register"),
     (16, "open"),
     (11, "reclaim"),
     (11, "close"),
     (6, "repaired"),
     (6, "forget"),
+    (8, "addproxy"),
+    (5, "removeproxy"),
     (3, "end"),
     (3, "restart"),
     (20, "layoutreturn"),
@@ -116,6 +118,33 @@ impl<W: Write> Campaigns<W> {
         self.call(&format!("register {file} {mirrors}"))
     }
 
+    /// A file with the first so many devices as its mirrors and, if asked, the next one as its proxy, so that reports of the first few devices name it.
+    fn register_first(&mut self, pool: &Pool, file: u64, mirrors: usize, proxied: bool) -> Done {
+        self.call(&format!("register {file} {}", hex(&pool.devices[..mirrors].concat())))?;
+        if proxied {
+            self.call(&format!("addproxy {file} {}", hex(&pool.devices[mirrors])))?;
+        }
+        Ok(())
+    }
+
+    /// A proxy of any of the devices, now and then of bytes that are no device id.
+    fn add_proxy(&mut self, pool: &Pool, file: u64) -> Done {
+        let mut device = self.r.pick(&pool.devices).to_vec();
+        if self.r.percent(8) {
+            device.resize(self.r.pick(&[0, 1, 8, 15, 17, 24, 32, 64]), 0x33);
+        }
+        self.call(&format!("addproxy {file} {}", hex(&device)))
+    }
+
+    /// A proxy is added, or removed.
+    fn proxy_step(&mut self, pool: &Pool, file: u64) -> Done {
+        if self.r.percent(55) {
+            self.add_proxy(pool, file)
+        } else {
+            self.call(&format!("removeproxy {file}"))
+        }
+    }
+
     fn layoutreturn(&mut self, pool: &Pool, file: u64, client: u64) -> Done {
         let room = self.r.weighted(&[(90, 24), (2, 0), (1, 4), (3, 23), (2, 25), (1, 100)]);
         let request = hex(&request(&mut self.r, &pool.devices, 12));
@@ -153,8 +182,9 @@ impl<W: Write> Campaigns<W> {
         match self.r.weighted(&WALK) {
             "register" => self.register(pool, file),
             "layoutreturn" => self.layoutreturn(pool, file, client),
+            "addproxy" => self.add_proxy(pool, file),
             name @ ("open" | "reclaim" | "close") => self.call(&format!("{name} {file} {client}")),
-            name @ ("repaired" | "forget") => self.call(&format!("{name} {file}")),
+            name @ ("repaired" | "forget" | "removeproxy") => self.call(&format!("{name} {file}")),
             name @ ("resilver" | "offered") => self.listing(name, pool.files.len() as u64 / 2),
             "grace" => self.grace(pool),
             name => self.call(name),
@@ -315,8 +345,8 @@ impl<W: Write> Campaigns<W> {
         let pool = self.pool(3, 2, 5);
         self.fresh()?;
         for file in &pool.files {
-            let mirrors = hex(&pool.devices[..1 + self.r.size(4)].concat());
-            self.call(&format!("register {file} {mirrors}"))?;
+            let (mirrors, proxied) = (1 + self.r.size(4), self.r.percent(40));
+            self.register_first(&pool, *file, mirrors, proxied)?;
         }
         for _ in 0..3 {
             self.open_all(&pool)?;
@@ -335,13 +365,18 @@ impl<W: Write> Campaigns<W> {
         Ok(())
     }
 
-    /// Reports in one grace period on a file whose mirrors are all or nearly all of the devices, so that their statistics count.
+    /// Reports in one grace period on a file whose mirrors, with or without a proxy, are all or nearly all of the devices, so that their statistics count.
     fn counts(&mut self) -> Done {
-        let pool = self.pool(1, 1, 4);
+        let proxied = self.r.percent(50);
+        let devices = if proxied { 2 + self.r.size(4) } else { 4 };
+        let pool = self.pool(1, 1, devices);
         let (file, client) = (pool.files[0], pool.clients[0]);
         self.fresh()?;
-        let mirrors = hex(&pool.devices[..3 + self.r.size(2)].concat());
-        self.call(&format!("register {file} {mirrors}"))?;
+        let mirrors = if proxied { &pool.devices[1..] } else { &pool.devices[..3 + self.r.size(2)] };
+        self.call(&format!("register {file} {}", hex(&mirrors.concat())))?;
+        if proxied {
+            self.call(&format!("addproxy {file} {}", hex(&pool.devices[0])))?;
+        }
         self.call(&format!("open {file} {client}"))?;
         self.call("restart")?;
         for _ in 0..24 {
@@ -349,6 +384,54 @@ impl<W: Write> Campaigns<W> {
             self.call("totals")?;
         }
         self.listing("resilver", 1)
+    }
+
+    /// Proxies that come and go around three grace periods: added twice, of a mirror, of no device id; reported, blamed, and removed before the repair and
+    /// after it; repaired, and forgotten with their file.
+    fn proxies(&mut self) -> Done {
+        let pool = self.pool(3, 2, 6);
+        self.fresh()?;
+        for file in &pool.files {
+            let (mirrors, proxied) = (1 + self.r.size(4), self.r.percent(80));
+            self.register_first(&pool, *file, mirrors, proxied)?;
+        }
+        for _ in 0..3 {
+            self.open_all(&pool)?;
+            self.call("restart")?;
+            for _ in 0..self.r.below(10) {
+                let (file, client) = (self.r.pick(&pool.files), self.r.pick(&pool.clients));
+                self.layoutreturn(&pool, file, client)?;
+                self.listing("resilver", 2)?;
+                if self.r.percent(10) {
+                    self.proxy_step(&pool, file)?;
+                }
+            }
+            self.call("end")?;
+            for file in &pool.files {
+                self.after_grace(&pool, *file)?;
+            }
+        }
+        Ok(())
+    }
+
+    /// What follows grace for a file that may have a proxy: it is closed, mostly repaired, now and then forgotten and registered again, and between these
+    /// its proxy goes or another comes.
+    fn after_grace(&mut self, pool: &Pool, file: u64) -> Done {
+        for client in &pool.clients {
+            self.call(&format!("close {file} {client}"))?;
+        }
+        for name in ["repaired", "forget", "register"] {
+            for _ in 0..self.r.below(3) {
+                self.proxy_step(pool, file)?;
+            }
+            self.listings(3)?;
+            match name {
+                "register" => self.register(pool, file)?,
+                _ if self.r.percent(60) => self.call(&format!("{name} {file}"))?,
+                _ => {}
+            }
+        }
+        self.proxy_step(pool, file)
     }
 
     /// Every client opens every file, and now and then one closes it again.
@@ -372,8 +455,8 @@ impl<W: Write> Campaigns<W> {
         let fresh = self.fresh_line();
         self.raw(fresh.as_bytes())?;
         for file in &pool.files {
-            let mirrors = hex(&pool.devices[..1 + self.r.size(3)].concat());
-            self.call(&format!("register {file} {mirrors}"))?;
+            let (mirrors, proxied) = (1 + self.r.size(devices - 1), self.r.percent(40));
+            self.register_first(&pool, *file, mirrors, proxied)?;
         }
         self.open_all(&pool)?;
         for _ in 0..self.r.below(12) {
@@ -486,6 +569,8 @@ impl<W: Write> Campaigns<W> {
                 format!("register {file} {mirrors}"),
                 format!("open {file} {client}"),
                 format!("close {file} {client}"),
+                format!("addproxy {file} {}", hex(&pool.devices[1])),
+                format!("removeproxy {file}"),
                 format!("join {node}"),
                 format!("start {node}"),
                 "restart".to_string(),
@@ -530,7 +615,7 @@ impl<W: Write> Campaigns<W> {
     }
 
     pub fn run(mut self, calls: u64) -> Done {
-        const KINDS: [(u64, u32); 13] = [(30, 0), (12, 1), (10, 2), (6, 3), (50, 4), (10, 5), (18, 6), (10, 7), (24, 8), (60, 9), (12, 10), (18, 11), (30, 12)];
+        const KINDS: [(u64, u32); 14] = [(30, 0), (12, 1), (10, 2), (6, 3), (50, 4), (10, 5), (18, 6), (10, 7), (24, 8), (60, 9), (12, 10), (18, 11), (30, 12), (40, 13)];
         self.limits()?;
         while self.calls < calls {
             match self.r.weighted(&KINDS) {
@@ -546,7 +631,8 @@ impl<W: Write> Campaigns<W> {
                 9 => self.counts()?,
                 10 => self.requests()?,
                 11 => self.merges()?,
-                _ => self.commits()?,
+                12 => self.commits()?,
+                _ => self.proxies()?,
             }
         }
         self.out.flush()
