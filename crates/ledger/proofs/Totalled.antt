@@ -1,5 +1,5 @@
 -- The totals that a LAYOUTRETURN is answered with are the ledger's (Tickets 3 and 7). In this order: a file's report; the record's.
-use mathlib.Core.Path.{_≡_, refl, ap, ap₂, sym, _∙_}
+use mathlib.Core.Path.{_≡_, ap, ap₂, sym, _∙_}
 use mathlib.Core.List.{List, [], _∷_, _++_, map}
 use mathlib.Core.Bool.{Bool, cond}
 use Prim.Native.Nat.{ℕ}
