@@ -16,7 +16,7 @@ use Rattle.extents.specs.declared.Extent.{Extent}
 use Rattle.extents.specs.declared.Verdict.{Verdict}
 use Rattle.extents.specs.declared.Verdict.the-variants.{Accepted, Refused}
 use Rattle.layouts.specs.declared.kinds.Kind.the-variants.{Scsi}
-use Rattle.layouts.specs.Columns.{Even, even}
+use Rattle.layouts.specs.Columns.{Even, checkColumns}
 use Rattle.layouts.proofs.Stores.{sets-then}
 use Rattle.merging.proofs.Rules.{or-rest}
 use Rattle.committing.specs.Ranges.{rangeAt, rangesOf, malformed, uncommittable}
@@ -98,18 +98,8 @@ module _ (s : List ℕ) (block : ℕ) where
         e₄ ∙ ap (λ (l : List ℕ). sets l 4 (bytesOf new)) (e₂ ∙ ap (λ (l : List ℕ). sets l 0 (beBytes 4 k)) e₁)
         ∙ sets-then d 0 4 4 (beBytes 4 k) (bytesOf new) (length-bytes 4 k) refl
 
--- ---- the list's own refusals
-module _ (s : List ℕ) (block : ℕ) (devs offs lens stos sts : List ℕ) (room : ℕ) where
-  pub uneven : even Scsi (columnsOf devs offs lens stos sts) ≡ false → Refused 1 0 ≡ commitColumns s block devs offs lens stos sts room
-  unfolding commitColumns
-  uneven h = rw h
-
-  module _ (h : even Scsi (columnsOf devs offs lens stos sts) ≡ true) where
-    pub too-many : 1024 < length offs → Refused 2 0 ≡ commitColumns s block devs offs lens stos sts room
-    unfolding commitColumns
-    too-many g = rw (h, lt-ltb 1024 (length offs) g)
-
-    pub judged : length offs ≤ 1024 → (v : Verdict) → v ≡ verdict [] 0 (columnList devs offs lens stos sts)
-        → afterList v (commitList s block (columnList devs offs lens stos sts) room) ≡ commitColumns s block devs offs lens stos sts room
-    unfolding commitColumns
-    judged g v e = rw (h, le-ltb 1024 (length offs) g, e)
+-- ---- the list's own refusals, and then those
+pub judged : (s : List ℕ) (block : ℕ) (devs offs lens stos sts : List ℕ) (room : ℕ) (v : Verdict) → v ≡ checkColumns Scsi (columnsOf devs offs lens stos sts)
+    → afterList v (commitList s block (columnList devs offs lens stos sts) room) ≡ commitColumns s block devs offs lens stos sts room
+unfolding commitColumns
+judged s block devs offs lens stos sts room v e = ap (λ (u : Verdict). afterList u (commitList s block (columnList devs offs lens stos sts) room)) e

@@ -2,17 +2,15 @@
 -- in which the list's own refusals come first. The lent bytes afterwards are `mergedBy` of crate `joining`, of the list after the commit: on a refusal as they were.
 use Prim.Native.Nat.{ℕ}
 use mathlib.Core.List.{List, [], _∷_}
-use mathlib.Core.Bool.{not}
 use lib.ListN.{length}
 use lib.Dec.{ltb}
 use Rattle.statuses.specs.Rules.{Rule, _⇒_, decided}
-use Rattle.extents.specs.Extents.{verdict}
 use Rattle.extents.specs.declared.Extent.{Extent}
 use Rattle.extents.specs.declared.Verdict.{Verdict}
 use Rattle.extents.specs.declared.Verdict.the-variants.{Accepted, Refused}
 use Rattle.layouts.specs.declared.kinds.Kind.the-variants.{Scsi}
 use Rattle.layouts.specs.Layout.{bodySize}
-use Rattle.layouts.specs.Columns.{even}
+use Rattle.layouts.specs.Columns.{checkColumns}
 use Rattle.committing.specs.Ranges.{rangesOf, malformed, uncommittable}
 use Rattle.committing.specs.Commit.{committed}
 use Rattle.committing.specs.Bare.{isBare}
@@ -41,9 +39,4 @@ afterList (Refused rule place) v = Refused rule place
 
 -- uneven columns get 1 before all else; 2 above 1,024 extents; 3 to 7; then the above
 unfoldable pub commitColumns : List ℕ → ℕ → List ℕ → List ℕ → List ℕ → List ℕ → List ℕ → ℕ → Verdict
-commitColumns s block devs offs lens stos sts room =
-    firstRefusal
-    (not (even Scsi (columnsOf devs offs lens stos sts)) ⇒ 1
-    ∷ ltb 1024 (length offs) ⇒ 2
-    ∷ [])
-    (afterList (verdict [] 0 (columnList devs offs lens stos sts)) (commitList s block (columnList devs offs lens stos sts) room))
+commitColumns s block devs offs lens stos sts room = afterList (checkColumns Scsi (columnsOf devs offs lens stos sts)) (commitList s block (columnList devs offs lens stos sts) room)

@@ -87,13 +87,7 @@ pub fn commit(
     ensures stored { λ r. ⌜ now (d .exit) ≡ mergedBy r (committed (rangesOf (now (s .entry))) (columnList (now (devs .entry)) (now (offs .entry)) (now (lens .entry)) (now (stos .entry)) (now (sts .entry)))) (now (d .entry)) ⌝ }
 {
     let none = [0u32; 0];
-    if !layouts::columns::same_count(Kind::Scsi, devs, offs, &none, lens, stos, sts) {
-        return Verdict::Refused(1, 0);
-    }
-    if 1024 < offs.len() {
-        return Verdict::Refused(2, 0);
-    }
-    match layouts::columns::scan(devs, offs, &none, lens, stos, sts) {
+    match layouts::columns::check(Kind::Scsi, devs, offs, &none, lens, stos, sts) {
         Verdict::Refused(k, i) => Verdict::Refused(k, i),
         Verdict::Accepted(_) => apply(s, block, devs, offs, lens, stos, sts, d),
     }

@@ -1,6 +1,6 @@
 // Writing a layout body of either kind from a list of extents that is lent as columns: 16 bytes a device id, and a number each for offset, handle (in an
 // RDMA list only), length, storage offset and state. Paper 01, "Layout bodies", and Ticket 5: uneven columns get 1 before all else; then rules 2 to 7, then 8.
-// In this order: rule 1; rules 3 to 7; the stores of one extent, and of all; the writer.
+// In this order: rule 1; rules 3 to 7; the check; the stores of one extent, and of all; the writer.
 use crate::fields;
 use crate::kinds::Kind;
 use extents::Verdict;
@@ -12,7 +12,7 @@ ghost use lib.Seq.{sets};
 ghost use lib.Dec.{eqb};
 ghost use Rattle.extents.specs.Extents.{listFrom, verdict};
 ghost use Rattle.layouts.specs.Layout.{handleSize, bodySize, rowBytes, rowsBytes};
-ghost use Rattle.layouts.specs.Columns.{even, Even, handleCount, columnRow, columnList, Wrote};
+ghost use Rattle.layouts.specs.Columns.{even, Even, handleCount, columnRow, columnList, checkColumns, Wrote};
 
 // Whether there is a handle for each of n extents, or none in a SCSI list.
 fn handles_count(kind: Kind, handles: &[u32], n: usize) -> bool
@@ -37,23 +37,15 @@ pub fn same_count(
     ensures { λ r. ⌜ r ≡ even kind (record { devices = now (devices .entry); offsets = now (offsets .entry); handles = now (handles .entry); lengths = now (lengths .entry); storages = now (storages .entry); states = now (states .entry) }) ⌝ }
 {
     let n = offsets.len();
-    if lengths.len() != n {
-        return false;
-    }
-    if storages.len() != n {
-        return false;
-    }
-    if states.len() != n {
-        return false;
-    }
-    if !handles_count(kind, handles, n) {
-        return false;
-    }
-    devices.len() == 16 * n
+    lengths.len() == n
+        && storages.len() == n
+        && states.len() == n
+        && handles_count(kind, handles, n)
+        && devices.len() == 16 * n
 }
 
 // Rules 3 to 7 on the list, in one pass; they look at no device id and at no handle.
-pub fn scan(
+fn scan(
     devices: &[u8],
     offsets: &[u64],
     handles: &[u32],
@@ -79,6 +71,27 @@ pub fn scan(
         i += 1;
     }
     Verdict::Accepted(n)
+}
+
+// The check of the list: uneven columns get 1 before all else, then rules 2 to 7.
+pub fn check(
+    kind: Kind,
+    devices: &[u8],
+    offsets: &[u64],
+    handles: &[u32],
+    lengths: &[u64],
+    storages: &[u64],
+    states: &[u32],
+) -> Verdict
+    ensures { λ r. ⌜ r ≡ checkColumns kind (record { devices = now (devices .entry); offsets = now (offsets .entry); handles = now (handles .entry); lengths = now (lengths .entry); storages = now (storages .entry); states = now (states .entry) }) ⌝ }
+{
+    if !same_count(kind, devices, offsets, handles, lengths, storages, states) {
+        return Verdict::Refused(1, 0);
+    }
+    if 1024 < offsets.len() {
+        return Verdict::Refused(2, 0);
+    }
+    scan(devices, offsets, handles, lengths, storages, states)
 }
 
 // Stores the extent at place i; `h` is the size of a handle.
@@ -166,16 +179,9 @@ pub fn write(
 ) -> Verdict
     ensures { λ r. ⌜ Wrote kind (record { devices = now (devices .entry); offsets = now (offsets .entry); handles = now (handles .entry); lengths = now (lengths .entry); storages = now (storages .entry); states = now (states .entry) }) (now (d .entry)) r (now (d .exit)) ⌝ }
 {
-    if !same_count(kind, devices, offsets, handles, lengths, storages, states) {
-        return Verdict::Refused(1, 0);
-    }
-    let n = offsets.len();
-    if 1024 < n {
-        return Verdict::Refused(2, 0);
-    }
-    match scan(devices, offsets, handles, lengths, storages, states) {
+    match check(kind, devices, offsets, handles, lengths, storages, states) {
         Verdict::Refused(k, i) => Verdict::Refused(k, i),
-        Verdict::Accepted(_) => {
+        Verdict::Accepted(n) => {
             if d.len() < fields::body_size(kind, n) {
                 return Verdict::Refused(8, 0);
             }

@@ -1,6 +1,12 @@
 -- put_extent stores the fields by value.
+use Prim.Native.Nat.{_+_}
+use mathlib.Core.Path.{ap, _∙_}
+use mathlib.Core.Bool.{cond}
 use native.Mathlib.Omega.{arith}
 use lib.ListN.{take, drop}
+use lib.Seq.{sets}
+use Rattle.statuses.specs.Names.{Bytes}
+use Rattle.xdr.specs.Be.{beBytes}
 use Rattle.layouts.proofs.Stores.{device-length}
 use Rattle.layouts.proofs.Placed.{by-value}
 use borrow.Author.Needs.{needs}
@@ -37,7 +43,13 @@ same-length c = search needs
 returns : tie.Need-returns
 returns c =
     let a = c .before .before .before .before .before .before .before .before .before .before .before .before .before .before .before .before .before .before .before .before .before .before .args in
-    cc (by-value (a .bare) (a .d .now) (a .at) (take 16 (drop (a .from) (a .devices .now))) (a .n) (device-length (a .devices .now) (a .from) (omega arith)))
+    let device = take 16 (drop (a .from) (a .devices .now)) in
+    let offset = c .before .before .before .before .before .before .before .before .before .before .before .before .before .before .before .before .before .before .put64 .ensures in
+    let name = c .before .before .before .before .before .before .before .before .before .before .before .before .before .before .put-name .ensures ∙ ap (λ (l : Bytes). cond (a .bare) (sets (sets (sets l (a .at) (beBytes 8 0)) (a .at + 8) (beBytes 8 0)) (a .at + 32) (beBytes 8 0)) (sets l (a .at) device)) offset in
+    let size = c .before .before .before .before .before .before .before .before .before .before .put642 .ensures ∙ ap (λ (l : Bytes). sets l (a .at + 24) (beBytes 8 (a .n .len))) name in
+    let storage = c .before .before .before .before .before .before .put-storage .ensures ∙ ap (λ (l : Bytes). cond (a .bare) l (sets l (a .at + 32) (beBytes 8 (a .n .storage)))) size in
+    c .before .before .put32 .ensures ∙ ap (λ (l : Bytes). sets l (a .at + 40) (beBytes 4 (a .n .state))) storage
+    ∙ by-value (a .bare) (a .d .now) (a .at) device (a .n) (device-length (a .devices .now) (a .from) (omega arith))
 
 pub put-extent-spec : {M : Type 1} → statement M
 put-extent-spec =

@@ -1,6 +1,9 @@
 -- put_name: three zeros, or the device id.
-use mathlib.Core.Path.{_≡_}
-use mathlib.Core.Bool.{true, false}
+use Prim.Native.Nat.{_+_}
+use mathlib.Core.Path.{ap, _∙_}
+use lib.Seq.{sets}
+use Rattle.statuses.specs.Names.{Bytes}
+use Rattle.xdr.specs.Be.{beBytes}
 use borrow.Author.Needs.{needs}
 use Rattle.layouts.proofs.fields.put_name.Statement.{statement}
 use Rattle.layouts.proofs.fields.put_name.Tie as tie
@@ -28,16 +31,16 @@ same-length c = search needs
 
 returns : tie.Need-returns
 returns c =
-    let q : c .before .before .before .before .before .before .before .before .before .before .before .before .before .before .before .args .bare ≡ true = search in
-    rw q cc
+    let a = c .before .before .before .before .before .before .before .before .before .before .before .before .before .before .before .args in
+    rw (c .before .before .before .before .before .before .before .before .before .before .before .before .if1 .taken)
+    (c .before .before .put643 .ensures
+    ∙ ap (λ (l : Bytes). sets l (a .at + 32) (beBytes 8 0)) (c .before .before .before .before .before .before .put642 .ensures ∙ ap (λ (l : Bytes). sets l (a .at + 8) (beBytes 8 0)) (c .before .before .before .before .before .before .before .before .before .before .put64 .ensures)))
 
 same-length-2 : tie.Need-same-length-2
 same-length-2 c = search needs
 
 returns-2 : tie.Need-returns-2
-returns-2 c =
-    let q : c .before .before .before .before .before .before .before .args .bare ≡ false = search in
-    rw q (c .before .before .put-device .ensures)
+returns-2 c = rw (c .before .before .before .before .if1 .left) (c .before .before .put-device .ensures)
 
 pub put-name-spec : {M : Type 1} → statement M
 put-name-spec =

@@ -1,4 +1,4 @@
--- `view::count` meets its contract: a walk of its MIR, by hand. The number is read from its field, and the view is seen at exit as it was passed.
+-- `views::count` meets its contract: a walk of its MIR, by hand. The number is read from its field, and the view is seen at exit as it was passed.
 use mathlib.Core.Path.{refl}
 use Prim.Native.Nat.{_<_, _^_}
 use mathlib.Core.List.{[], _∷_}
@@ -30,13 +30,13 @@ use denote.Triple.Spec.{Meets, tripleOf}
 use denote.Triple.Table.{entered}
 use denote.Triple.Walked.{says, Stays, stay-none, walkOf, goes-none, Walks, ends-at, walked, walk-meets}
 use denote.Exit.{yes}
-use Rattle.layouts.specs.declared.view.View.{View}
-use Rattle.layouts.proofs.view.View as T
-use Rattle.layouts.proofs.view.View.Laws as T′
-use Rattle.layouts.proofs.view.count.Key.{name as #f}
-use Rattle.layouts.proofs.view.count as f
-use Rattle.layouts.proofs.view.count.Statement as stated
-use Rattle.layouts.proofs.view.count.Code as code
+use Rattle.views.specs.declared.View.{View}
+use Rattle.views.proofs.View as T
+use Rattle.views.proofs.View.Laws as T′
+use Rattle.views.proofs.count.Key.{name as #f}
+use Rattle.views.proofs.count as f
+use Rattle.views.proofs.count.Statement as stated
+use Rattle.views.proofs.count.Code as code
 
 -- the struct's type, over the signature's lifetimes
 abbrev B : Lfts 1 → RattleType

@@ -1,0 +1,2 @@
+-- View: the view, and what it answers.
+pub mod View
