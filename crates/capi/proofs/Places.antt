@@ -1,5 +1,4 @@
--- What is done at the place that is sought is what the definitions of crate recovery say of it, in this order: the place; a call on one file;
--- LAYOUTRETURN with its totals and its reply.
+-- What is done at the place that is sought is what the definitions of crate recovery say of it, in this order: the place; a call on one file.
 use mathlib.Core.Path.{_≡_, refl, sym, ap, _∙_}
 use mathlib.Core.List.{List}
 use mathlib.Core.Bool.{Bool, true, false}
@@ -11,14 +10,9 @@ use Rattle.places.specs.Places.{first, placeOr}
 use Rattle.files.specs.File.{noFile, isFile}
 use Rattle.files.specs.declared.file.File.{File}
 use Rattle.files.specs.declared.file.FileAnswered.{FileAnswered}
-use Rattle.layoutreturn.specs.LayoutReturn.{decisionOf, outcomeBy}
-use Rattle.layoutreturn.specs.declared.Decision.{Decision}
-use Rattle.layoutreturn.specs.declared.Decision.the-variants as decision
 use Rattle.places.specs.declared.Found.{Found}
 use Rattle.places.proofs.Loops.{Searching, searching, hit, miss, over}
 use Rattle.recovery.specs.Record.{placeIn, putFile, onPlace}
-use Rattle.recovery.specs.LayoutReturn.{layoutreturnOf}
-use Rattle.recovery.proofs.Returning.{Placed, returnedAt, returned-at}
 use Rattle.recovery.specs.declared.record.Record.{Record}
 use Rattle.recovery.specs.declared.record.Answered.{Answered}
 use Rattle.capi.specs.Place.{soughtIn}
@@ -47,13 +41,3 @@ at-sought n q r = putFile r (soughtIn n r) (q (getD (r .files) (soughtIn n r) no
 
 pub on-sought : (n : ℕ) (q : File → FileAnswered) (r : Record) → length (r .files) ≡ 64 → at-sought n q r ≡ onPlace n q r
 on-sought n q r h = ap (λ i. putFile r i (q (getD (r .files) i noFile))) (sought-place n r h)
-
--- ---- LAYOUTRETURN
-placed-anyway : (n : ℕ) (r : Record) (i : ℕ) (x : Decision) → i ≡ placeIn n r → Placed n r i x
-placed-anyway n r i (decision.Answered k) e = tt
-placed-anyway n r i decision.HandedOn e = tt
-placed-anyway n r i (decision.ReadBody len) e = e
-
-pub returned-so : (n c : ℕ) (s d : List ℕ) (r : Record) → length (r .files) ≡ 64
-    → returnedAt r (soughtIn n r) (outcomeBy n (r .head) c s (getD (r .files) (soughtIn n r) noFile) (decisionOf (r .head) s (length d))) ≡ layoutreturnOf n c s d r
-returned-so n c s d r h = returned-at n c s d r (soughtIn n r) (decisionOf (r .head) s (length d)) refl (placed-anyway n r (soughtIn n r) (decisionOf (r .head) s (length d)) (sought-place n r h))

@@ -6,6 +6,7 @@ use denote.Struct.Laws as LL
 use mathlib.Core.List.{[], _∷_}
 use Rattle.walks.proofs.Types.{Rec, Headed, Stored, stored-as}
 use Rattle.records.proofs.Listed as listed-by
+use Rattle.records.proofs.Parted.{Parting}
 use Rattle.mirroring.proofs.blame.Change as C
 use Rattle.mirroring.proofs.blame.Change.Laws as C′
 use Rattle.mirroring.proofs.totals.Totals as U
@@ -22,8 +23,10 @@ use Rattle.mirroring.proofs.source.Direction as E
 use Rattle.recovery.proofs.listing.Listing as L
 use Rattle.recovery.proofs.record.Record as T
 use Rattle.recovery.proofs.record.Record.Laws as T′
+use Rattle.capi.specs.declared.Begun.{Begun}
 use Rattle.capi.specs.declared.Verdict.{Verdict}
 use Rattle.capi.specs.declared.listing.Tally.{Tally}
+use Rattle.capi.proofs.Begun as G
 use Rattle.capi.proofs.Verdict as J
 use Rattle.capi.proofs.listing.Tally as N
 use Rattle.capi.proofs.listing.Tally.Laws as N′
@@ -52,6 +55,9 @@ outcome = record {
   laws = (LL.field-laws C.the-type C′.the-laws C′.lowers, (LL.field-laws U.the-type U′.the-laws U′.lowers, tt));
   plain = (LL.field-plain C.the-type C′.the-plain, (LL.field-plain U.the-type U′.the-plain, tt));
 }
+
+abbrev pub begun : Parting
+begun = record { name = G.the-type .name; D = Begun; wanted = λ b. b .wanted; status = λ b. b .status; len = λ b. b .len; one = G.the-type .to-one }
 
 abbrev pub entering : Headed heading
 entering = stored-as heading file file-answered

@@ -1,6 +1,7 @@
 // What a C server calls on a recovery record that it owns (paper 01, "The recovery record"): each call of the record, on the record where it
 // lies, with the promise of the method by value. A call on one file reads that file and what stands beside the files, and
-// changes both in their place; fresh, register, forget, restart and the end of grace move or change the files where they lie; the two lists read each file where it lies.
+// changes both in their place, and LAYOUTRETURN looks one up only where it is wanted; fresh, register, forget, restart and the end of grace move or change the files where they lie;
+// the two lists read each file where it lies.
 // A function that takes a reference has the form that the law of `walks` or `records` which proves it is stated for: each test is a function of values,
 // a loop is left by `break`, and a field is reached anew each time. First a file's place, then the functions by value that `recovery` and `files` lack,
 // then what changes more than one file, and the calls in the paper's order.
@@ -11,7 +12,9 @@ use files::file::File;
 use files::file::FileAnswered;
 use files::head::Edition;
 use files::head::Head;
+use layoutreturn::Decision;
 use layoutreturn::Outcome;
+use mirroring::totals::Totals;
 use recovery::record::Record;
 ghost use mathlib.Core.Path.{_≡_};
 ghost use mathlib.Core.Bool.{not};
@@ -20,6 +23,8 @@ ghost use Rattle.recovery.specs.Record.{freshAs, fresh, registerOf, openOf, rec
 ghost use Rattle.recovery.specs.LayoutReturn.{layoutreturnOf, replyAfter};
 ghost use Rattle.recovery.specs.declared.listing.Listing.the-variants.{Resilver, Offered};
 ghost use Rattle.layoutreturn.specs.LayoutReturn.{decisionOf, outcomeBy, replyBy};
+ghost use Rattle.layoutreturn.specs.declared.Decision.the-variants.{ReadBody};
+ghost use Rattle.mirroring.specs.Totals.{noTotals};
 ghost use Prim.Native.Nat.{_<_};
 ghost use lib.ListN.{length};
 ghost use Rattle.files.specs.declared.head.Edition.the-variants.{Current, Old};
@@ -28,6 +33,7 @@ ghost use Rattle.files.specs.Head.{freshHead};
 ghost use Rattle.capi.specs.Place.{isNumbered, soughtIn};
 ghost use Rattle.capi.specs.Asked.{listingBy};
 ghost use Rattle.capi.specs.Lent.{columnOf, maskOf};
+ghost use Rattle.capi.specs.LayoutReturn.{begunOf, returnedIn};
 ghost use Rattle.capi.specs.Whole.{restartVerdict, endVerdict, forgetVerdict, emptiedFile, eachFile, refusedWith, admittedOf, isVacantPlace, roomSought, isBelow, enteredFiles, pulledFiles};
 
 // ---- The place of a file.
@@ -53,11 +59,68 @@ fn position(r: &Record, file: u64) -> usize
 }
 
 // ---- By value.
-// LAYOUTRETURN on one file, but for the change, with its reply and its totals handed out.
+// What is known of a LAYOUTRETURN before any file is looked up: whether one is wanted; the status where none is; the bytes of the body where one is.
+struct Begun {
+    wanted: bool,
+    status: u32,
+    len: usize,
+}
+
+// The 28 for a short reply, and steps 1 to 4.
+fn begin(head: Head, request: &[u8], room: usize) -> Begun
+    ensures { λ b. ⌜ b ≡ begunOf (decisionOf head (now (request .entry)) room) ⌝ }
+{
+    match layoutreturn::decide(head, request, room) {
+        Decision::Answered(status) => Begun {
+            wanted: false,
+            status,
+            len: 0,
+        },
+        Decision::HandedOn => Begun {
+            wanted: false,
+            status: statuses::HANDED_ON,
+            len: 0,
+        },
+        Decision::ReadBody(len) => Begun {
+            wanted: true,
+            status: 0,
+            len,
+        },
+    }
+}
+
+// A LAYOUTRETURN for which no file is wanted: its reply, and no totals. It gets the arguments that the call on a file gets.
+fn without_file(
+    status: u32,
+    client: u64,
+    request: &[u8],
+    reply: &mut [u8],
+    read: &mut [u64],
+    written: &mut [u64],
+    read_over: &mut u32,
+    written_over: &mut u32,
+) -> u32
+    ensures { λ s. ⌜ (s ≡ status)
+        × (now (reply .exit) ≡ replyBy status (now (reply .entry)))
+        × (now (read .exit) ≡ columnOf (noTotals .read .bytes) (now (read .entry)))
+        × (now (written .exit) ≡ columnOf (noTotals .written .bytes) (now (written .entry)))
+        × (now («read_over» .exit) ≡ maskOf (noTotals .read .over))
+        × (now («written_over» .exit) ≡ maskOf (noTotals .written .over)) ⌝ }
+{
+    layoutreturn::reply(status, reply);
+    let t = Totals::none();
+    let none = t.read;
+    *read_over = totals::hand_out(none, read);
+    *written_over = totals::hand_out(none, written);
+    status
+}
+
+// LAYOUTRETURN on one file, but for the change, with its reply and its totals handed out: steps 5 to 7.
 fn answered(
     f: File,
     number: u64,
     head: Head,
+    len: usize,
     client: u64,
     request: &[u8],
     reply: &mut [u8],
@@ -66,14 +129,14 @@ fn answered(
     read_over: &mut u32,
     written_over: &mut u32,
 ) -> Outcome
-    ensures { λ o. ⌜ (o ≡ outcomeBy number head client (now (request .entry)) f (decisionOf head (now (request .entry)) (length (now (reply .entry)))))
+    ensures { λ o. ⌜ (o ≡ outcomeBy number head client (now (request .entry)) f (ReadBody len))
         × (now (reply .exit) ≡ replyBy (o .status) (now (reply .entry)))
         × (now (read .exit) ≡ columnOf (o .totals .read .bytes) (now (read .entry)))
         × (now (written .exit) ≡ columnOf (o .totals .written .bytes) (now (written .entry)))
         × (now («read_over» .exit) ≡ maskOf (o .totals .read .over))
         × (now («written_over» .exit) ≡ maskOf (o .totals .written .over)) ⌝ }
 {
-    let d = layoutreturn::decide(head, request, reply.len());
+    let d = Decision::ReadBody(len);
     let o = layoutreturn::answer(d, f, number, head, client, request, reply);
     let t = o.totals;
     let r = t.read;
@@ -428,6 +491,46 @@ pub extern "C" fn sc_record_restart(r: &mut Record) -> u32
     s.status
 }
 
+// LAYOUTRETURN for which a file is wanted, on that file's place: steps 5 to 7.
+fn with_file(
+    r: &mut Record,
+    file: u64,
+    len: usize,
+    client: u64,
+    request: &[u8],
+    reply: &mut [u8],
+    read: &mut [u64],
+    written: &mut [u64],
+    read_over: &mut u32,
+    written_over: &mut u32,
+) -> u32
+    ensures { λ s. ⌜ (s ≡ returnedIn file len client (now (request .entry)) (now (r .entry)) .status)
+        × (now (r .exit) ≡ returnedIn file len client (now (request .entry)) (now (r .entry)) .after)
+        × (now (reply .exit) ≡ replyBy s (now (reply .entry)))
+        × (now (read .exit) ≡ columnOf (returnedIn file len client (now (request .entry)) (now (r .entry)) .totals .read .bytes) (now (read .entry)))
+        × (now (written .exit) ≡ columnOf (returnedIn file len client (now (request .entry)) (now (r .entry)) .totals .written .bytes) (now (written .entry)))
+        × (now («read_over» .exit) ≡ maskOf (returnedIn file len client (now (request .entry)) (now (r .entry)) .totals .read .over))
+        × (now («written_over» .exit) ≡ maskOf (returnedIn file len client (now (request .entry)) (now (r .entry)) .totals .written .over)) ⌝ }
+{
+    let i = position(r, file);
+    let s = answered(
+        r.files[i],
+        file,
+        r.head,
+        len,
+        client,
+        request,
+        reply,
+        read,
+        written,
+        read_over,
+        written_over,
+    );
+    r.files[i] = layoutreturn::apply(r.files[i], s);
+    r.head = s.head;
+    s.status
+}
+
 // LAYOUTRETURN, with its totals in what the caller lends: place k of a slice gets mirror k's bytes, place 4 the proxy's, bit k of a mask says whether these passed
 // 2^64 - 1.
 // All four are written on every call, with zeros unless the answer is 0.
@@ -451,11 +554,23 @@ pub extern "C" fn sc_record_layoutreturn(
         × (now («read_over» .exit) ≡ maskOf (layoutreturnOf file client (now (request .entry)) (now (reply .entry)) (now (r .entry)) .totals .read .over))
         × (now («written_over» .exit) ≡ maskOf (layoutreturnOf file client (now (request .entry)) (now (reply .entry)) (now (r .entry)) .totals .written .over)) ⌝ }
 {
-    let i = position(r, file);
-    let s = answered(
-        r.files[i],
-        file,
-        r.head,
+    let b = begin(r.head, request, reply.len());
+    if b.wanted {
+        return with_file(
+            r,
+            file,
+            b.len,
+            client,
+            request,
+            reply,
+            read,
+            written,
+            read_over,
+            written_over,
+        );
+    }
+    without_file(
+        b.status,
         client,
         request,
         reply,
@@ -463,10 +578,7 @@ pub extern "C" fn sc_record_layoutreturn(
         written,
         read_over,
         written_over,
-    );
-    r.files[i] = layoutreturn::apply(r.files[i], s);
-    r.head = s.head;
-    s.status
+    )
 }
 
 // The two lists, by the number of a direction. There is a loop for each, so that the compiler makes the turns a part of it.

@@ -126,7 +126,16 @@ fn outcome_by(d: Decision, f: File, number: u64, head: Head, client: u64, reques
     }
 }
 
-// The outcome, with its reply: none is written where the request is handed on.
+// The reply of a status: none is written where the request is handed on.
+pub fn reply(status: u32, lent: &mut [u8])
+    ensures { λ _. ⌜ now (lent .exit) ≡ replyBy status (now (lent .entry)) ⌝ }
+{
+    if status != statuses::HANDED_ON {
+        wire::reply::write(lent, status);
+    }
+}
+
+// The outcome, with its reply.
 pub fn answer(
     d: Decision,
     f: File,
@@ -134,15 +143,12 @@ pub fn answer(
     head: Head,
     client: u64,
     request: &[u8],
-    reply: &mut [u8],
+    lent: &mut [u8],
 ) -> Outcome
-    ensures { λ r. ⌜ (r ≡ outcomeBy number head client (now (request .entry)) f d) × (now (reply .exit) ≡ replyBy (r .status) (now (reply .entry))) ⌝ }
+    ensures { λ r. ⌜ (r ≡ outcomeBy number head client (now (request .entry)) f d) × (now (lent .exit) ≡ replyBy (r .status) (now (lent .entry))) ⌝ }
 {
     let o = outcome_by(d, f, number, head, client, request);
-    if o.status == statuses::HANDED_ON {
-        return o;
-    }
-    wire::reply::write(reply, o.status);
+    reply(o.status, lent);
     o
 }
 

@@ -9,10 +9,12 @@
 --     Headed           f(r: &mut T) -> u32  { let s = g(r.head);  if s.status == 0 { h(r); }  r.head = s.head;  s.status }
 --     Passed           a CHANGE of crate walks' `Changed`:  if s.status == 0 { h(r, i, s); }
 --     Cleared          f(r: &mut T)  { h(r);  r.head = e(); }
+--     Parted           f(r: &mut T, key, args..) -> u32  { let d = b(r.head, shown..);  if d.wanted { return h(r, key, d.len, args..); }  e(d.status, args..) }, where h may be one of crate walks' `Changed`
 -- What these rest on, beside crate walks:
 --     Alone            a function whose one parameter is the record: its contract, and how its walk ends
 --     Placed           a function that is handed the record, a place and a struct: the same
 --     Within           the call of a function that is handed the record where it lies
+--     Shown            what is shown of the arguments to a function before they are handed on: numbers, `&[uW]`, and lengths
 --     Again            a slice that is lent again for a call, and comes back
 --     Lists            a field that is an array as a list; tests that are known
 pub mod Again
@@ -22,8 +24,10 @@ pub mod Each
 pub mod Headed
 pub mod Listed
 pub mod Lists
+pub mod Parted
 pub mod Passed
 pub mod Placed
 pub mod Pulled
 pub mod Raised
+pub mod Shown
 pub mod Within

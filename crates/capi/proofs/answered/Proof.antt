@@ -1,10 +1,7 @@
--- By what was decided, the outcome that `answer` gives of it, and what of it is handed out.
+-- The outcome that `answer` gives where the body is read, and what of it is handed out.
 use borrow.Author.Needs.{needs}
 use Rattle.capi.proofs.answered.Statement.{statement}
 use Rattle.capi.proofs.answered.Tie as tie
-
-decide-requires : tie.Need-decide-requires
-decide-requires c κs = search needs
 
 answer-requires : tie.Need-answer-requires
 answer-requires c κs = search needs
@@ -25,13 +22,12 @@ same-length-3 : tie.Need-same-length-3
 same-length-3 c = search needs
 
 returns : tie.Need-returns
-returns c = (rw (← c .before .before .before .before .before .before .before .before .before .before .before .before .before .before .before .decide .ensures) (c .before .before .before .before .before .before .before .before .before .before .before .before .before .answer .ensures .0), c .before .before .before .before .before .before .before .before .before .before .before .before .before .answer .ensures .1, c .before .before .before .before .before .before .hand-out .ensures .1, c .before .before .hand-out2 .ensures .1, c .before .before .before .before .before .before .hand-out .ensures .0, c .before .before .hand-out2 .ensures .0)
+returns c = (c .before .before .before .before .before .before .before .before .before .before .before .before .before .answer .ensures .0, c .before .before .before .before .before .before .before .before .before .before .before .before .before .answer .ensures .1, c .before .before .before .before .before .before .hand-out .ensures .1, c .before .before .hand-out2 .ensures .1, c .before .before .before .before .before .before .hand-out .ensures .0, c .before .before .hand-out2 .ensures .0)
 
 pub answered-spec : {M : Type 1} → statement M
 answered-spec =
     tie.close
     (tie.spec
-    decide-requires
     answer-requires
     hand-out-requires
     hand-out-requires-2

@@ -1,59 +1,71 @@
--- `sc_record_layoutreturn` meets its contract, by the law of one element of an array in a record over `answered` and `layoutreturn::apply`.
+-- `sc_record_layoutreturn` meets its contract, by the law of a call that is parted before the record is looked at, over `begin`, `with_file` and `without_file`.
 use mathlib.Core.Path.{_≡_, ap, _∙_}
 use mathlib.Core.List.{List, [], _∷_}
 use lib.ListN.{length}
 use mir.Syntax.{w8, w32, w64}
-use Rattle.walks.proofs.Args.{Arg, num, slice, slice-mut, ref-mut}
-use Rattle.walks.proofs.Changed.{spec}
-use Rattle.walks.proofs.Decided.{decided}
-use Rattle.files.specs.File.{noFile}
-use Rattle.layoutreturn.specs.LayoutReturn.{decisionOf, outcomeBy, replyBy, fileAfter}
-use Rattle.layoutreturn.specs.declared.Outcome.{Outcome}
-use Rattle.layoutreturn.proofs.apply.Symbol as h
-use Rattle.layoutreturn.proofs.apply.Met as h-thm
-use Rattle.recovery.specs.LayoutReturn.{layoutreturnOf, replyAfter}
+use Rattle.walks.proofs.Args.{num, slice-mut, ref-mut}
+use Rattle.records.proofs.Shown.{Show, kept, shared, long}
+use Rattle.records.proofs.Parted.{spec}
+use Rattle.mirroring.specs.Totals.{noTotals}
+use Rattle.layoutreturn.specs.LayoutReturn.{decisionOf, replyBy}
+use Rattle.recovery.specs.LayoutReturn.{returning, layoutreturnOf, replyAfter}
 use Rattle.recovery.specs.declared.returns.Returned.{Returned}
-use Rattle.recovery.proofs.Returning.{returnedAt}
-use Rattle.capi.specs.Place.{soughtIn}
 use Rattle.capi.specs.Lent.{columnOf, maskOf}
-use Rattle.capi.proofs.Types.{outcome}
+use Rattle.capi.specs.LayoutReturn.{begunOf, returnedIn}
+use Rattle.capi.proofs.Types.{begun}
 use Rattle.capi.proofs.Fields.{files, head, parts}
-use Rattle.capi.proofs.Places.{returned-so}
-use Rattle.capi.proofs.OnFile.{sought}
-use Rattle.capi.proofs.position.Symbol as p
-use Rattle.capi.proofs.position.Met as p-thm
-use Rattle.capi.proofs.answered.Symbol as g
-use Rattle.capi.proofs.answered.Met as g-thm
+use Rattle.capi.proofs.Parting.{wanted-so, unwanted-so}
+use Rattle.capi.proofs.begin.Symbol as b
+use Rattle.capi.proofs.begin.Met as b-thm
+use Rattle.capi.proofs.with_file.Symbol as h
+use Rattle.capi.proofs.with_file.Met as h-thm
+use Rattle.capi.proofs.without_file.Symbol as e
+use Rattle.capi.proofs.without_file.Met as e-thm
 use Rattle.capi.proofs.sc_record_layoutreturn.Key.{name as #f}
 use Rattle.capi.proofs.sc_record_layoutreturn.Statement as stated
 use Rattle.capi.proofs.sc_record_layoutreturn.Code as code
 
--- the arguments after the file's number: client, request, reply, both columns of totals and both masks
-abbrev args : List Arg
-args = num w64 ∷ slice w8 ∷ slice-mut w8 ∷ slice-mut w64 ∷ slice-mut w64 ∷ ref-mut w32 ∷ ref-mut w32 ∷ []
+-- the arguments after the file's number: client, request, reply, both columns of totals and both masks. `begin` is shown the request, and how long the reply is
+abbrev arguments : List Show
+arguments = kept (num w64) ∷ shared w8 ∷ long w8 ∷ kept (slice-mut w64) ∷ kept (slice-mut w64) ∷ kept (ref-mut w32) ∷ kept (ref-mut w32) ∷ []
 
 pub sc-record-layoutreturn-spec : {M : Type 1} → stated.statement M
 unfolding code.routine files head replyAfter
 sc-record-layoutreturn-spec 𝓤 H 𝓜 𝓖 𝓡 =
-    spec parts outcome args (decided parts outcome args fileAfter) w64 sought
-    (λ l i s o. (s ≡ outcomeBy (l .1 .0) (l .1 .1 .0) (i .0) (i .1 .0) (l .0) (decisionOf (l .1 .1 .0) (i .1 .0) (length (i .1 .1 .0)))) × (o .1 .1 .0 ≡ replyBy (s .status) (i .1 .1 .0))
-    × (o .1 .1 .1 .0 ≡ columnOf (s .totals .read .bytes) (i .1 .1 .1 .0)) × (o .1 .1 .1 .1 .0 ≡ columnOf (s .totals .written .bytes) (i .1 .1 .1 .1 .0))
-    × (o .1 .1 .1 .1 .1 .0 ≡ maskOf (s .totals .read .over)) × (o .1 .1 .1 .1 .1 .1 .0 ≡ maskOf (s .totals .written .over)))
+    spec parts begun arguments w64 (λ h i. begunOf (decisionOf h (i .0) (i .1 .0)))
+    (λ r n i s r′ o. (s ≡ returnedIn n (i .0) (i .1 .0) (i .1 .1 .0) r .status) × (r′ ≡ returnedIn n (i .0) (i .1 .0) (i .1 .1 .0) r .after) × (o .1 .1 .1 .0 ≡ replyBy s (i .1 .1 .1 .0))
+    × (o .1 .1 .1 .1 .0 ≡ columnOf (returnedIn n (i .0) (i .1 .0) (i .1 .1 .0) r .totals .read .bytes) (i .1 .1 .1 .1 .0))
+    × (o .1 .1 .1 .1 .1 .0 ≡ columnOf (returnedIn n (i .0) (i .1 .0) (i .1 .1 .0) r .totals .written .bytes) (i .1 .1 .1 .1 .1 .0))
+    × (o .1 .1 .1 .1 .1 .1 .0 ≡ maskOf (returnedIn n (i .0) (i .1 .0) (i .1 .1 .0) r .totals .read .over))
+    × (o .1 .1 .1 .1 .1 .1 .1 .0 ≡ maskOf (returnedIn n (i .0) (i .1 .0) (i .1 .1 .0) r .totals .written .over)))
+    (λ l i s o. (s ≡ l .0) × (o .1 .1 .0 ≡ replyBy (l .0) (i .1 .1 .0)) × (o .1 .1 .1 .0 ≡ columnOf (noTotals .read .bytes) (i .1 .1 .1 .0)) × (o .1 .1 .1 .1 .0 ≡ columnOf (noTotals .written .bytes) (i .1 .1 .1 .1 .0))
+    × (o .1 .1 .1 .1 .1 .0 ≡ maskOf (noTotals .read .over)) × (o .1 .1 .1 .1 .1 .1 .0 ≡ maskOf (noTotals .written .over)))
     (λ r n i s r′ o. (s ≡ layoutreturnOf n (i .0) (i .1 .0) (i .1 .1 .0) r .status) × (r′ ≡ layoutreturnOf n (i .0) (i .1 .0) (i .1 .1 .0) r .after) × (o .1 .1 .0 ≡ replyAfter n (i .0) (i .1 .0) (i .1 .1 .0) r)
     × (o .1 .1 .1 .0 ≡ columnOf (layoutreturnOf n (i .0) (i .1 .0) (i .1 .1 .0) r .totals .read .bytes) (i .1 .1 .1 .0))
     × (o .1 .1 .1 .1 .0 ≡ columnOf (layoutreturnOf n (i .0) (i .1 .0) (i .1 .1 .0) r .totals .written .bytes) (i .1 .1 .1 .1 .0))
     × (o .1 .1 .1 .1 .1 .0 ≡ maskOf (layoutreturnOf n (i .0) (i .1 .0) (i .1 .1 .0) r .totals .read .over))
     × (o .1 .1 .1 .1 .1 .1 .0 ≡ maskOf (layoutreturnOf n (i .0) (i .1 .0) (i .1 .1 .0) r .totals .written .over)))
-    (λ r n i s o long e.
-    let so : returnedAt r (soughtIn n r) s ≡ layoutreturnOf n (i .0) (i .1 .0) (i .1 .1 .0) r =
-    ap (returnedAt r (soughtIn n r)) (e .0) ∙ returned-so n (i .0) (i .1 .0) (i .1 .1 .0) r long in (
-      ap (λ (a : Returned). a .status) so,
-      ap (λ (a : Returned). a .after) so,
-      e .1 ∙ ap (λ (a : Returned). replyBy (a .status) (i .1 .1 .0)) so,
-      e .2 ∙ ap (λ (a : Returned). columnOf (a .totals .read .bytes) (i .1 .1 .1 .0)) so,
-      e .3 ∙ ap (λ (a : Returned). columnOf (a .totals .written .bytes) (i .1 .1 .1 .1 .0)) so,
-      e .4 ∙ ap (λ (a : Returned). maskOf (a .totals .read .over)) so,
-      e .5 ∙ ap (λ (a : Returned). maskOf (a .totals .written .over)) so,
-    ))
-    𝓤 H 𝓜 𝓖 𝓡 code.env #f (p.name, (g.name, (h.name, tt))) (p.routine, (g.routine, (h.routine, tt))) (code.calls-capi·position, (code.calls-capi·answered, (code.calls-layoutreturn·apply, tt))) (code.unfolded 𝓤 H 𝓜 𝓡)
-    (p-thm.met 𝓤 H 𝓜 𝓖 𝓡, (g-thm.met 𝓤 H 𝓜 𝓖 𝓡, (h-thm.met 𝓤 H 𝓜 𝓖 𝓡, tt)))
+    (record {
+      if-wanted = λ r n i y r′ o w p.
+          let so : returnedIn n (begunOf (decisionOf (r .head) (i .1 .0) (length (i .1 .1 .0))) .len) (i .0) (i .1 .0) r ≡ layoutreturnOf n (i .0) (i .1 .0) (i .1 .1 .0) r = wanted-so n (i .0) (i .1 .0) (i .1 .1 .0) r w in (
+            p .0 ∙ ap (λ (a : Returned). a .status) so,
+            p .1 ∙ ap (λ (a : Returned). a .after) so,
+            p .2 ∙ ap (λ k. replyBy k (i .1 .1 .0)) (p .0 ∙ ap (λ (a : Returned). a .status) so),
+            p .3 ∙ ap (λ (a : Returned). columnOf (a .totals .read .bytes) (i .1 .1 .1 .0)) so,
+            p .4 ∙ ap (λ (a : Returned). columnOf (a .totals .written .bytes) (i .1 .1 .1 .1 .0)) so,
+            p .5 ∙ ap (λ (a : Returned). maskOf (a .totals .read .over)) so,
+            p .6 ∙ ap (λ (a : Returned). maskOf (a .totals .written .over)) so,
+          );
+      if-not = λ r n i y o w p.
+          let so : returning (begunOf (decisionOf (r .head) (i .1 .0) (length (i .1 .1 .0))) .status) noTotals r ≡ layoutreturnOf n (i .0) (i .1 .0) (i .1 .1 .0) r = unwanted-so n (i .0) (i .1 .0) (i .1 .1 .0) r w in (
+            p .0 ∙ ap (λ (a : Returned). a .status) so,
+            ap (λ (a : Returned). a .after) so,
+            p .1 ∙ ap (λ (a : Returned). replyBy (a .status) (i .1 .1 .0)) so,
+            p .2 ∙ ap (λ (a : Returned). columnOf (a .totals .read .bytes) (i .1 .1 .1 .0)) so,
+            p .3 ∙ ap (λ (a : Returned). columnOf (a .totals .written .bytes) (i .1 .1 .1 .1 .0)) so,
+            p .4 ∙ ap (λ (a : Returned). maskOf (a .totals .read .over)) so,
+            p .5 ∙ ap (λ (a : Returned). maskOf (a .totals .written .over)) so,
+          );
+    })
+    𝓤 H 𝓜 𝓖 𝓡 code.env #f (b.name, (h.name, (e.name, tt))) (b.routine, (h.routine, (e.routine, tt))) (code.calls-capi·begin, (code.calls-capi·with-file, (code.calls-capi·without-file, tt))) (code.unfolded 𝓤 H 𝓜 𝓡)
+    (b-thm.met 𝓤 H 𝓜 𝓖 𝓡, (h-thm.met 𝓤 H 𝓜 𝓖 𝓡, (e-thm.met 𝓤 H 𝓜 𝓖 𝓡, tt)))

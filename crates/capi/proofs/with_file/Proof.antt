@@ -1,0 +1,56 @@
+-- `with_file` meets its contract, by the law of one element of an array in a record over `answered` and `layoutreturn::apply`.
+use mathlib.Core.Path.{_≡_, ap, _∙_}
+use mathlib.Core.List.{List, [], _∷_}
+use mir.Syntax.{w8, w32, w64}
+use Rattle.walks.proofs.Args.{Arg, num, slice, slice-mut, ref-mut}
+use Rattle.walks.proofs.Changed.{spec}
+use Rattle.walks.proofs.Decided.{decided}
+use Rattle.layoutreturn.specs.LayoutReturn.{outcomeBy, replyBy, fileAfter}
+use Rattle.layoutreturn.specs.declared.Decision.the-variants.{ReadBody}
+use Rattle.layoutreturn.proofs.apply.Symbol as h
+use Rattle.layoutreturn.proofs.apply.Met as h-thm
+use Rattle.recovery.specs.declared.returns.Returned.{Returned}
+use Rattle.recovery.proofs.Returning.{returnedAt}
+use Rattle.capi.specs.Place.{soughtIn}
+use Rattle.capi.specs.Lent.{columnOf, maskOf}
+use Rattle.capi.specs.LayoutReturn.{returnedIn}
+use Rattle.capi.proofs.Types.{outcome}
+use Rattle.capi.proofs.Fields.{files, head, parts}
+use Rattle.capi.proofs.Parting.{sought-so}
+use Rattle.capi.proofs.OnFile.{sought}
+use Rattle.capi.proofs.position.Symbol as p
+use Rattle.capi.proofs.position.Met as p-thm
+use Rattle.capi.proofs.answered.Symbol as g
+use Rattle.capi.proofs.answered.Met as g-thm
+use Rattle.capi.proofs.with_file.Key.{name as #f}
+use Rattle.capi.proofs.with_file.Statement as stated
+use Rattle.capi.proofs.with_file.Code as code
+
+-- the arguments after the file's number: the body's length, client, request, reply, both columns of totals and both masks
+abbrev args : List Arg
+args = num w64 ∷ num w64 ∷ slice w8 ∷ slice-mut w8 ∷ slice-mut w64 ∷ slice-mut w64 ∷ ref-mut w32 ∷ ref-mut w32 ∷ []
+
+pub with-file-spec : {M : Type 1} → stated.statement M
+unfolding code.routine files head
+with-file-spec 𝓤 H 𝓜 𝓖 𝓡 =
+    spec parts outcome args (decided parts outcome args fileAfter) w64 sought
+    (λ l i s o. (s ≡ outcomeBy (l .1 .0) (l .1 .1 .0) (i .1 .0) (i .1 .1 .0) (l .0) (ReadBody (i .0))) × (o .1 .1 .1 .0 ≡ replyBy (s .status) (i .1 .1 .1 .0))
+    × (o .1 .1 .1 .1 .0 ≡ columnOf (s .totals .read .bytes) (i .1 .1 .1 .1 .0)) × (o .1 .1 .1 .1 .1 .0 ≡ columnOf (s .totals .written .bytes) (i .1 .1 .1 .1 .1 .0))
+    × (o .1 .1 .1 .1 .1 .1 .0 ≡ maskOf (s .totals .read .over)) × (o .1 .1 .1 .1 .1 .1 .1 .0 ≡ maskOf (s .totals .written .over)))
+    (λ r n i s r′ o. (s ≡ returnedIn n (i .0) (i .1 .0) (i .1 .1 .0) r .status) × (r′ ≡ returnedIn n (i .0) (i .1 .0) (i .1 .1 .0) r .after) × (o .1 .1 .1 .0 ≡ replyBy s (i .1 .1 .1 .0))
+    × (o .1 .1 .1 .1 .0 ≡ columnOf (returnedIn n (i .0) (i .1 .0) (i .1 .1 .0) r .totals .read .bytes) (i .1 .1 .1 .1 .0))
+    × (o .1 .1 .1 .1 .1 .0 ≡ columnOf (returnedIn n (i .0) (i .1 .0) (i .1 .1 .0) r .totals .written .bytes) (i .1 .1 .1 .1 .1 .0))
+    × (o .1 .1 .1 .1 .1 .1 .0 ≡ maskOf (returnedIn n (i .0) (i .1 .0) (i .1 .1 .0) r .totals .read .over))
+    × (o .1 .1 .1 .1 .1 .1 .1 .0 ≡ maskOf (returnedIn n (i .0) (i .1 .0) (i .1 .1 .0) r .totals .written .over)))
+    (λ r n i s o long e.
+    let so : returnedAt r (soughtIn n r) s ≡ returnedIn n (i .0) (i .1 .0) (i .1 .1 .0) r = ap (returnedAt r (soughtIn n r)) (e .0) ∙ sought-so n (i .0) (i .1 .0) (i .1 .1 .0) r long in (
+      ap (λ (a : Returned). a .status) so,
+      ap (λ (a : Returned). a .after) so,
+      e .1,
+      e .2 ∙ ap (λ (a : Returned). columnOf (a .totals .read .bytes) (i .1 .1 .1 .1 .0)) so,
+      e .3 ∙ ap (λ (a : Returned). columnOf (a .totals .written .bytes) (i .1 .1 .1 .1 .1 .0)) so,
+      e .4 ∙ ap (λ (a : Returned). maskOf (a .totals .read .over)) so,
+      e .5 ∙ ap (λ (a : Returned). maskOf (a .totals .written .over)) so,
+    ))
+    𝓤 H 𝓜 𝓖 𝓡 code.env #f (p.name, (g.name, (h.name, tt))) (p.routine, (g.routine, (h.routine, tt))) (code.calls-capi·position, (code.calls-capi·answered, (code.calls-layoutreturn·apply, tt))) (code.unfolded 𝓤 H 𝓜 𝓡)
+    (p-thm.met 𝓤 H 𝓜 𝓖 𝓡, (g-thm.met 𝓤 H 𝓜 𝓖 𝓡, (h-thm.met 𝓤 H 𝓜 𝓖 𝓡, tt)))
