@@ -1,11 +1,12 @@
--- The sweep's turns over columns and a commit list. In this order: the ranges; that the sweep begins; what its calls ask; a turn with a piece, and without; that it ends.
+-- The sweep's turns over columns and a commit list. In this order: the ranges; that the sweep begins; that it ends; what its calls ask; a turn with a piece, and without.
 use Prim.Native.Nat.{ℕ, _+_, _-_, _*_, _^_, _<_, _≤_}
 use mathlib.Core.Path.{_≡_, refl, sym, ap, _∙_}
 use mathlib.Core.List.{List, []}
 use mathlib.Core.Logic.{_⊎_, inl, inr}
 use mathlib.Core.Bool.{Bool, true, false, cond, _||_}
 use native.Mathlib.Omega.{arith}
-use lib.ListN.{length, getD, set}
+use native.Mathlib.Decide.{decLt}
+use lib.ListN.{length}
 use lib.Seq.{sets}
 use Rattle.extents.specs.Extents.{listFrom}
 use Rattle.extents.specs.declared.Extent.{Extent}
@@ -16,16 +17,13 @@ use Rattle.committing.specs.Bare.{isBare}
 use Rattle.committing.specs.Seek.{Spread}
 use Rattle.committing.proofs.Places.{all-at, pair-at}
 use Rattle.committing.proofs.Ranges.{all-passed, ordered-apart}
-use Rattle.joining.specs.Joiner.{bytesOf, longerRun, startedRun, Runs, noRuns, zeroRun, placeOf, joinsRun, nextRun, nextCount, fed, storedLonger, storedStart, wrote, Ready}
+use Rattle.joining.specs.Joiner.{bytesOf, Runs, noRuns, fed, wrote, Ready}
 use Rattle.joining.specs.Merge.{rowOf, columnList}
 use Rattle.joining.specs.declared.joiner.Piece.{Piece}
-use Rattle.joining.specs.declared.joiner.Run.{Run}
 use Rattle.joining.proofs.Loops.{length-wrote}
-use Rattle.joining.proofs.Pieces.{longer-forward, fed-longer, fed-started, wrote-longer, wrote-started}
-use Rattle.commits.specs.Spot.{rangeBegin, rangeEnd, always, numberIn, marksIn, Tops, Settled, hereOf, bareOf, turnOf, movedTo, goingOn}
+use Rattle.commits.specs.Spot.{rangeBegin, rangeEnd, always, numberIn, marksIn, Tops, Spotted, Settled, turnOf, movedTo}
 use Rattle.commits.specs.Pieces.{Orderly, Asked, pieceOf}
 use Rattle.commits.specs.declared.spot.Spot.{Spot}
-use Rattle.commits.specs.declared.spot.Here.{Here}
 use Rattle.commits.specs.declared.spot.Turn.{Turn}
 use Rattle.commits.proofs.Chosen.{sound-at}
 use Rattle.commits.proofs.Pieces.{Fit}
@@ -51,7 +49,11 @@ module _ (g : ℕ → Range) (m : ℕ) (o : Orderly (listFrom g m 0)) where
 -- what holds at each turn
 abbrev pub Turning : List ℕ → ℕ → List ℕ → List ℕ → List ℕ → List ℕ → List ℕ → Bool → List ℕ → Spot → Runs → List ℕ → Bool → Type 0
 Turning s m devs offs lens stos sts write d₀ p r d bare =
-    swept.Swept devs (rowOf devs offs lens stos sts) (length offs) (rangeAt s) m write d₀ p r d bare
+    swept.Stands devs (rowOf devs offs lens stos sts) (length offs) (rangeAt s) m write d₀ p r d bare
+
+kept-length : (devs offs lens stos sts : List ℕ) (n : ℕ) (r : Runs) (u : Piece) (d d′ : List ℕ) (write : Bool) → d′ ≡ cond write (wrote devs r d u) d → length d′ ≡ length d
+kept-length devs offs lens stos sts n r u d d′ true e = ap length e ∙ length-wrote devs offs lens stos sts n r d u
+kept-length devs offs lens stos sts n r u d d′ false e = ap length e
 
 module _ (s : List ℕ) (m : ℕ) (devs offs lens stos sts : List ℕ) (h : Asked s m devs offs lens stos sts) where
   abbrev f : ℕ → Extent
@@ -81,82 +83,88 @@ module _ (s : List ℕ) (m : ℕ) (devs offs lens stos sts : List ℕ) (h : Aske
   whole : 16 * n ≤ length devs
   whole = omega (arith, h .columns-even .all-devices)
 
-  -- ---- it begins
-  pub turns-begin : (write : Bool) (d : List ℕ) → Turning s m devs offs lens stos sts write d (record { at = 0; other = 0; invalid = 0; range = 0; again = false }) noRuns d false
-  turns-begin write d = swept.begins devs f n g m (λ i. refl) valid spread whole (h .few-rows) (h .few-ranges) write d
+  first-ends : 0 < m → 0 < rangeEnd g 0
+  first-ends l = omega (arith, spread .some 0 l refl)
 
   pub tops : Tops (marksIn offs lens sts s m)
   tops = record { of-rows = λ a l. sound-at f n valid a l .in-file; of-ranges = top }
 
-  module _ {write : Bool} {d₀ : List ℕ} {p : Spot} {r : Runs} {d : List ℕ} {bare : Bool} (w : Turning s m devs offs lens stos sts write d₀ p r d bare) (q : Spot) (e : Settled (marksIn offs lens sts s m) p q) where
+  -- ---- it begins
+  pub begin-asks : ((length lens ≡ length offs) × (length sts ≡ length offs) × (length s ≡ 4 + 16 * m) × (m ≤ 1024)) × (Tops (marksIn offs lens sts s m) × (0 < m → 0 < rangeEnd g 0))
+  begin-asks = ((h .columns-even .all-lengths, h .columns-even .all-states, h .list-whole, h .few-ranges), (tops, first-ends))
+
+  pub turns-begin : (write : Bool) (d : List ℕ) (p : Spot) → Spotted (marksIn offs lens sts s m) p × (p .at ≡ 0) × (p .again ≡ false) → Turning s m devs offs lens stos sts write d p noRuns d false
+  turns-begin write d p e = swept.begins devs f n g m (λ i. refl) valid spread whole (h .few-rows) (h .few-ranges) write d p e
+
+  module _ {write : Bool} {d₀ : List ℕ} {p : Spot} {r : Runs} {d : List ℕ} {bare : Bool} (w : Turning s m devs offs lens stos sts write d₀ p r d bare) where
     -- ---- it ends
-    pub turns-end : (write ≡ true → 4 + 44 * length (committed rs es) ≤ length d₀) → goingOn n m q ≡ false → (r .count ≡ length (committed rs es)) × (bare ≡ isBare rs es) × (d ≡ cond write (sets d₀ 4 (bytesOf (committed rs es))) d₀)
-    turns-end = swept.ended devs f n g m (λ i. refl) valid spread whole (h .few-rows) (h .few-ranges) top w q e
+    pub turns-end : (write ≡ true → 4 + 44 * length (committed rs es) ≤ length d₀) → p .at ≡ 2 ^ 64 - 1 → (r .count ≡ length (committed rs es)) × (bare ≡ isBare rs es) × (d ≡ cond write (sets d₀ 4 (bytesOf (committed rs es))) d₀)
+    turns-end = swept.ended devs f n g m (λ i. refl) valid spread whole (h .few-rows) (h .few-ranges) top w
 
     -- ---- a turn
-    module _ (go : goingOn n m q ≡ true) (here : Here) (eh : here ≡ hereOf (marksIn offs lens sts s m) q) (t : Turn) (et : t ≡ turnOf q here) where
-      abbrev piece : Piece
-      piece = pieceOf (numberIn offs) (numberIn stos) (t .row) (t .state) (q .at) (here .upto)
-
-      piece-fits : t .live ≡ true → Fit f n piece
-      piece-fits = swept.piece-fits devs f n g m (λ i. refl) valid spread whole (h .few-rows) (h .few-ranges) top w q e go here eh t et
-
-      next-is : q .at < here .upto
-      next-is = swept.next-is devs f n g m (λ i. refl) valid spread whole (h .few-rows) (h .few-ranges) top w q e go here eh t et .0
-
-      pub piece-asks : t .live ≡ true
-          → ((t .row < length offs) × (t .row < length stos) × (numberIn offs (t .row) ≤ q .at) × (q .at ≤ here .upto))
-          × ((t .state ≡ 3 → ⊥) → numberIn stos (t .row) + (q .at - numberIn offs (t .row)) < 2 ^ 64)
-      piece-asks z =
-          let u = piece-fits z in
-          ((u .row-there, omega (arith, u .row-there, h .columns-even .all-storages), u .starts, omega (arith, next-is)), λ o. by (u .starts) (u .ends) (u .in-storage) o)
+    module _ (other : p .at ≡ 2 ^ 64 - 1 → ⊥) where
+      below : p .at < 2 ^ 64 - 1
+      below = by (decLt (p .at) (2 ^ 64 - 1))
         where
-          by : f (t .row) .offset ≤ q .at → q .at + (here .upto - q .at) ≤ f (t .row) .offset + f (t .row) .len → (t .state ≡ 3) ⊎ (f (t .row) .storage + f (t .row) .len < 2 ^ 64) → (t .state ≡ 3 → ⊥)
-              → f (t .row) .storage + (q .at - f (t .row) .offset) < 2 ^ 64
-          by a b (inl c) o = absurd (o c)
-          by a b (inr c) o = omega (arith, next-is)
+          by : Dec (p .at < 2 ^ 64 - 1) → p .at < 2 ^ 64 - 1
+          by (yes l) = l
+          by (no l) = absurd (other (omega (arith, w .swept .inside)))
 
-      pub piece-feeds : t .live ≡ true → (u : Piece) → u ≡ piece → Ready devs r u
-      piece-feeds z u eu = rw eu (swept.piece-feeds devs f n g m (λ i. refl) valid spread whole (h .few-rows) (h .few-ranges) top w q e go here eh t et z)
+      pub turn-asks : (p .other .lo ≤ p .at → p .other .place < length sts) × (p .again ≡ true → p .at < p .range .lo)
+      turn-asks =
+          let u = swept.turn-asks devs f n g m (λ i. refl) valid spread whole (h .few-rows) (h .few-ranges) top w below in
+          (λ l. omega (arith, u .0 l, h .columns-even .all-states), u .1)
 
-      module _ (p′ : Spot) (ep : p′ ≡ movedTo q (here .upto) (t .again)) (bare′ : Bool) (eb : bare′ ≡ (bare || bareOf here)) where
-        pub turns-on : t .live ≡ true → (u : Piece) → u ≡ piece → (r′ : Runs) → r′ ≡ fed devs r u → (d′ : List ℕ) → d′ ≡ cond write (wrote devs r d u) d → length d′ ≡ length d → Turning s m devs offs lens stos sts write d₀ p′ r′ d′ bare′
-        turns-on z u eu r′ er d′ ed el =
-            swept.after-piece devs f n g m (λ i. refl) valid spread whole (h .few-rows) (h .few-ranges) top w q e go here eh t et p′ ep bare′ eb z r′ (er ∙ ap (fed devs r) eu) d′ (ed ∙ ap (λ (v : Piece). cond write (wrote devs r d v) d) eu) el
+      module _ (t : Turn) (et : t ≡ turnOf (numberIn sts) p) where
+        abbrev part : Piece
+        part = pieceOf (t .row) (numberIn offs (t .row)) (numberIn stos (t .row)) (t .state) (p .at) (t .upto)
 
-        pub turns-over : t .live ≡ false → Turning s m devs offs lens stos sts write d₀ p′ r d bare′
-        turns-over z = swept.after-none devs f n g m (λ i. refl) valid spread whole (h .few-rows) (h .few-ranges) top w q e go here eh t et p′ ep bare′ eb z
+        later : (p .at < t .upto) × (t .upto < 2 ^ 64)
+        later = swept.later devs f n g m (λ i. refl) valid spread whole (h .few-rows) (h .few-ranges) top w below t et
 
-        pub turns-fewer : swept.turnsLeft p′ < swept.turnsLeft p
-        turns-fewer = swept.fewer devs f n g m (λ i. refl) valid spread whole (h .few-rows) (h .few-ranges) top w q e go here eh t et p′ ep bare′ eb
+        pub move-asks : ((length lens ≡ length offs) × (length sts ≡ length offs) × (length offs ≤ 1024) × (length s ≡ 4 + 16 * m) × (m ≤ 1024))
+            × (Tops (marksIn offs lens sts s m) × (Spotted (marksIn offs lens sts s m) p × ((p .at ≤ t .upto) × (p .range .place + 1 < m → t .upto < rangeEnd g (p .range .place + 1)))))
+        move-asks = (
+          (h .columns-even .all-lengths, h .columns-even .all-states, h .few-rows, h .list-whole, h .few-ranges),
+          (tops, (w .spotted, (omega (arith, later .0), swept.range-left devs f n g m (λ i. refl) valid spread whole (h .few-rows) (h .few-ranges) top w below t et))),
+        )
 
--- ---- one more piece: what the code has in hand of its run is the joiner's
-module _ (devs : List ℕ) (r : Runs) (u : Piece) (h : Ready devs r u) (k : ℕ) (q : k ≡ placeOf (u .state)) (more : Bool) (t : more ≡ joinsRun devs (getD (r .latest) k zeroRun) u)
-    (next : Run) (e : next ≡ nextRun (getD (r .latest) k zeroRun) u (r .count) more) where
-  abbrev o : Run
-  o = getD (r .latest) k zeroRun
+        begins-there : t .live ≡ true → t .lo ≡ numberIn offs (t .row)
+        begins-there = swept.row-begins devs f n g m (λ i. refl) valid spread whole (h .few-rows) (h .few-ranges) top w below t et
 
-  pub run-forward : next .offset ≤ next .end
-  run-forward = by more t e
-    where
-      by : (b : Bool) → b ≡ joinsRun devs o u → next ≡ nextRun o u (r .count) b → next .offset ≤ next .end
-      by true m z = rw z (longer-forward devs r u k q h (sym m))
-      by false m z = rw z (omega arith)
+        part-fits : t .live ≡ true → Fit f n part
+        part-fits = swept.piece-fits devs f n g m (λ i. refl) valid spread whole (h .few-rows) (h .few-ranges) top w below t et
 
-  pub fed-by : (n : ℕ) → n ≡ nextCount (r .count) more → record { count = n; latest = set (r .latest) k next } ≡ fed devs r u
-  fed-by n c = by more t e c
-    where
-      by : (b : Bool) → b ≡ joinsRun devs o u → next ≡ nextRun o u (r .count) b → n ≡ nextCount (r .count) b → record { count = n; latest = set (r .latest) k next } ≡ fed devs r u
-      by true m z w = rw w (fed-longer devs r u k q (sym m) next z)
-      by false m z w = rw w (fed-started devs r u k q (sym m) next z)
+        pub piece-asks : t .live ≡ true → ((t .row < length stos) × (t .lo ≤ p .at) × (p .at ≤ t .upto)) × ((t .state ≡ 3 → ⊥) → numberIn stos (t .row) + (p .at - t .lo) < 2 ^ 64)
+        piece-asks z =
+            let u = part-fits z in
+            ((omega (arith, u .row-there, h .columns-even .all-storages), omega (arith, u .starts, begins-there z), omega (arith, later .0)), λ o. rw (begins-there z) (by (u .starts) (u .ends) (u .in-storage) o))
+          where
+            by : f (t .row) .offset ≤ p .at → p .at + (t .upto - p .at) ≤ f (t .row) .offset + f (t .row) .len → (t .state ≡ 3) ⊎ (f (t .row) .storage + f (t .row) .len < 2 ^ 64) → (t .state ≡ 3 → ⊥)
+                → f (t .row) .storage + (p .at - f (t .row) .offset) < 2 ^ 64
+            by a b (inl c) o = absurd (o c)
+            by a b (inr c) o = omega (arith, later .0)
 
-  pub stored-by : (d d′ : List ℕ) (write : Bool) → d′ ≡ cond write (cond more (storedLonger next d) (storedStart devs (next .slot) u d)) d → d′ ≡ cond write (wrote devs r d u) d
-  stored-by d d′ write w = w ∙ ap (λ (l : List ℕ). cond write l d) (by more t e)
-    where
-      by : (b : Bool) → b ≡ joinsRun devs o u → next ≡ nextRun o u (r .count) b → cond b (storedLonger next d) (storedStart devs (next .slot) u d) ≡ wrote devs r d u
-      by true m z = wrote-longer devs r u k q (sym m) next z d
-      by false m z = ap (λ (x : Run). storedStart devs (x .slot) u d) z ∙ wrote-started devs r u k q (sym m) d
+        -- the piece that the code makes of the turn
+        abbrev Made : Piece → Type 0
+        Made u = u ≡ pieceOf (t .row) (t .lo) (numberIn stos (t .row)) (t .state) (p .at) (t .upto)
 
-pub kept-length : (devs offs lens stos sts : List ℕ) (n : ℕ) (r : Runs) (u : Piece) (d d′ : List ℕ) (write : Bool) → d′ ≡ cond write (wrote devs r d u) d → length d′ ≡ length d
-kept-length devs offs lens stos sts n r u d d′ true e = ap length e ∙ length-wrote devs offs lens stos sts n r d u
-kept-length devs offs lens stos sts n r u d d′ false e = ap length e
+        made-is : t .live ≡ true → (u : Piece) → Made u → u ≡ part
+        made-is z u eu = eu ∙ ap (λ (l : ℕ). pieceOf (t .row) l (numberIn stos (t .row)) (t .state) (p .at) (t .upto)) (begins-there z)
+
+        pub piece-feeds : t .live ≡ true → (u : Piece) → Made u → Ready devs r u
+        piece-feeds z u eu = rw (made-is z u eu) (swept.piece-feeds devs f n g m (λ i. refl) valid spread whole (h .few-rows) (h .few-ranges) top w below t et z)
+
+        module _ (p′ : Spot) (ep : Settled (marksIn offs lens sts s m) (movedTo p (t .upto) (t .again)) p′) where
+          pub turns-on : (bare′ : Bool) → bare′ ≡ (bare || t .bare) → t .live ≡ true → (u : Piece) → Made u → (r′ : Runs) → r′ ≡ fed devs r u → (d′ : List ℕ) → d′ ≡ cond write (wrote devs r d u) d
+              → Turning s m devs offs lens stos sts write d₀ p′ r′ d′ bare′
+          turns-on bare′ eb z u eu r′ er d′ ed =
+              let e : u ≡ part = made-is z u eu in
+              swept.after-piece devs f n g m (λ i. refl) valid spread whole (h .few-rows) (h .few-ranges) top w below t et p′ ep bare′ eb z r′ (er ∙ ap (fed devs r) e) d′ (ed ∙ ap (λ (v : Piece). cond write (wrote devs r d v) d) e)
+              (kept-length devs offs lens stos sts n r u d d′ write ed)
+
+          pub turns-over : (bare′ : Bool) → bare′ ≡ (bare || t .bare) → t .live ≡ false → Turning s m devs offs lens stos sts write d₀ p′ r d bare′
+          turns-over = swept.after-none devs f n g m (λ i. refl) valid spread whole (h .few-rows) (h .few-ranges) top w below t et p′ ep
+
+          pub turns-fewer : swept.turnsLeft p′ < swept.turnsLeft p
+          turns-fewer = swept.fewer devs f n g m (λ i. refl) valid spread whole (h .few-rows) (h .few-ranges) top w below t et p′ ep

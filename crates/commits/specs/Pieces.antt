@@ -31,16 +31,16 @@ pub record Asked (s : List ℕ) (m : ℕ) (devs offs lens stos sts : List ℕ) :
   pub list-passes : verdict [] 0 (columnList devs offs lens stos sts) ≡ Accepted (length offs)
   pub ranges-orderly : Orderly (listFrom (rangeAt s) m 0)
 
--- where the part of row i from byte x on lies in storage; a hole lies nowhere
-unfoldable pub storageOf : (begins storages : ℕ → ℕ) → ℕ → ℕ → ℕ → ℕ
-storageOf begins storages i st x = cond (eqb st 3) 0 (storages i + (x - begins i))
+-- where the part from byte x on of a row that begins at lo, at this storage, lies; a hole lies nowhere
+unfoldable pub storageOf : (lo storage st x : ℕ) → ℕ
+storageOf lo storage st x = cond (eqb st 3) 0 (storage + (x - lo))
 
-abbrev pub pieceOf : (begins storages : ℕ → ℕ) → ℕ → ℕ → ℕ → ℕ → Piece
-pieceOf begins storages i st x y = record { row = i; offset = x; len = y - x; storage = storageOf begins storages i st x; state = st }
+abbrev pub pieceOf : (i lo storage st x y : ℕ) → Piece
+pieceOf i lo storage st x y = record { row = i; offset = x; len = y - x; storage = storageOf lo storage st x; state = st }
 
 -- f gives the extent of each row
 abbrev pub partOf : (ℕ → Extent) → ℕ → ℕ → ℕ → ℕ → Piece
-partOf f i st x y = pieceOf (λ a. f a .offset) (λ a. f a .storage) i st x y
+partOf f i st x y = pieceOf i (f i .offset) (f i .storage) st x y
 
 -- what a sweep reads of n rows and m ranges
 abbrev pub marksOf : (ℕ → Extent) → ℕ → (ℕ → Range) → ℕ → Marks

@@ -1,5 +1,5 @@
--- MODEL of the code: where the sweep stands. In this order: what it reads of rows and ranges; the three places at a byte; what lies over the byte, and the next cut;
--- which piece comes next; the next spot. proofs/Pieces.antt proves that the pieces are those of the definition's sweep.
+-- MODEL of the code: where the sweep stands. In this order: what it reads of rows and ranges; an interval with its edges; the three at a byte; what lies over the byte, and
+-- the next cut, by rows and ranges; the same by the three intervals; which piece comes next; the next spot. proofs/Pieces.antt proves that the pieces are those of the definition's sweep.
 use Prim.Native.Nat.{ℕ, _+_, _-_, _^_, _<_, _≤_, min}
 use mathlib.Core.Path.{_≡_}
 use mathlib.Core.List.{List}
@@ -9,8 +9,7 @@ use lib.ListN.{length, getD}
 use Rattle.committing.specs.Ranges.{Range, rangeAt}
 use Rattle.committing.specs.Seek.{Seeks, edgeOf}
 use Rattle.commits.specs.declared.spot.Spot.{Spot}
-use Rattle.commits.specs.declared.spot.Edge.{Edge}
-use Rattle.commits.specs.declared.spot.Here.{Here}
+use Rattle.commits.specs.declared.spot.Span.{Span}
 use Rattle.commits.specs.declared.spot.Turn.{Turn}
 
 -- the states, begins and ends of `rows` rows, and the begins and ends of `ranges` ranges
@@ -52,20 +51,27 @@ isKind states inv a = cond (eqb (states a) 2) inv (not inv)
 abbrev pub always : ℕ → Bool
 always a = true
 
--- what stands before each place has ended at the byte or sooner
-pub record Passed (k : Marks) (p : Spot) : Type 0 where
-  pub most-others : p .other ≤ k .rows
-  pub most-invalids : p .invalid ≤ k .rows
-  pub most-ranges : p .range ≤ k .ranges
-  pub others : (a : ℕ) → a < p .other → isKind (k .states) false a ≡ true → k .ends a ≤ p .at
-  pub invalids : (a : ℕ) → a < p .invalid → isKind (k .states) true a ≡ true → k .ends a ≤ p .at
-  pub ranges : (a : ℕ) → a < p .range → always a ≡ true → k .range-ends a ≤ p .at
+-- the interval at place i of n; past the last, where no byte is
+unfoldable pub spanOf : (lo hi : ℕ → ℕ) → ℕ → ℕ → Span
+spanOf lo hi n i = cond (ltb i n) (record { place = i; lo = lo i; hi = hi i }) (record { place = n; lo = 2 ^ 64 - 1; hi = 2 ^ 64 - 1 })
 
--- each place is the first that ends after the byte
+-- p is the first that is meant and ends after x
+pub record Sought (is : ℕ → Bool) (lo hi : ℕ → ℕ) (n x : ℕ) (p : Span) : Type 0 where
+  pub seeks : Seeks is hi n x (p .place)
+  pub edges : p ≡ spanOf lo hi n (p .place)
+
+-- p was that at x or sooner
+pub record Left (is : ℕ → Bool) (lo hi : ℕ → ℕ) (n x : ℕ) (p : Span) : Type 0 where
+  pub most : p .place ≤ n
+  pub passed : (a : ℕ) → a < p .place → is a ≡ true → hi a ≤ x
+  pub meant : p .place < n → is (p .place) ≡ true
+  pub edges : p ≡ spanOf lo hi n (p .place)
+
+-- each is the first that ends after the byte
 pub record Spotted (k : Marks) (p : Spot) : Type 0 where
-  pub others : Seeks (isKind (k .states) false) (k .ends) (k .rows) (p .at) (p .other)
-  pub invalids : Seeks (isKind (k .states) true) (k .ends) (k .rows) (p .at) (p .invalid)
-  pub ranges : Seeks always (k .range-ends) (k .ranges) (p .at) (p .range)
+  pub others : Sought (isKind (k .states) false) (k .begins) (k .ends) (k .rows) (p .at) (p .other)
+  pub invalids : Sought (isKind (k .states) true) (k .begins) (k .ends) (k .rows) (p .at) (p .invalid)
+  pub ranges : Sought always (k .range-begins) (k .range-ends) (k .ranges) (p .at) (p .range)
 
 pub record Settled (k : Marks) (p r : Spot) : Type 0 where
   pub spotted : Spotted k r
@@ -76,45 +82,51 @@ pub record Settled (k : Marks) (p r : Spot) : Type 0 where
 abbrev pub overAt : ℕ → ℕ → ℕ → ℕ → Bool
 overAt n p x lo = ltb p n && leb lo x
 
-abbrev pub edgeAt : ℕ → ℕ → ℕ → ℕ → ℕ → Edge
-edgeAt n p x lo hi = record { over = overAt n p x lo; at = edgeOf n p x lo hi }
-
 module _ (k : Marks) (p : Spot) where
   abbrev pub otherHere : Bool
-  otherHere = overAt (k .rows) (p .other) (p .at) (k .begins (p .other))
+  otherHere = overAt (k .rows) (p .other .place) (p .at) (k .begins (p .other .place))
 
   abbrev pub invalidHere : Bool
-  invalidHere = overAt (k .rows) (p .invalid) (p .at) (k .begins (p .invalid))
+  invalidHere = overAt (k .rows) (p .invalid .place) (p .at) (k .begins (p .invalid .place))
 
   abbrev pub rangeHere : Bool
-  rangeHere = overAt (k .ranges) (p .range) (p .at) (k .range-begins (p .range))
+  rangeHere = overAt (k .ranges) (p .range .place) (p .at) (k .range-begins (p .range .place))
 
   abbrev pub nextCut : ℕ
   nextCut =
-      min (edgeOf (k .rows) (p .other) (p .at) (k .begins (p .other)) (k .ends (p .other)))
-      (min (edgeOf (k .rows) (p .invalid) (p .at) (k .begins (p .invalid)) (k .ends (p .invalid)))
-      (edgeOf (k .ranges) (p .range) (p .at) (k .range-begins (p .range)) (k .range-ends (p .range))))
+      min (edgeOf (k .rows) (p .other .place) (p .at) (k .begins (p .other .place)) (k .ends (p .other .place)))
+      (min (edgeOf (k .rows) (p .invalid .place) (p .at) (k .begins (p .invalid .place)) (k .ends (p .invalid .place)))
+      (edgeOf (k .ranges) (p .range .place) (p .at) (k .range-begins (p .range .place)) (k .range-ends (p .range .place))))
 
-  abbrev pub hereOf : Here
-  hereOf = record { other = otherHere; state = k .states (p .other); invalid = invalidHere; range = rangeHere; upto = nextCut }
+-- the same by an interval's edges: it lies over x, and it begins or ends next
+abbrev pub overIn : Span → ℕ → Bool
+overIn p x = leb (p .lo) x
 
--- 10034 at the byte
-abbrev pub bareOf : Here → Bool
-bareOf h = h .range && not (h .invalid || h .other && eqb (h .state) 0)
+abbrev pub edgeIn : Span → ℕ → ℕ
+edgeIn p x = cond (ltb x (p .lo)) (p .lo) (p .hi)
 
--- of row i, which is not invalid and is in state st, and of row j, which is invalid: committed and invalid; else what is not invalid, with the invalid piece after it,
--- unless that alone is still to come; else the invalid piece
-unfoldable pub turnBy : (i j st : ℕ) (other invalid range again : Bool) → Turn
-turnBy i j st other invalid range again =
-    cond (range && invalid) (record { live = true; row = j; state = 0; again = false })
-    (cond (other && not again) (record { live = true; row = i; state = st; again = invalid })
-    (record { live = invalid; row = j; state = 2; again = false }))
+abbrev pub cutIn : Spot → ℕ
+cutIn p = min (edgeIn (p .other) (p .at)) (min (edgeIn (p .invalid) (p .at)) (edgeIn (p .range) (p .at)))
 
-abbrev pub turnOf : Spot → Here → Turn
-turnOf p h = turnBy (p .other) (p .invalid) (h .state) (h .other) (h .invalid) (h .range) (p .again)
+-- 10034 at a byte: what is not invalid is in state st
+abbrev pub bareBy : (st : ℕ) (other invalid range : Bool) → Bool
+bareBy st other invalid range = range && not (invalid || other && eqb st 0)
+
+-- of row i, which is not invalid, is in state st and begins at a, and of row j, which is invalid and begins at b, up to y: committed and invalid; else what is not
+-- invalid, with the invalid piece after it, unless that alone is still to come; else the invalid piece
+unfoldable pub turnBy : (i j st a b y : ℕ) (other invalid range again : Bool) → Turn
+turnBy i j st a b y other invalid range again =
+    cond (range && invalid) (record { upto = y; live = true; bare = bareBy st other invalid range; row = j; lo = b; state = 0; again = false })
+    (cond (other && not again) (record { upto = y; live = true; bare = bareBy st other invalid range; row = i; lo = a; state = st; again = invalid })
+    (record { upto = y; live = invalid; bare = bareBy st other invalid range; row = j; lo = b; state = 2; again = false }))
+
+-- `states` gives the state of each row
+abbrev pub turnOf : (ℕ → ℕ) → Spot → Turn
+turnOf states p =
+    turnBy (p .other .place) (p .invalid .place) (states (p .other .place)) (p .other .lo) (p .invalid .lo) (cutIn p) (overIn (p .other) (p .at)) (overIn (p .invalid) (p .at)) (overIn (p .range) (p .at)) (p .again)
 
 abbrev pub movedTo : Spot → ℕ → Bool → Spot
 movedTo p y again = record { at = cond again (p .at) y; other = p .other; invalid = p .invalid; range = p .range; again = again }
 
 abbrev pub goingOn : ℕ → ℕ → Spot → Bool
-goingOn n m p = ltb (p .other) n || (ltb (p .invalid) n || ltb (p .range) m)
+goingOn n m p = ltb (p .other .place) n || (ltb (p .invalid .place) n || ltb (p .range .place) m)

@@ -3,8 +3,8 @@ use borrow.Author.Needs.{needs}
 use Rattle.commits.proofs.sweep.piece.Statement.{statement}
 use Rattle.commits.proofs.sweep.piece.Tie as tie
 
-sub-t7 : tie.Need-sub-t7
-sub-t7 c = search needs
+sub-t4 : tie.Need-sub-t4
+sub-t4 c = search needs
 
 storage-of-requires : tie.Need-storage-of-requires
 storage-of-requires c κs = search needs
@@ -13,4 +13,4 @@ returns : tie.Need-returns
 returns c = rw (c .storage-of .ensures)
 
 pub piece-spec : {M : Type 1} → statement M
-piece-spec = tie.close (tie.spec sub-t7 storage-of-requires returns)
+piece-spec = tie.close (tie.spec sub-t4 storage-of-requires returns)

@@ -16,21 +16,15 @@ mul-result c = search needs
 shared-slice-read-result : tie.Need-shared-slice-read-result
 shared-slice-read-result c = search needs
 
-mul-result-2 : tie.Need-mul-result-2
-mul-result-2 c = search needs
-
-shared-slice-read-result-2 : tie.Need-shared-slice-read-result-2
-shared-slice-read-result-2 c = search needs
-
 sub-result : tie.Need-sub-result
 sub-result c = search needs
 
 add-result : tie.Need-add-result
-add-result c = record { fits = c .before .before .before .pre .1 (c .before .before .if1 .left) }
+add-result c = record { fits = c .before .before .pre .1 (c .before .if1 .left) }
 
 returns-2 : tie.Need-returns-2
 unfolding storageOf
-returns-2 c = rw (ne-eqb (c .before .before .before .args .st) 3 (c .before .before .if1 .left))
+returns-2 c = rw (ne-eqb (c .before .before .args .st) 3 (c .before .if1 .left))
 
 pub storage-of-spec : {M : Type 1} → statement M
 storage-of-spec =
@@ -39,8 +33,6 @@ storage-of-spec =
     returns
     mul-result
     shared-slice-read-result
-    mul-result-2
-    shared-slice-read-result-2
     sub-result
     add-result
     returns-2)
