@@ -14,10 +14,7 @@ pub(crate) fn is_malformed(s: &[u8]) -> bool
         return true;
     }
     let n = xdr::be32(s, 0);
-    if 1024 < n {
-        return true;
-    }
-    s.len() != 4 + 16 * (n as usize)
+    1024 < n || s.len() != 4 + 16 * (n as usize)
 }
 
 // Whether a range may not be committed, where those before it end at `before`.
@@ -25,19 +22,9 @@ fn is_unfit(block: u64, before: u64, off: u64, len: u64) -> bool
     requires { ⌜ 0 < block ⌝ }
     ensures { λ r. ⌜ r ≡ unfit block before (record { offset = off; len = len }) ⌝ }
 {
-    if len == 0 {
-        return true;
-    }
-    if 18446744073709551615 - off < len {
-        return true;
-    }
-    if off % block != 0 {
-        return true;
-    }
-    if len % block != 0 {
-        return true;
-    }
-    off < before
+    len == 0
+        || (18446744073709551615 - off < len
+            || (off % block != 0 || (len % block != 0 || off < before)))
 }
 
 // Whether one of the m ranges may not be committed.

@@ -30,10 +30,7 @@ pub(crate) struct Spot {
 fn ends_after(off: u64, len: u64, x: u64) -> bool
     ensures { λ r. ⌜ r ≡ ltb x (off + len) ⌝ }
 {
-    if x < off {
-        return true;
-    }
-    x - off < len
+    x < off || x - off < len
 }
 
 // Whether a state is invalid, or is not.
