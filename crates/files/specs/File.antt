@@ -1,4 +1,4 @@
--- MODEL. One file of the record, in this order: a file's fields, each changed by one function; tests; the calls on one file, with what each
+-- MODEL. One file of the record, in this order: a file's fields, each changed by one function; tests; the counts; the calls on one file, with what each
 -- answers and the file afterwards; a report; restart and the end of grace; the lists.
 use mathlib.Core.List.{List, [], _∷_, map}
 use mathlib.Core.Bool.{Bool, true, false, not, cond}
@@ -16,6 +16,8 @@ use Rattle.intents.specs.Intents.{noIntent, noIntents, intentOf, isIntent, isFr
 use Rattle.mirroring.specs.declared.mirrors.Mirror.{Mirror}
 use Rattle.intents.specs.declared.Intent.{Intent}
 use Rattle.mirroring.specs.declared.blame.Change.{Change}
+use Rattle.files.specs.Counts.{standing, movedBy}
+use Rattle.files.specs.declared.counts.Standing.{Standing}
 use Rattle.files.specs.declared.file.File.{File}
 use Rattle.files.specs.declared.file.FileAnswered.{FileAnswered}
 use Rattle.files.specs.declared.head.Head.{Head}
@@ -52,9 +54,35 @@ isVacant f = not (f .used)
 abbrev pub unreclaimedBar : Bool → Bool → Bool
 unreclaimedBar h r = cond h (not r) false
 
+-- whether a file is on the resilver list, and whether it is offered for copying
+abbrev pub isListed : File → Bool
+isListed f = cond (f .used) (f .marked) false
+
+abbrev pub isReady : File → Bool
+isReady f = cond (isListed f) (not (firstTaken (f .intents))) false
+
+-- ---- the counts: the head once the file f has become g, with one file more, and with each of a list
+abbrev pub standingOf : File → Standing
+standingOf f = standing (isListed f) (firstTaken (f .intents))
+
+abbrev pub movedHead : File → File → Head → Head
+movedHead f g h = movedBy (standingOf f) (standingOf g) h
+
+abbrev pub countedHead : Head → File → Head
+countedHead h f = movedBy (standing false false) (standingOf f) h
+
+-- all of a list counted, in its order
+unfoldable pub tallied : Head → List File → Head
+tallied h [] = h
+tallied h (f ∷ fs) = tallied (countedHead h f) fs
+
 -- ---- the calls on one file, of the number n; h stands beside the files
 abbrev pub fileAnswered : Status → Head → File → FileAnswered
 fileAnswered s h f = record { status = s; head = h; file = f }
+
+-- a call that makes g of the file f
+abbrev pub becomes : Head → File → File → FileAnswered
+becomes h f g = fileAnswered 0 (movedHead f g h) g
 
 -- a call on the file of the number n, or 70
 abbrev pub ofFile : FileNumber → Head → File → FileAnswered → FileAnswered
@@ -63,7 +91,7 @@ ofFile n h f a = cond (isFile n f) a (fileAnswered 70 h f)
 -- a new intent goes to the first free place
 abbrev pub takes : Client → Head → File → Found → FileAnswered
 takes c h f Nothing = fileAnswered 28 h f
-takes c h f (At i) = fileAnswered 0 h (withIntents (set (f .intents) i (intentOf c)) f)
+takes c h f (At i) = becomes h f (withIntents (set (f .intents) i (intentOf c)) f)
 
 abbrev pub opens : Client → Head → File → Found → FileAnswered
 opens c h f (At i) = fileAnswered 0 h f
@@ -84,7 +112,7 @@ abbrev pub leaves : Head → File → Found → FileAnswered
 leaves h f Nothing = fileAnswered 10025 h f
 leaves h f (At i) =
     cond (unreclaimedBar (h .grace) (getD (f .intents) i noIntent .reclaimed)) (fileAnswered 10025 h f)
-    (fileAnswered 0 h (withIntents (leftOut noIntent i (f .intents)) f))
+    (becomes h f (withIntents (leftOut noIntent i (f .intents)) f))
 
 unfoldable pub closedFile : FileNumber → Head → Client → File → FileAnswered
 closedFile n h c f = ofFile n h f (leaves h f (first (isIntent c) (f .intents)))
@@ -95,7 +123,7 @@ mendedFile f = withMark false (withMirrors (map unblamed (f .mirrors)) f)
 unfoldable pub repairedFile : FileNumber → Head → File → FileAnswered
 repairedFile n h f =
     ofFile n h f
-    (cond (not (f .marked)) (fileAnswered 22 h f) (cond (firstTaken (f .intents)) (fileAnswered 10008 h f) (fileAnswered 0 h (mendedFile f))))
+    (cond (not (f .marked)) (fileAnswered 22 h f) (cond (firstTaken (f .intents)) (fileAnswered 10008 h f) (becomes h f (mendedFile f))))
 
 unfoldable pub forgettable : FileNumber → Head → File → Status
 forgettable n h f = cond (h .grace) 10013 (cond (isFile n f) (cond (f .marked) 10008 (cond (firstTaken (f .intents)) 10008 0)) 70)
@@ -122,6 +150,10 @@ proxyRemovedFile n h f =
 unfoldable pub changedFile : Change → File → File
 changedFile x f = cond (x .unknown) (withMark true f) (cond (x .failed) (withMark true (withMirrors (blamedAt (x .blamed) (f .mirrors)) f)) f)
 
+-- what stands beside the files then
+unfoldable pub toldHead : Change → Head → File → Head
+toldHead x h f = movedHead f (changedFile x f) h
+
 -- ---- restart and the end of grace
 unfoldable pub restartedFile : File → File
 restartedFile f = withIntents (map unreclaimedIntent (f .intents)) f
@@ -132,11 +164,5 @@ endedFile f =
     (withIntents (fill (chosen isKept (f .intents)) noIntents) f)
 
 -- ---- the lists
-abbrev pub isListed : File → Bool
-isListed f = cond (f .used) (f .marked) false
-
-abbrev pub isReady : File → Bool
-isReady f = cond (isListed f) (not (firstTaken (f .intents))) false
-
 unfoldable pub sourceOf : Direction → File → ℕ
 sourceOf d f = sourceIn d (f .mirrors)

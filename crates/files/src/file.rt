@@ -1,6 +1,7 @@
 // One file of the record (paper 01, "The recovery record"; 02, Ticket 7): what it holds, and the calls on one file. A call tests for itself whether this is
 // the file of the number that it is given, gets what stands beside the files, and answers the status and both afterwards. Then what a report, a
 // restart and the end of grace do to a file, and what the lists ask of one.
+use crate::counts::Standing;
 use crate::head::Head;
 use intents::Intent;
 use mirroring::blame::Change;
@@ -10,7 +11,7 @@ use mirroring::source::Direction;
 use places::Found;
 ghost use mathlib.Core.Path.{_≡_};
 ghost use mathlib.Core.Bool.{true, cond};
-ghost use Rattle.files.specs.File.{noFile, blankFile, fileOf, isFile, isVacant, fileAnswered, openedFile, reclaimedFile, closedFile, repairedFile, forgettable, proxyAddedFile, proxyRemovedFile, restartedFile, endedFile, isListed, isReady, sourceOf, changedFile};
+ghost use Rattle.files.specs.File.{noFile, blankFile, fileOf, isFile, isVacant, fileAnswered, openedFile, reclaimedFile, closedFile, repairedFile, forgettable, proxyAddedFile, proxyRemovedFile, restartedFile, endedFile, isListed, isReady, sourceOf, changedFile, standingOf, countedHead, toldHead};
 
 // The wide fields stand first. A place of the record is a file's if `used`.
 #[repr(C)]
@@ -107,8 +108,10 @@ impl File {
         };
         let x = Intent::new(client);
         let xs = intents::placed(old, i, x);
+        let was = self.standing();
+        let is = Standing::of(was.listed, true);
         self.intents = xs;
-        self.answered(0, head)
+        self.answered(0, head.moved(was, is))
     }
 
     // Reclaim: 10033 not in grace; 70; 10034 no intent; again: 0, no change.
@@ -146,8 +149,10 @@ impl File {
             return self.answered(statuses::BAD_STATEID, head);
         }
         let xs = intents::without(old, i);
+        let was = self.standing();
+        let is = Standing::of(was.listed, intents::busy(xs));
         self.intents = xs;
-        self.answered(0, head)
+        self.answered(0, head.moved(was, is))
     }
 
     // Repaired: 70; 22 not marked; 10008 an intent is open. Its answers are written out: through the helper the compiler copies a file that stays.
@@ -180,9 +185,12 @@ impl File {
         let ms = mirroring::mirrors::cleared(old);
         self.mirrors = ms;
         self.marked = false;
+        let was = Standing::of(true, false);
+        let is = Standing::of(false, false);
+        let next = head.moved(was, is);
         FileAnswered {
             status: 0,
-            head,
+            head: next,
             file: self,
         }
     }
@@ -272,6 +280,19 @@ impl File {
         self
     }
 
+    // What stands beside the files then: a report that marks a file enters it on the lists.
+    pub fn told(self, head: Head, change: Change) -> Head
+        ensures { λ r. ⌜ r ≡ toldHead change head self ⌝ }
+    {
+        if marks(change) {
+            let was = self.standing();
+            let xs = self.intents;
+            let is = Standing::of(self.used, intents::busy(xs));
+            return head.moved(was, is);
+        }
+        head
+    }
+
     // The file after a restart: nobody has reclaimed. By its fields, so that the compiler copies nothing that stays.
     pub fn restarted(self) -> File
         ensures { λ r. ⌜ r ≡ restartedFile self ⌝ }
@@ -321,6 +342,21 @@ impl File {
         self.listed() && !intents::busy(xs)
     }
 
+    // Which lists the file is on.
+    fn standing(self) -> Standing
+        ensures { λ r. ⌜ r ≡ standingOf self ⌝ }
+    {
+        let xs = self.intents;
+        Standing::of(self.listed(), intents::busy(xs))
+    }
+
+    // What stands beside the files, with this file counted: one that was not counted before.
+    pub fn counted(self, head: Head) -> Head
+        ensures { λ r. ⌜ r ≡ countedHead head self ⌝ }
+    {
+        head.moved(Standing::of(false, false), self.standing())
+    }
+
     // The place to copy from, by the direction.
     pub fn source(self, direction: Direction) -> u8
         ensures { λ r. ⌜ r ≡ sourceOf direction self ⌝ }
@@ -335,4 +371,11 @@ fn marked_if(lost: bool, marked: bool) -> bool
     ensures { λ r. ⌜ r ≡ cond lost true marked ⌝ }
 {
     lost || marked
+}
+
+// Whether a report marks a file.
+fn marks(change: Change) -> bool
+    ensures { λ r. ⌜ r ≡ cond (change .unknown) true (change .failed) ⌝ }
+{
+    change.unknown || change.failed
 }

@@ -1,4 +1,5 @@
-// What stands beside a record's files: whether it is in grace, and its edition (02, Ticket 1). A call on one file is told of it.
+// What stands beside a record's files: how many of them are on either list (02, Ticket 8), whether it is in grace, and its edition (02, Ticket 1). A call on one
+// file is told of it.
 ghost use mathlib.Core.Path.{_≡_};
 ghost use Rattle.files.specs.Head.{isOld, freshHead, editionOf};
 
@@ -21,17 +22,24 @@ impl Edition {
 
 #[repr(C)]
 pub struct Head {
+    pub waiting: u64,
+    pub offered: u64,
     pub grace: bool,
     pub old: bool,
 }
 
 impl Head {
-    // As a record is set up: not in grace.
+    // As a record is set up: no files, not in grace.
     pub fn fresh(edition: Edition) -> Head
         ensures { λ r. ⌜ r ≡ freshHead edition ⌝ }
     {
         let old = edition.is_old();
-        Head { grace: false, old }
+        Head {
+            waiting: 0,
+            offered: 0,
+            grace: false,
+            old,
+        }
     }
 
     pub fn edition(self) -> Edition

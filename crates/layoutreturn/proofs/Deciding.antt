@@ -22,7 +22,7 @@ Reads s (Answered k) = Unit {0}
 Reads s HandedOn = Unit {0}
 Reads s (ReadBody len) = partOf len s ≡ bodyOf s
 
-phase-reads : (s : Bytes) (len : ℕ) → partOf len s ≡ bodyOf s → (k : Kind) (o g : Bool) → Reads s (phaseOf k (record { grace = g; old = o }) len)
+phase-reads : (s : Bytes) (len : ℕ) → partOf len s ≡ bodyOf s → (k : Kind) {m n : ℕ} (o g : Bool) → Reads s (phaseOf k (record { waiting = m; offered = n; grace = g; old = o }) len)
 phase-reads s len e Anonymous true g = tt
 phase-reads s len e Anonymous false true = e
 phase-reads s len e Anonymous false false = tt

@@ -16,7 +16,7 @@ use Rattle.places.specs.declared.Found.{Found}
 use Rattle.mirroring.specs.Blame.{statusOnly, assessmentOf}
 use Rattle.mirroring.specs.declared.blame.Assessment.{Assessment}
 use Rattle.intents.specs.Intents.{isIntent}
-use Rattle.files.specs.File.{isFile, changedFile}
+use Rattle.files.specs.File.{isFile, changedFile, toldHead}
 use Rattle.files.specs.declared.file.File.{File}
 use Rattle.files.specs.declared.head.Head.{Head}
 use Rattle.layoutreturn.specs.declared.Outcome.{Outcome}
@@ -68,13 +68,14 @@ reportOn n c p f = ifWhole (assessmentOf (f .mirrors) p) (ofIntent n c f (assess
 abbrev pub outcomeOf : Head → Assessment → Outcome
 outcomeOf h a = record { status = a .status; head = h; change = a .change; totals = a .totals }
 
-abbrev pub assessedBy : FileNumber → Client → Bytes → File → Decision → Assessment
-assessedBy n c s f (Answered k) = statusOnly k
-assessedBy n c s f HandedOn = statusOnly handedOnCode
-assessedBy n c s f (ReadBody len) = reportOn n c (reportOf (partOf len s)) f
+-- where a report was read, with the counts as it moves them
+abbrev pub outcomeOn : Head → File → Assessment → Outcome
+outcomeOn h f a = outcomeOf (toldHead (a .change) h f) a
 
 unfoldable pub outcomeBy : FileNumber → Head → Client → Bytes → File → Decision → Outcome
-outcomeBy n h c s f d = outcomeOf h (assessedBy n c s f d)
+outcomeBy n h c s f (Answered k) = outcomeOf h (statusOnly k)
+outcomeBy n h c s f HandedOn = outcomeOf h (statusOnly handedOnCode)
+outcomeBy n h c s f (ReadBody len) = outcomeOn h f (reportOn n c (reportOf (partOf len s)) f)
 
 -- ---- the reply buffer afterwards: nothing is written where the request is handed on
 abbrev pub replyBy : Status → Bytes → Bytes

@@ -121,7 +121,10 @@ fn outcome_by(d: Decision, f: File, number: u64, head: Head, client: u64, reques
         Decision::HandedOn => Outcome::of(head, Assessment::only(statuses::HANDED_ON)),
         Decision::ReadBody(len) => {
             let body = wire::body::part(request, len);
-            Outcome::of(head, report(f, number, client, body))
+            let a = report(f, number, client, body);
+            let change = a.change;
+            let next = f.told(head, change);
+            Outcome::of(next, a)
         }
     }
 }

@@ -12,7 +12,7 @@ use Rattle.mirroring.specs.declared.totals.Totals.{Totals}
 use Rattle.files.specs.File.{fileAnswered}
 use Rattle.files.specs.declared.file.File.{File}
 use Rattle.files.specs.declared.file.FileAnswered.{FileAnswered}
-use Rattle.layoutreturn.specs.LayoutReturn.{handedOnCode, decisionOf, reportOn, outcomeOf, replyBy, fileAfter}
+use Rattle.layoutreturn.specs.LayoutReturn.{handedOnCode, decisionOf, reportOn, outcomeOn, replyBy, fileAfter}
 use Rattle.layoutreturn.specs.declared.Decision.{Decision}
 use Rattle.layoutreturn.specs.declared.Decision.the-variants.{Answered, HandedOn, ReadBody}
 use Rattle.layoutreturn.specs.declared.Outcome.{Outcome}
@@ -29,7 +29,7 @@ answeredBy f o = fileAnswered (o .status) (o .head) (fileAfter f o)
 
 -- steps 5 to 7 on a file, and on the file of the number n
 abbrev pub reportFile : FileNumber → Client → Bytes → Record → File → Outcome
-reportFile n c s r f = outcomeOf (r .head) (reportOn n c (reportOf (bodyOf s)) f)
+reportFile n c s r f = outcomeOn (r .head) f (reportOn n c (reportOf (bodyOf s)) f)
 
 unfoldable pub reportedOf : FileNumber → Client → Bytes → Record → Returned
 reportedOf n c s r =

@@ -3,13 +3,13 @@
 use mathlib.Core.List.{List, [], _∷_, _++_, map}
 use mathlib.Core.Bool.{Bool, true, false, not, cond}
 use Prim.Native.Nat.{ℕ, zero, suc}
-use lib.ListN.{getD, set, take, drop, replicate}
+use lib.ListN.{getD, set, take, drop, replicate, length}
 use lib.Dec.{eqb, leb}
 use Rattle.statuses.specs.Names.{Bytes, Status, Client, FileNumber}
 use Rattle.places.specs.Lists.{chosen}
 use Rattle.places.specs.Places.{first, placeOr}
 use Rattle.mirroring.specs.Mirrors.{enrolledOf}
-use Rattle.files.specs.File.{noFile, blankFile, fileOf, isFile, isVacant, openedFile, reclaimedFile, closedFile, repairedFile, proxyAddedFile, proxyRemovedFile, forgettable, restartedFile, endedFile, isListed, isReady, sourceOf}
+use Rattle.files.specs.File.{noFile, blankFile, fileOf, isFile, isVacant, openedFile, reclaimedFile, closedFile, repairedFile, proxyAddedFile, proxyRemovedFile, forgettable, restartedFile, endedFile, isListed, isReady, sourceOf, tallied}
 use Rattle.files.specs.Head.{freshHead}
 use Rattle.files.specs.declared.head.Edition.{Edition}
 use Rattle.files.specs.declared.head.Edition.the-variants.{Current}
@@ -36,7 +36,7 @@ abbrev pub withFiles : List File → Record → Record
 withFiles fs r = record { files = fs; head = r .head }
 
 abbrev pub withGrace : Bool → Record → Record
-withGrace g r = record { files = r .files; head = record { grace = g; old = r .head .old } }
+withGrace g r = record { files = r .files; head = record { waiting = r .head .waiting; offered = r .head .offered; grace = g; old = r .head .old } }
 
 abbrev pub withHead : Head → Record → Record
 withHead h r = record { files = r .files; head = h }
@@ -120,8 +120,16 @@ unfoldable pub forgetOf : FileNumber → Record → Answered
 forgetOf n r = forgets (forgettable n (r .head) (fileAt n r)) n r
 
 -- ---- restart and the end of grace
+-- each file after the end of grace, and the head h with each of them counted
+abbrev pub endedRecord : Head → List File → Record
+endedRecord h fs = record { files = map endedFile fs; head = tallied h (map endedFile fs) }
+
+-- the end of grace counts both lists anew, as it goes over the files
+abbrev pub endedHead : List File → Head → Head
+endedHead fs h = record { waiting = length (chosen isListed fs); offered = length (chosen isReady fs); grace = false; old = h .old }
+
 unfoldable pub endOf : Record → Answered
-endOf r = cond (r .head .grace) (answered 0 (withGrace false (withFiles (map endedFile (r .files)) r))) (answered 10033 r)
+endOf r = cond (r .head .grace) (answered 0 (record { files = map endedFile (r .files); head = endedHead (map endedFile (r .files)) (r .head) })) (answered 10033 r)
 
 unfoldable pub restartOf : Record → Answered
 restartOf r = answered 0 (withGrace true (withFiles (map restartedFile (r .files)) r))

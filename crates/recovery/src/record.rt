@@ -8,10 +8,10 @@ use files::head::Head;
 ghost use mathlib.Core.Path.{_≡_};
 ghost use mathlib.Core.List.{map};
 ghost use Prim.Native.Nat.{_<_};
-ghost use Rattle.files.specs.File.{restartedFile, endedFile};
+ghost use Rattle.files.specs.File.{restartedFile};
 ghost use Rattle.files.specs.Head.{editionOf};
 ghost use Rattle.files.specs.declared.head.Edition.the-variants.{Old};
-ghost use Rattle.recovery.specs.Record.{freshAs, fresh, answered, placeIn, putFile, roomIn, enter, withoutFile, registerOf, openOf, reclaimOf, closeOf, repairedOf, addProxyOf, removeProxyOf, forgetOf, endOf, restartOf};
+ghost use Rattle.recovery.specs.Record.{freshAs, fresh, answered, placeIn, putFile, roomIn, enter, withoutFile, registerOf, openOf, reclaimOf, closeOf, repairedOf, addProxyOf, removeProxyOf, forgetOf, endOf, restartOf, endedRecord};
 
 #[repr(C)]
 pub struct Record {
@@ -81,19 +81,21 @@ fn left_out(files: [File; 64], at: usize) -> [File; 64]
     fs
 }
 
-// Each file after the end of grace.
-fn ended(files: [File; 64]) -> [File; 64]
-    ensures { λ r. ⌜ r ≡ map endedFile files ⌝ }
+// Each file after the end of grace, and `before` with each of them counted.
+fn ended(files: [File; 64], before: Head) -> Record
+    ensures { λ r. ⌜ r ≡ endedRecord before files ⌝ }
 {
     let mut fs = files;
+    let mut head = before;
     let mut i: usize = 0;
     while i < 64 {
         let f = fs[i];
         let g = f.ended();
         fs[i] = g;
+        head = g.counted(head);
         i += 1;
     }
-    fs
+    Record { files: fs, head }
 }
 
 // Each file after a restart.
@@ -285,18 +287,22 @@ impl Record {
         self.answered(0)
     }
 
-    // End of grace: 10033 not in grace.
-    pub fn end_grace(mut self) -> Answered
+    // End of grace: 10033 not in grace. The files are counted as they are gone over.
+    pub fn end_grace(self) -> Answered
         ensures { λ r. ⌜ r ≡ endOf self ⌝ }
     {
         if !self.head.grace {
             return self.answered(statuses::NO_GRACE);
         }
         let old = self.files;
-        let fs = ended(old);
-        self.files = fs;
-        self.head.grace = false;
-        self.answered(0)
+        let before = Head {
+            waiting: 0,
+            offered: 0,
+            grace: false,
+            old: self.head.old,
+        };
+        let r = ended(old, before);
+        r.answered(0)
     }
 
     // Restart: no refusal.

@@ -32,6 +32,9 @@ part-requires c κs = search needs
 report-requires : tie.Need-report-requires
 report-requires c κs = search needs
 
+told-requires : tie.Need-told-requires
+told-requires c κs = search needs
+
 of-requires-3 : tie.Need-of-requires-3
 of-requires-3 c κs = search needs
 
@@ -45,7 +48,7 @@ returns-2 c = c .of2 .ensures ∙ rw (c .before .only2 .ensures, c .before .befo
 
 returns-3 : tie.Need-returns-3
 unfolding outcomeBy
-returns-3 c = c .of3 .ensures ∙ rw (c .before .report .ensures, c .before .before .part .ensures, c .before .before .before .before .d2 .given .1)
+returns-3 c = c .of3 .ensures ∙ rw (c .before .told .ensures, c .before .before .report .ensures, c .before .before .before .part .ensures, c .before .before .before .before .before .d2 .given .1)
 
 pub outcome-by-spec : {M : Type 1} → statement M
 outcome-by-spec =
@@ -60,6 +63,7 @@ outcome-by-spec =
     enum-known-d-2
     part-requires
     report-requires
+    told-requires
     of-requires-3
     returns
     returns-2

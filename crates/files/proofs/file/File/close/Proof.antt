@@ -58,12 +58,24 @@ returns-3 c = c .answered3 .ensures ∙ rw (sym (c .before .before .before .befo
 without-requires : tie.Need-without-requires
 without-requires c κs = search needs
 
+standing-requires : tie.Need-standing-requires
+standing-requires c κs = search needs
+
+busy-requires : tie.Need-busy-requires
+busy-requires c κs = search needs
+
+of-requires : tie.Need-of-requires
+of-requires c κs = search needs
+
+moved-requires : tie.Need-moved-requires
+moved-requires c κs = search needs
+
 answered-requires-4 : tie.Need-answered-requires-4
 answered-requires-4 c κs = search needs
 
 returns-4 : tie.Need-returns-4
 unfolding closedFile
-returns-4 c = c .answered4 .ensures ∙ rw (sym (c .before .before .before .before .before .before .before .before .before .before .is .ensures) ∙ not-false _ (c .before .before .before .before .before .before .before .before .before .if1 .left), at (c .before .before .before .before), ← c .before .before .before .is-reclaimed .ensures, unbarred (c .before .before), c .before .without .ensures)
+returns-4 c = c .answered4 .ensures ∙ rw (sym (c .before .before .before .before .before .before .before .before .before .before .before .before .before .before .is .ensures) ∙ not-false _ (c .before .before .before .before .before .before .before .before .before .before .before .before .before .if1 .left), at (c .before .before .before .before .before .before .before .before), ← c .before .before .before .before .before .before .before .is-reclaimed .ensures, unbarred (c .before .before .before .before .before .before), c .before .moved .ensures, c .before .before .of .ensures, c .before .before .before .busy .ensures, c .before .before .before .before .standing .ensures, c .before .before .before .before .before .without .ensures)
 
 pub close-spec : {M : Type 1} → statement M
 close-spec =
@@ -81,5 +93,9 @@ close-spec =
     answered-requires-3
     returns-3
     without-requires
+    standing-requires
+    busy-requires
+    of-requires
+    moved-requires
     answered-requires-4
     returns-4)

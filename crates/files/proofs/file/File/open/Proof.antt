@@ -3,6 +3,7 @@ use mathlib.Core.Path.{sym, _∙_}
 use borrow.Author.Tests.{not-true, not-false}
 use Rattle.files.specs.File.{openedFile}
 use borrow.Author.Needs.{needs}
+use Rattle.files.proofs.Counting.{some-taken}
 use Rattle.files.proofs.file.File.open.Statement.{statement}
 use Rattle.files.proofs.file.File.open.Tie as tie
 
@@ -61,12 +62,21 @@ new-requires c κs = search needs
 placed-requires : tie.Need-placed-requires
 placed-requires c κs = search needs
 
+standing-requires : tie.Need-standing-requires
+standing-requires c κs = search needs
+
+of-requires : tie.Need-of-requires
+of-requires c κs = search needs
+
+moved-requires : tie.Need-moved-requires
+moved-requires c κs = search needs
+
 answered-requires-5 : tie.Need-answered-requires-5
 answered-requires-5 c κs = search needs
 
 returns-5 : tie.Need-returns-5
 unfolding openedFile
-returns-5 c = c .answered5 .ensures ∙ rw (c .before .before .before .before .before .before .before .before .before .before .before .before .before .if1 .left, sym (c .before .before .before .before .before .before .before .before .before .before .before .before .is .ensures) ∙ not-false _ (c .before .before .before .before .before .before .before .before .before .before .before .if2 .left), sym (c .before .before .before .before .before .before .before .before .before .holding .ensures) ∙ c .before .before .before .before .before .before .before .enum-told2 .given .1, sym (c .before .before .before .before .before .before .room .ensures) ∙ c .before .before .before .before .i .given .1, c .before .placed .ensures, c .before .before .new .ensures)
+returns-5 c = c .answered5 .ensures ∙ rw (c .before .moved .ensures, c .before .before .of .ensures, c .before .before .before .standing .ensures, c .before .before .before .before .before .before .before .before .before .before .before .before .before .before .before .before .if1 .left, sym (c .before .before .before .before .before .before .before .before .before .before .before .before .before .before .before .is .ensures) ∙ not-false _ (c .before .before .before .before .before .before .before .before .before .before .before .before .before .before .if2 .left), sym (c .before .before .before .before .before .before .before .before .before .before .before .before .holding .ensures) ∙ c .before .before .before .before .before .before .before .before .before .before .enum-told2 .given .1, sym (c .before .before .before .before .before .before .before .before .before .room .ensures) ∙ c .before .before .before .before .before .before .before .i .given .1, c .before .before .before .before .placed .ensures, c .before .before .before .before .before .new .ensures, some-taken _ _ _ (sym (c .before .before .before .before .before .before .before .before .before .room .ensures) ∙ c .before .before .before .before .before .before .before .i .given .1))
 
 pub open-spec : {M : Type 1} → statement M
 open-spec =
@@ -89,5 +99,8 @@ open-spec =
     returns-4
     new-requires
     placed-requires
+    standing-requires
+    of-requires
+    moved-requires
     answered-requires-5
     returns-5)

@@ -1,0 +1,108 @@
+-- The counts, in this order: a file that stays; one that gets an intent, or reclaims one; one that a report marks; all of a list, which are as many as are on
+-- either list.
+use mathlib.Core.Path.{_≡_, refl, sym, ap, ap₂, _∙_}
+use mathlib.Core.List.{List, [], _∷_, _++_, map}
+use mathlib.Core.Bool.{Bool, true, false, not, cond}
+use Prim.Native.Nat.{ℕ, suc, _+_, _<_, _^_}
+use native.Mathlib.Omega.{arith}
+use lib.ListN.{getD, set, length}
+use lib.Dec.{eqb}
+use Rattle.places.specs.Lists.{chosen}
+use Rattle.places.specs.Places.{first, bump}
+use Rattle.places.specs.declared.Found.{Found}
+use Rattle.places.specs.declared.Found.the-variants.{At, Nothing}
+use Rattle.places.proofs.Sets.{true-false}
+use Rattle.mirroring.specs.Mirrors.{blamedAt}
+use Rattle.mirroring.specs.declared.blame.Change.{Change}
+use Rattle.intents.specs.Intents.{noIntent, intentOf, isFree, firstTaken, reclaimedIf}
+use Rattle.intents.specs.declared.Intent.{Intent}
+use Rattle.files.specs.Counts.{standing, recounted, withCounts, movedBy}
+use Rattle.files.specs.File.{isFile, withMark, withMirrors, withIntents, isListed, isReady, standingOf, movedHead, countedHead, tallied, changedFile}
+use Rattle.files.specs.declared.counts.Standing.{Standing}
+use Rattle.files.specs.declared.file.File.{File}
+use Rattle.files.specs.declared.head.Head.{Head}
+
+-- ---- a file that stays
+pub stands : (l b : Bool) (h : Head) → movedBy (standing l b) (standing l b) h ≡ h
+stands true true h = refl
+stands true false h = refl
+stands false b h = refl
+
+pub moved-same : (f : File) (h : Head) → movedHead f f h ≡ h
+moved-same f h = stands (isListed f) (firstTaken (f .intents)) h
+
+-- ---- a file that gets an intent at the first free place has one
+pub some-taken : (c : ℕ) (xs : List Intent) (i : ℕ) → first isFree xs ≡ At i → firstTaken (set xs i (intentOf c)) ≡ true
+unfolding first
+some-taken c [] i e = let z : _≡_ {A = ℕ} 0 1 = cc in absurd (omega arith)
+some-taken c (x ∷ xs) i e = by (x .taken) refl (first isFree xs) e
+  where
+    by : (b : Bool) → x .taken ≡ b → (o : Found) → cond (not b) (At 0) (bump o) ≡ At i → getD (set (x ∷ xs) i (intentOf c)) 0 noIntent .taken ≡ true
+    by false t o q = let z : 0 ≡ i = cc in rw (← z)
+    by true t (At j) q = let z : suc j ≡ i = cc in rw (← z) t
+    by true t Nothing q = let z : _≡_ {A = ℕ} 0 1 = cc in absurd (omega arith)
+
+-- one that reclaims is where it was
+reclaimed-taken : (c : ℕ) (xs : List Intent) → firstTaken (map (reclaimedIf c) xs) ≡ firstTaken xs
+reclaimed-taken c [] = refl
+reclaimed-taken c (x ∷ xs) = refl
+
+pub moved-reclaimed : (c : ℕ) (f : File) (h : Head) → movedHead f (withIntents (map (reclaimedIf c) (f .intents)) f) h ≡ h
+moved-reclaimed c f h = ap (λ b. movedBy (standingOf f) (standing (isListed f) b) h) (reclaimed-taken c (f .intents)) ∙ moved-same f h
+
+-- ---- a file that a report marks, and one that it does not
+only-used : (u : Bool) → cond u true false ≡ u
+only-used true = refl
+only-used false = refl
+
+pub told-marks : (x : Change) (f : File) → cond (x .unknown) true (x .failed) ≡ true → standingOf (changedFile x f) ≡ standing (f .used) (firstTaken (f .intents))
+unfolding changedFile
+told-marks x f e = by (x .unknown) (x .failed) e
+  where
+    by : (u v : Bool) → cond u true v ≡ true → standingOf (cond u (withMark true f) (cond v (withMark true (withMirrors (blamedAt (x .blamed) (f .mirrors)) f)) f)) ≡ standing (f .used) (firstTaken (f .intents))
+    by true v q = ap (λ l. standing l (firstTaken (f .intents))) (only-used (f .used))
+    by false true q = ap (λ l. standing l (firstTaken (f .intents))) (only-used (f .used))
+    by false false q = true-false (sym q)
+
+pub told-leaves : (x : Change) (f : File) → cond (x .unknown) true (x .failed) ≡ false → changedFile x f ≡ f
+unfolding changedFile
+told-leaves x f e = by (x .unknown) (x .failed) e
+  where
+    by : (u v : Bool) → cond u true v ≡ false → cond u (withMark true f) (cond v (withMark true (withMirrors (blamedAt (x .blamed) (f .mirrors)) f)) f) ≡ f
+    by true v q = true-false q
+    by false true q = true-false q
+    by false false q = refl
+
+-- ---- the file of a number is one
+pub is-used : (n : ℕ) (f : File) → isFile n f ≡ true → f .used ≡ true
+is-used n f e = by (f .used) e
+  where
+    by : (u : Bool) → cond u (eqb (f .number) n) false ≡ true → u ≡ true
+    by true q = refl
+    by false q = true-false (sym q)
+
+-- ---- all of a list: a loop counts one more, and all are as many as are on either list
+pub tallied-snoc : (h : Head) (xs : List File) (x : File) → tallied h (xs ++ x ∷ []) ≡ countedHead (tallied h xs) x
+unfolding tallied
+tallied-snoc h [] x = refl
+tallied-snoc h (y ∷ ys) x = tallied-snoc (countedHead h y) ys x
+
+-- one count, of n and those of a list; one of those more
+on-list : (b : Bool) (n m : ℕ) (x : File) (xs : List File) → n + suc m < 2 ^ 64 → recounted false b n + length xs ≡ n + length (cond b (x ∷ xs) xs)
+on-list true n m x xs k = omega (arith, k)
+on-list false n m x xs k = refl
+
+few-more : (b : Bool) (n m : ℕ) → n + suc m < 2 ^ 64 → recounted false b n + m < 2 ^ 64
+few-more true n m k = omega (arith, k)
+few-more false n m k = omega (arith, k)
+
+pub tallied-lengths : (h : Head) (fs : List File) → h .waiting + length fs < 2 ^ 64 → h .offered + length fs < 2 ^ 64
+    → tallied h fs ≡ withCounts (h .waiting + length (chosen isListed fs)) (h .offered + length (chosen isReady fs)) h
+unfolding tallied chosen
+tallied-lengths h [] k j =
+    let w : h .waiting ≡ h .waiting + 0 = omega arith in
+    let o : h .offered ≡ h .offered + 0 = omega arith in
+    ap₂ {C = Head} (λ w o. withCounts w o h) w o
+tallied-lengths h (f ∷ fs) k j =
+    tallied-lengths (countedHead h f) fs (few-more (isListed f) (h .waiting) (length fs) k) (few-more (isReady f) (h .offered) (length fs) j)
+    ∙ ap₂ {C = Head} (λ w o. withCounts w o h) (on-list (isListed f) (h .waiting) (length fs) f (chosen isListed fs) k) (on-list (isReady f) (h .offered) (length fs) f (chosen isReady fs) j)
