@@ -22,23 +22,23 @@ Reads s (Answered k) = Unit {0}
 Reads s HandedOn = Unit {0}
 Reads s (ReadBody len) = partOf len s ≡ bodyOf s
 
-phase-reads : (s : Bytes) (len : ℕ) → partOf len s ≡ bodyOf s → (k : Kind) {m n : ℕ} (o g : Bool) → Reads s (phaseOf k (record { waiting = m; offered = n; grace = g; old = o }) len)
-phase-reads s len e Anonymous true g = tt
-phase-reads s len e Anonymous false true = e
-phase-reads s len e Anonymous false false = tt
-phase-reads s len e Bypass o true = tt
-phase-reads s len e Bypass o false = tt
-phase-reads s len e Invalid o true = tt
-phase-reads s len e Invalid o false = tt
-phase-reads s len e Current o true = tt
-phase-reads s len e Current o false = tt
-phase-reads s len e Ordinary o true = tt
-phase-reads s len e Ordinary o false = tt
+phase-reads : (s : Bytes) (len : ℕ) → partOf len s ≡ bodyOf s → (h : Head) (k : Kind) (o g : Bool) → Reads s (phaseOf k (record { waiting = h .waiting; offered = h .offered; grace = g; old = o }) len)
+phase-reads s len e h Anonymous true g = tt
+phase-reads s len e h Anonymous false true = e
+phase-reads s len e h Anonymous false false = tt
+phase-reads s len e h Bypass o true = tt
+phase-reads s len e h Bypass o false = tt
+phase-reads s len e h Invalid o true = tt
+phase-reads s len e h Invalid o false = tt
+phase-reads s len e h Current o true = tt
+phase-reads s len e h Current o false = tt
+phase-reads s len e h Ordinary o true = tt
+phase-reads s len e h Ordinary o false = tt
 
 request-reads : (s : Bytes) (h : Head) (q : Request) → requestOf s ≡ q → Reads s (decided h q)
 request-reads s h (request.Refused k) e = tt
 request-reads s h request.Bulk e = tt
-request-reads s h (request.File a n) e = phase-reads s n (body-part s e) a (h .old) (h .grace)
+request-reads s h (request.File a n) e = phase-reads s n (body-part s e) h a (h .old) (h .grace)
 
 reads : (s : Bytes) (h : Head) (room : ℕ) → Reads s (decisionOf h s room)
 unfolding decisionOf

@@ -26,7 +26,7 @@ use Rattle.places.proofs.Slots.{All, Slots, Focus, Hit, slots-map, slots-chosen
 use Rattle.places.proofs.Sets.{true-false, first-nothing, none-at, first-no, rest-no}
 use Rattle.mirroring.proofs.Enrolling.{few-mirrors}
 use Rattle.ledger.specs.Ledger.{Row, Ledger, isRow, newRow, registered, rowOf, openRules, intentRules, closeRules, repairedRules, addProxyRules, removeProxyRules, forgetRules, isOn, rowsOn, listOf, numbers, source, opened, hasReclaimed, closed, mended, proxyAdded, proxyRemoved, restarted, ended, insert, withRows, withGrace, onRow}
-use Rattle.recovery.specs.Record.{withFiles, answered, placeIn, fileAt, putFile, onPlace, openOf, reclaimOf, closeOf, repairedOf, addProxyOf, removeProxyOf, raised, roomIn, enter, pulled, withoutFile, isFull, registerWith, registerOf, forgets, forgetOf, endOf, restartOf, isWanted, numberOf, listingOf}
+use Rattle.recovery.specs.Record.{withFiles, answered, placeIn, fileAt, putFile, onPlace, openOf, reclaimOf, closeOf, repairedOf, addProxyOf, removeProxyOf, raised, roomIn, enter, pulled, withoutFile, isFull, registerWith, registerOf, forgets, forgetOf, endOf, restartOf, isWanted, numberOf, listingOf, endedHead}
 use Rattle.mirroring.specs.declared.source.Direction.{Direction}
 use Rattle.recovery.specs.declared.listing.Listing.{Listing}
 use Rattle.recovery.specs.declared.listing.Listing.the-variants.{Resilver, Offered}
@@ -92,15 +92,15 @@ module _ {r : Record} {l : Ledger} (n : ℕ) (h : File → FileAnswered) (g : Ro
   stored : (i : ℕ) (w : Row) (a : FileAnswered) → There n r l i w → (b : Bool) → FileKept (r .head) (l .grace) a (cond b (g w) w)
       → Matches (putFile r i a .after) (cond b (onRow l n g) l)
   stored i w a z true k = record {
-    old = ap (λ (d : Head). d .old) (k .head) ∙ m .old;
-    grace = ap (λ (d : Head). d .grace) (k .head) ∙ m .grace;
+    old = ap (λ (d : Bool × Bool). d .1) (k .head) ∙ m .old;
+    grace = ap (λ (d : Bool × Bool). d .0) (k .head) ∙ m .grace;
     long = length-set (r .files) i (a .file) ∙ m .long;
     rows = z .put (a .file) g (k .file);
     rising = rw (amend-numbers (isRow n) g same-number (l .rows)) (m .rising);
   }
   stored i w a z false k = record {
-    old = ap (λ (d : Head). d .old) (k .head) ∙ m .old;
-    grace = ap (λ (d : Head). d .grace) (k .head) ∙ m .grace;
+    old = ap (λ (d : Bool × Bool). d .1) (k .head) ∙ m .old;
+    grace = ap (λ (d : Bool × Bool). d .0) (k .head) ∙ m .grace;
     long = length-set (r .files) i (a .file) ∙ m .long;
     rows = z .keep (a .file) (k .file);
     rising = m .rising;
@@ -455,7 +455,7 @@ unfolding restartedFile
 restarted-free f h = h
 
 abbrev endedRecord : Record → Record
-endedRecord r = record { files = map endedFile (r .files); head = record { grace = false; old = r .head .old } }
+endedRecord r = record { files = map endedFile (r .files); head = endedHead (map endedFile (r .files)) (r .head) }
 
 end-by : {r : Record} {l : Ledger} → Matches r l → (b : Bool) → l .grace ≡ b → RecordAgrees (endOf r) l (withGrace false (withRows (map ended (l .rows)) l)) (cond (not b) 10033 0)
 unfolding endOf
@@ -489,12 +489,12 @@ restart-agrees {r} {l} m = record {
 
 -- ---- the lists
 module _ {r : Record} {l : Ledger} (m : Matches r l) where
-  same-test : (k : Listing) (f : File) (w : Row) → FileIs (l .grace) f w → isWanted k f ≡ isOn k w
+  pub same-test : (k : Listing) (f : File) (w : Row) → FileIs (l .grace) f w → isWanted k f ≡ isOn k w
   unfolding isWanted
   same-test Resilver f w h = rw (h .used) (h .marked)
   same-test Offered f w h = rw (h .used, h .marked, some-taken h)
 
-  free-not-on : (k : Listing) (f : File) → NoFile f → isWanted k f ≡ false
+  pub free-not-on : (k : Listing) (f : File) → NoFile f → isWanted k f ≡ false
   unfolding isWanted
   free-not-on Resilver f h = rw h
   free-not-on Offered f h = rw h

@@ -6,6 +6,7 @@ mod Totalled
 mod Returns
 pub mod Sentences
 pub mod History
+pub mod Counted
 mod Fed
 mod Within
 mod Worse

@@ -78,9 +78,12 @@ pub branch : {X S L : Type 0} {M : S → L → Type 0} {st : X → ℕ} {af : X 
 branch true e h k = rw e (h refl)
 branch false e h k = rw e (k refl)
 
--- the file goes with the row, and what stands beside the files is d
+-- the file goes with the row, and phase and edition are as they were
+abbrev pub phaseIn : Head → Bool × Bool
+phaseIn d = (d .grace, d .old)
+
 pub record FileKept (d : Head) (g : Bool) (a : FileAnswered) (w : Row) : Type 0 where
-  pub head : a .head ≡ d
+  pub head : phaseIn (a .head) ≡ phaseIn d
   pub file : FileIs g (a .file) w
 
 abbrev pub FileAgrees : Head → Bool → FileAnswered → Row → Row → ℕ → Type 0

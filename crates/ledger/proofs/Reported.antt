@@ -16,13 +16,13 @@ use Rattle.mirroring.specs.Blame.{blaming, statusOnly, withChange, withErrorAt,
 use Rattle.mirroring.specs.TotalsSteps.{mirrorTotals}
 use Rattle.files.specs.File as file
 use Rattle.files.specs.File.{fileAnswered, changedFile}
-use Rattle.layoutreturn.specs.LayoutReturn.{ofIntent, reportOn, outcomeOf}
+use Rattle.layoutreturn.specs.LayoutReturn.{ofIntent, reportOn, outcomeOn}
 use Rattle.mirroring.specs.declared.mirrors.Mirror.{Mirror}
 use Rattle.mirroring.specs.declared.blame.Assessment.{Assessment}
 use Rattle.files.specs.declared.file.File.{File}
 use Rattle.files.specs.declared.file.FileAnswered.{FileAnswered}
 use Rattle.files.specs.declared.head.Head.{Head}
-use Rattle.files.proofs.Changing.{unchanged}
+use Rattle.files.proofs.Changing.{unchanged, told-nothing}
 use Rattle.recovery.specs.LayoutReturn.{answeredBy}
 use Rattle.places.specs.declared.Found.{Found}
 use Rattle.places.specs.declared.Found.the-variants.{At, Nothing}
@@ -131,10 +131,10 @@ file-after-report {g} {f} {w} xs ys k = after-report (over (withError (f .mirror
 
 -- ---- what is answered of an assessment, and the file afterwards; a refusal changes nothing
 abbrev pub assessedFile : Head → File → Assessment → FileAnswered
-assessedFile d f a = answeredBy f (outcomeOf d a)
+assessedFile d f a = answeredBy f (outcomeOn d f a)
 
 pub nothing-changed : (d : Head) (k : ℕ) (f : File) → assessedFile d f (statusOnly k) ≡ fileAnswered k d f
-nothing-changed d k f = ap (fileAnswered k d) (unchanged f)
+nothing-changed d k f = rw (told-nothing f d) (ap (fileAnswered k d) (unchanged f))
 
 -- ---- steps 5 and 6
 pub whole-status : (ms : List Mirror) (xs : List DeviceError) (ys : List Statistic) → assessmentOf ms (Whole xs ys) .status ≡ 0

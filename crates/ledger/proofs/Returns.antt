@@ -116,7 +116,7 @@ module _ {r : Record} {l : Ledger} (m : Matches r l) (n c : ℕ) (s d : List ℕ
 
   -- ---- step 4
   abbrev phase : Kind → ℕ → Bool → Bool → Returned
-  phase a k o g = returnedBy n c s r (phaseOf a (record { grace = g; old = o }) k)
+  phase a k o g = returnedBy n c s r (phaseOf a (record { waiting = r .head .waiting; offered = r .head .offered; grace = g; old = o }) k)
 
   bypass : (k : ℕ) (o g : Bool) → StepIs (returns (phase kind.Bypass k o g) d) l this (firstOf (g ⇒ refusal 10013 d ∷ []) (refusal 10025 d))
   bypass k o true = refuses 10013 (omega arith) (λ e. omega arith)

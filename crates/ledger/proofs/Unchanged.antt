@@ -66,15 +66,15 @@ module _ (d : Head) (f : File) where
   refuses : (s : ℕ) → FileKept d f (fileAnswered s d f)
   refuses s = record { kept = λ e. refl }
 
-  accepts : (g : File) → FileKept d f (fileAnswered 0 d g)
-  accepts g = record { kept = λ e. true-false e }
+  accepts : (e : Head) (g : File) → FileKept d f (fileAnswered 0 e g)
+  accepts e g = record { kept = λ e. true-false e }
 
   of-file : (n : ℕ) {a : FileAnswered} → FileKept d f a → FileKept d f (ofFile n d f a)
   of-file n k = either (isFile n f) k (refuses 70)
 
   taking : (c : ℕ) (o : Found) → FileKept d f (takes c d f o)
   taking c Nothing = refuses 28
-  taking c (At i) = accepts _
+  taking c (At i) = accepts _ _
 
   opening-by : (c : ℕ) (o : Found) → FileKept d f (opens c d f o)
   opening-by c (At i) = refuses 0
@@ -82,11 +82,11 @@ module _ (d : Head) (f : File) where
 
   reclaiming : (c : ℕ) (o : Found) → FileKept d f (reclaims c d f o)
   reclaiming c Nothing = refuses 10034
-  reclaiming c (At i) = accepts _
+  reclaiming c (At i) = accepts _ _
 
   leaving : (o : Found) → FileKept d f (leaves d f o)
   leaving Nothing = refuses 10025
-  leaving (At i) = either (unreclaimedBar (d .grace) (getD (f .intents) i noIntent .reclaimed)) (refuses 10025) (accepts _)
+  leaving (At i) = either (unreclaimedBar (d .grace) (getD (f .intents) i noIntent .reclaimed)) (refuses 10025) (accepts _ _)
 
   open-kept : (n c : ℕ) → FileKept d f (openedFile n d c f)
   unfolding openedFile
@@ -102,7 +102,7 @@ module _ (d : Head) (f : File) where
 
   repaired-kept : (n : ℕ) → FileKept d f (repairedFile n d f)
   unfolding repairedFile
-  repaired-kept n = of-file n (either (not (f .marked)) (refuses 22) (either (firstTaken (f .intents)) (refuses 10008) (accepts (mendedFile f))))
+  repaired-kept n = of-file n (either (not (f .marked)) (refuses 22) (either (firstTaken (f .intents)) (refuses 10008) (accepts _ (mendedFile f))))
 
   add-proxy-kept : (n : ℕ) (s : Bytes) → FileKept d f (proxyAddedFile n d s f)
   unfolding proxyAddedFile

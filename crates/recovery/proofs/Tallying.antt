@@ -1,13 +1,16 @@
 -- A loop that counts files as it changes them: `Tallying` holds at its head, of what it began with, what stands beside the files, the files and the place. Then
 -- that the end of grace counts both lists.
-use mathlib.Core.Path.{_≡_, refl, sym, ap, _∙_}
+use mathlib.Core.Path.{_≡_, refl, sym, ap, ap₂, _∙_}
+use mathlib.Core.Bool.{false}
 use mathlib.Core.List.{List, map}
 use Prim.Native.Nat.{ℕ, _+_, _<_, _≤_}
 use native.Mathlib.Numerals.{add-one}
+use native.Mathlib.Nat.{zero-add}
 use native.Mathlib.Omega.{arith}
 use lib.ListN.{length, take, set, length-map}
 use lib.Seq.{take-suc-set, take-all}
-use Rattle.files.specs.File.{countedHead, tallied, endedFile}
+use Rattle.places.specs.Lists.{chosen}
+use Rattle.files.specs.File.{countedHead, tallied, endedFile, isListed, isReady}
 use Rattle.files.specs.declared.file.File.{File}
 use Rattle.files.specs.declared.head.Head.{Head}
 use Rattle.files.proofs.Counting.{tallied-snoc, tallied-lengths}
@@ -33,3 +36,4 @@ pub ended-counts : (fs : List File) (h : Head) → length fs ≡ 64 → tallied 
 ended-counts fs h long =
     let n : length (map endedFile fs) ≡ 64 = length-map fs endedFile ∙ long in
     tallied-lengths (record { waiting = 0; offered = 0; grace = false; old = h .old }) (map endedFile fs) (omega (arith, n)) (omega (arith, n))
+    ∙ ap₂ {C = Head} (λ w o. record { waiting = w; offered = o; grace = false; old = h .old }) (zero-add (length (chosen isListed (map endedFile fs)))) (zero-add (length (chosen isReady (map endedFile fs))))

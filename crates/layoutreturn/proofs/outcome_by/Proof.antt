@@ -48,7 +48,7 @@ returns-2 c = c .of2 .ensures ∙ rw (c .before .only2 .ensures, c .before .befo
 
 returns-3 : tie.Need-returns-3
 unfolding outcomeBy
-returns-3 c = c .of3 .ensures ∙ rw (c .before .told .ensures, c .before .before .report .ensures, c .before .before .before .part .ensures, c .before .before .before .before .before .d2 .given .1)
+returns-3 c = c .of3 .ensures ∙ rw (c .before .told .ensures, c .before .before .before .report .ensures, c .before .before .before .before .part .ensures, c .before .before .before .before .before .before .d2 .given .1)
 
 pub outcome-by-spec : {M : Type 1} → statement M
 outcome-by-spec =
