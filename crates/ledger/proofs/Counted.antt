@@ -1,5 +1,5 @@
 -- The two counts are the lengths of the two lists: `counted : CountsAgree`. In this order: how many of a list pass, where one is changed, entered or taken out;
--- the counts of a record; each call on one file moves them by what the file adds before and after; LAYOUTRETURN; register; forget; restart; a step; any list of calls.
+-- the counts of a record; each call on one file moves them by what the file adds before and after; LAYOUTRETURN; register; forget; restart; the end of grace; a step; any list of calls.
 use mathlib.Core.Path.{_≡_, refl, ap, ap₂, sym, _∙_}
 use mathlib.Core.List.{List, [], _∷_, _++_, map}
 use mathlib.Core.Bool.{Bool, true, false, not, cond}
@@ -11,7 +11,7 @@ use lib.Dec.{eqb, leb}
 use Rattle.reports.specs.Report.{reportOf}
 use Rattle.wire.specs.Request.{bodyOf}
 use Rattle.places.specs.Lists.{chosen}
-use Rattle.places.specs.Places.{first, bump, placeOr}
+use Rattle.places.specs.Places.{first, bump, placeOr, leftOut}
 use Rattle.places.specs.declared.Found.{Found}
 use Rattle.places.specs.declared.Found.the-variants.{At, Nothing}
 use Rattle.places.proofs.Loops.{found-below}
@@ -20,10 +20,10 @@ use Rattle.places.proofs.Slots.{chosen-length, slots-chosen, pairs-length}
 use Rattle.mirroring.specs.Mirrors.{enrolledOf}
 use Rattle.mirroring.specs.declared.blame.Assessment.{Assessment}
 use Rattle.mirroring.specs.declared.enrol.Enrolled.{Enrolled}
-use Rattle.intents.specs.Intents.{noIntent, isIntent, isFree, firstTaken, unreclaimedIntent}
+use Rattle.intents.specs.Intents.{noIntent, intentOf, isIntent, isFree, firstTaken, unreclaimedIntent}
 use Rattle.intents.specs.declared.Intent.{Intent}
 use Rattle.files.specs.Counts.{recounted}
-use Rattle.files.specs.File.{noFile, blankFile, fileOf, isFile, isVacant, isListed, isReady, movedHead, unreclaimedBar, fileAnswered, becomes, ofFile, takes, opens, openedFile, reclaims, reclaimedFile, leaves, closedFile, repairedFile, mendedFile, forgettable, restartedFile, toldHead}
+use Rattle.files.specs.File.{noFile, blankFile, fileOf, isFile, isVacant, isListed, isReady, movedHead, unreclaimedBar, fileAnswered, becomes, ofFile, takes, opens, openedFile, reclaims, reclaimedFile, leaves, closedFile, repairedFile, mendedFile, forgettable, restartedFile, endedFile, toldHead, withIntents}
 use Rattle.files.specs.declared.file.File.{File}
 use Rattle.files.specs.declared.file.FileAnswered.{FileAnswered}
 use Rattle.files.specs.declared.head.Edition.{Edition}
@@ -35,7 +35,7 @@ use Rattle.layoutreturn.specs.declared.Decision.the-variants as decision
 use Rattle.recovery.specs.Calls.{Call, register, opening, reclaim, close, repaired, forget, endGrace, restart, layoutReturn, listing}
 use Rattle.recovery.specs.Counts.{counts}
 use Rattle.recovery.specs.LayoutReturn.{answeredBy, reportedOf, returnedBy, layoutreturnOf}
-use Rattle.recovery.specs.Record.{freshAs, withFiles, answered, placeIn, fileAt, onPlace, openOf, reclaimOf, closeOf, repairedOf, raised, roomIn, enter, pulled, withoutFile, isFull, registerWith, registerOf, forgets, forgetOf, endOf, restartOf, isWanted}
+use Rattle.recovery.specs.Record.{freshAs, withFiles, answered, placeIn, fileAt, onPlace, openOf, reclaimOf, closeOf, repairedOf, raised, roomIn, enter, pulled, withoutFile, isFull, registerWith, registerOf, forgets, forgetOf, endedHead, endOf, restartOf, isWanted}
 use Rattle.recovery.specs.declared.counts.Counts.{Counts}
 use Rattle.recovery.specs.declared.listing.Listing.the-variants.{Resilver, Offered}
 use Rattle.recovery.specs.declared.record.Answered.{Answered}
@@ -83,11 +83,11 @@ module _ {A : Type 0} (p : A → Bool) where
   first-passes : (d : A) (xs : List A) (i : ℕ) → first p xs ≡ At i → p (getD xs i d) ≡ true
   unfolding first
   first-passes d [] i e = let z : _≡_ {A = ℕ} 0 1 = cc in absurd (omega arith)
-  first-passes d (x ∷ xs) i e = by (p x) refl (first p xs) refl e
+  first-passes d (x ∷ xs) i e = by (p x) refl (first p xs) (λ j q. first-passes d xs j q) e
     where
-      by : (b : Bool) → p x ≡ b → (o : Found) → first p xs ≡ o → cond b (At 0) (bump o) ≡ At i → p (getD (x ∷ xs) i d) ≡ true
+      by : (b : Bool) → p x ≡ b → (o : Found) → ((j : ℕ) → o ≡ At j → p (getD xs j d) ≡ true) → cond b (At 0) (bump o) ≡ At i → p (getD (x ∷ xs) i d) ≡ true
       by true t o q k = let z : 0 ≡ i = cc in rw (← z) t
-      by false t (At j) q k = let z : suc j ≡ i = cc in rw (← z) (first-passes d xs j q)
+      by false t (At j) q k = let z : suc j ≡ i = cc in rw (← z) (q j refl)
       by false t Nothing q k = let z : _≡_ {A = ℕ} 0 1 = cc in absurd (omega arith)
 
 -- a file is entered from the place i down, or taken out
@@ -95,26 +95,23 @@ module _ (p : File → Bool) where
   raised-many : (x : File) (i : ℕ) (fs : List File) → i < length fs → many p (raised x i fs) + one (p (getD fs i noFile)) ≡ many p fs + one (p x)
   unfolding raised
   raised-many x zero fs l = many-set p noFile fs 0 x l
-  raised-many x (suc i) fs l = by (leb (getD fs i noFile .number) (x .number))
+  raised-many x (suc i) fs l =
+      let y = getD fs i noFile in
+      by (leb (y .number) (x .number)) (raised-many x i (set fs (suc i) y) (omega (arith, l, length-set fs (suc i) y)))
     where
-      y : File
-      y = getD fs i noFile
-
-      up : List File
-      up = set fs (suc i) y
-
-      by : (b : Bool) → many p (cond b (set fs (suc i) x) (raised x i up)) + one (p (getD fs (suc i) noFile)) ≡ many p fs + one (p x)
-      by true = many-set p noFile fs (suc i) x l
-      by false = omega (arith, raised-many x i up (omega (arith, l, length-set fs (suc i) y)), ap (λ z. one (p z)) (getD-set-other fs (suc i) i y noFile (λ e. omega (arith, e))), many-set p noFile fs (suc i) y l)
+      by : (b : Bool) → many p (raised x i (set fs (suc i) (getD fs i noFile))) + one (p (getD (set fs (suc i) (getD fs i noFile)) i noFile)) ≡ many p (set fs (suc i) (getD fs i noFile)) + one (p x)
+          → many p (cond b (set fs (suc i) x) (raised x i (set fs (suc i) (getD fs i noFile)))) + one (p (getD fs (suc i) noFile)) ≡ many p fs + one (p x)
+      by true k = many-set p noFile fs (suc i) x l
+      by false k = omega (arith, k, ap (λ z. one (p z)) (getD-set-other fs (suc i) i (getD fs i noFile) noFile (λ e. omega (arith, e))), many-set p noFile fs (suc i) (getD fs i noFile) l)
 
   pulled-many : (x : File) (xs : List File) → p blankFile ≡ false → many p (pulled (x ∷ xs)) + one (p x) ≡ many p (x ∷ xs)
   unfolding pulled
   pulled-many x [] e = omega (arith, many-cons p x [], many-cons p blankFile [], ap one e)
-  pulled-many x (y ∷ ys) e = by (isVacant y)
+  pulled-many x (y ∷ ys) e = by (isVacant y) (pulled-many y ys e)
     where
-      by : (b : Bool) → many p (cond b (blankFile ∷ y ∷ ys) (y ∷ pulled (y ∷ ys))) + one (p x) ≡ many p (x ∷ y ∷ ys)
-      by true = omega (arith, many-cons p x (y ∷ ys), many-cons p blankFile (y ∷ ys), ap one e)
-      by false = omega (arith, many-cons p x (y ∷ ys), many-cons p y (pulled (y ∷ ys)), pulled-many y ys e)
+      by : (b : Bool) → many p (pulled (y ∷ ys)) + one (p y) ≡ many p (y ∷ ys) → many p (cond b (blankFile ∷ y ∷ ys) (y ∷ pulled (y ∷ ys))) + one (p x) ≡ many p (x ∷ y ∷ ys)
+      by true k = omega (arith, many-cons p x (y ∷ ys), many-cons p blankFile (y ∷ ys), ap one e)
+      by false k = omega (arith, many-cons p x (y ∷ ys), many-cons p y (pulled (y ∷ ys)), k)
 
   without-many : (i : ℕ) (fs : List File) → p blankFile ≡ false → i < length fs → p (getD fs i noFile) ≡ false → many p (withoutFile i fs) ≡ many p fs
   without-many i fs e l q =
@@ -165,7 +162,7 @@ module _ (d : Head) (f : File) where
 
   taking : (c : ℕ) (o : Found) → Moves d f (takes c d f o)
   taking c Nothing = keeps 28
-  taking c (At i) = makes _
+  taking c (At i) = makes (withIntents (set (f .intents) i (intentOf c)) f)
 
   opening-by : (c : ℕ) (o : Found) → Moves d f (opens c d f o)
   opening-by c (At i) = keeps 0
@@ -177,7 +174,7 @@ module _ (d : Head) (f : File) where
 
   leaving : (o : Found) → Moves d f (leaves d f o)
   leaving Nothing = keeps 10025
-  leaving (At i) = either (unreclaimedBar (d .grace) (getD (f .intents) i noIntent .reclaimed)) (keeps 10025) (makes _)
+  leaving (At i) = either (unreclaimedBar (d .grace) (getD (f .intents) i noIntent .reclaimed)) (keeps 10025) (makes (withIntents (leftOut noIntent i (f .intents)) f))
 
   open-moves : (n c : ℕ) → Moves d f (openedFile n d c f)
   unfolding openedFile
@@ -225,7 +222,13 @@ return-by n c s r long k (decision.ReadBody len) =
 with-files : (r : Record) (fs : List File) → Counted r → ((p : File → Bool) → ((f : File) → isListed f ≡ false → p f ≡ false) → many p fs ≡ many p (r .files)) → Counted (withFiles fs r)
 with-files r fs c e = record { waiting = c .waiting ∙ sym (e isListed (λ f q. q)); offered = c .offered ∙ sym (e isReady (λ f q. ap (λ b. cond b (not (firstTaken (f .intents))) false) q)) }
 
-by-test : {a b : Answered} (t : Bool) → Counted (a .after) → Counted (b .after) → Counted (cond t a b .after)
+record CountedBy (a : Answered) : Type 0 where
+  so : Counted (a .after)
+
+answering : (s : ℕ) {r : Record} → Counted r → CountedBy (answered s r)
+answering s c = record { so = c }
+
+by-test : {a b : Answered} (t : Bool) → CountedBy a → CountedBy b → CountedBy (cond t a b)
 by-test true h k = h
 by-test false h k = k
 
@@ -252,12 +255,12 @@ entered x r long e q c =
     with-files r (raised x (roomIn (r .files)) (r .files)) c
     (λ p out. omega (arith, raised-many p x (roomIn (r .files)) (r .files) (omega (arith, k .0, long)), ap one (out (getD (r .files) (roomIn (r .files)) noFile) (k .1)), ap one (out x q)))
 
-registering : (n : ℕ) (e : Enrolled) (r : Record) → length (r .files) ≡ 64 → Counted r → Counted (registerWith n e r .after)
-registering n e r long c = by-test (e .good) (by-test (isFile n (fileAt n r)) c (full (isFull r) refl)) c
+registering : (n : ℕ) (e : Enrolled) (r : Record) → length (r .files) ≡ 64 → Counted r → CountedBy (registerWith n e r)
+registering n e r long c = by-test (e .good) (by-test (isFile n (fileAt n r)) (answering 17 c) (full (isFull r) refl)) (answering 22 c)
   where
-    full : (b : Bool) → isFull r ≡ b → Counted (cond b (answered 28 r) (answered 0 (withFiles (enter (fileOf n (e .mirrors)) (r .files)) r)) .after)
-    full true q = c
-    full false q = entered (fileOf n (e .mirrors)) r long q refl c
+    full : (b : Bool) → isFull r ≡ b → CountedBy (cond b (answered 28 r) (answered 0 (withFiles (enter (fileOf n (e .mirrors)) (r .files)) r)))
+    full true q = answering 28 c
+    full false q = answering 0 (entered (fileOf n (e .mirrors)) r long q refl c)
 
 -- ---- forget: the file that goes is not marked
 unmarked : (n : ℕ) (d : Head) (f : File) → eqb (forgettable n d f) 0 ≡ true → isListed f ≡ false
@@ -274,14 +277,14 @@ unmarked n d f e = by (d .grace) (isFile n f) (f .marked) (firstTaken (f .intent
     by false true true t q = true-false (sym q)
     by false true false t q = off (f .used)
 
-forgetting : (n : ℕ) (r : Record) → length (r .files) ≡ 64 → Counted r → Counted (forgets (forgettable n (r .head) (fileAt n r)) n r .after)
+forgetting : (n : ℕ) (r : Record) → length (r .files) ≡ 64 → Counted r → CountedBy (forgets (forgettable n (r .head) (fileAt n r)) n r)
 forgetting n r long c = by (eqb (forgettable n (r .head) (fileAt n r)) 0) refl
   where
     by : (b : Bool) → eqb (forgettable n (r .head) (fileAt n r)) 0 ≡ b
-        → Counted (cond b (answered 0 (withFiles (withoutFile (placeIn n r) (r .files)) r)) (answered (forgettable n (r .head) (fileAt n r)) r) .after)
-    by true q = with-files r (withoutFile (placeIn n r) (r .files)) c
-        (λ p out. without-many p (placeIn n r) (r .files) (out blankFile refl) (omega (arith, long, place-inside n r long)) (out (fileAt n r) (unmarked n (r .head) (fileAt n r) q)))
-    by false q = c
+        → CountedBy (cond b (answered 0 (withFiles (withoutFile (placeIn n r) (r .files)) r)) (answered (forgettable n (r .head) (fileAt n r)) r))
+    by true q = answering 0 (with-files r (withoutFile (placeIn n r) (r .files)) c
+        (λ p out. without-many p (placeIn n r) (r .files) (out blankFile refl) (omega (arith, long, place-inside n r long)) (out (fileAt n r) (unmarked n (r .head) (fileAt n r) q))))
+    by false q = answering _ c
 
 -- ---- restart: no file leaves a list or enters one
 unreclaimed-taken : (xs : List Intent) → firstTaken (map unreclaimedIntent xs) ≡ firstTaken xs
@@ -295,20 +298,24 @@ restarting r c = record {
   offered = c .offered ∙ sym (many-map isReady restartedFile (λ f. ap (λ b. cond (isListed f) (not b) false) (unreclaimed-taken (f .intents))) (r .files));
 }
 
--- ---- a step
-ending : (r : Record) → Counted r → Counted (endOf r .after)
-unfolding endOf
-ending r c = by-test (r .head .grace) (record { waiting = refl; offered = refl }) c
+-- ---- the end of grace counts both lists
+counted-anew : (r : Record) → Counted (record { files = map endedFile (r .files); head = endedHead (map endedFile (r .files)) (r .head) })
+counted-anew r = record { waiting = refl; offered = refl }
 
+ending : (r : Record) → Counted r → CountedBy (endOf r)
+unfolding endOf
+ending r c = by-test (r .head .grace) (answering 0 (counted-anew r)) (answering 10033 c)
+
+-- ---- a step
 pub counted-step : (r : Record) (x : Call) → length (r .files) ≡ 64 → Counted r → Counted (step r x .after)
 unfolding step registerOf openOf reclaimOf closeOf repairedOf forgetOf layoutreturnOf
-counted-step r (register n s) long c = by-test (r .head .grace) c (registering n (enrolledOf s) r long c)
+counted-step r (register n s) long c = by-test (r .head .grace) (answering 10013 c) (registering n (enrolledOf s) r long c) .so
 counted-step r (opening n k) long c = on-place n (openedFile n (r .head) k) r long c (open-moves (r .head) (fileAt n r) n k)
 counted-step r (reclaim n k) long c = on-place n (reclaimedFile n (r .head) k) r long c (reclaim-moves (r .head) (fileAt n r) n k)
 counted-step r (close n k) long c = on-place n (closedFile n (r .head) k) r long c (close-moves (r .head) (fileAt n r) n k)
 counted-step r (repaired n) long c = on-place n (repairedFile n (r .head)) r long c (repaired-moves (r .head) (fileAt n r) n)
-counted-step r (forget n) long c = forgetting n r long c
-counted-step r endGrace long c = ending r c
+counted-step r (forget n) long c = forgetting n r long c .so
+counted-step r endGrace long c = ending r c .so
 counted-step r restart long c = restarting r c
 counted-step r (layoutReturn n k s d) long c = return-by n k s r long c (decisionOf (r .head) s (length d))
 counted-step r (listing k e a b) long c = c

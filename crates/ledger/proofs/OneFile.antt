@@ -21,10 +21,11 @@ use Rattle.mirroring.specs.Direction.{firstBy}
 use Rattle.mirroring.specs.Source.{goodFrom, sourceIn}
 use Rattle.mirroring.specs.declared.source.Direction.{Direction}
 use Rattle.mirroring.specs.Blame.{assessmentOf}
+use Rattle.mirroring.specs.declared.blame.Change.{Change}
 use Rattle.intents.specs.Intents.{noIntent, noIntents, intentOf, isIntent, isFree, isKept, isLost, firstTaken, reclaimedIf, unreclaimedIntent}
 use Rattle.files.specs.declared.head.Edition.the-variants.{Current}
 use Rattle.files.specs.File as file
-use Rattle.files.specs.File.{fileOf, fileAnswered, takes, opens, reclaims, leaves, mendedFile, restartedFile, endedFile, sourceOf}
+use Rattle.files.specs.File.{fileOf, fileAnswered, becomes, toldHead, takes, opens, reclaims, leaves, mendedFile, restartedFile, endedFile, sourceOf}
 use Rattle.layoutreturn.specs.LayoutReturn.{ofClient}
 use Rattle.intents.specs.declared.Intent.{Intent}
 use Rattle.mirroring.specs.declared.mirrors.Mirror.{Mirror}
@@ -36,7 +37,7 @@ use Rattle.places.proofs.Slots.{All, Pairs, Slots, Focus, Room, slots-left, slo
 use Rattle.places.proofs.Sets.{true-false, has-with, with-old, with-new}
 use Rattle.mirroring.proofs.Copies.{MirrorIs, PlacesAre, Copies, five, known, has-proxy, copies-unblamed, copies-proxied, copies-bare, copies-new}
 use Rattle.ledger.specs.Ledger.{Row, newRow, names, source, unblamedFrom, openRules, intentRules, closeRules, repairedRules, addProxyRules, removeProxyRules, opened, hasReclaimed, closed, mended, proxyAdded, proxyRemoved, restarted, ended, reported, lost}
-use Rattle.ledger.proofs.Relation.{IntentIs, NoIntent, Intents, FileIs, with-intents, with-mark, with-copies, with-proxy, FileAgrees, branch}
+use Rattle.ledger.proofs.Relation.{IntentIs, NoIntent, Intents, FileIs, with-intents, with-mark, with-copies, with-proxy, FileAgrees, branch, phaseIn}
 use Rattle.ledger.proofs.Reported.{assessedFile, nothing-changed, file-after-report, whole-status}
 
 -- ---- tests of intents
@@ -135,7 +136,7 @@ file-closed d c e h = leaves-at d c e h (at-intent c h)
 
 -- ---- repaired
 pub file-repaired : {g : Bool} {f : File} {w : Row} (d : Head) → FileIs g f w
-    → FileAgrees d g (cond (not (f .marked)) (fileAnswered 22 d f) (cond (firstTaken (f .intents)) (fileAnswered 10008 d f) (fileAnswered 0 d (mendedFile f)))) w (mended w) (refused (repairedRules w))
+    → FileAgrees d g (cond (not (f .marked)) (fileAnswered 22 d f) (cond (firstTaken (f .intents)) (fileAnswered 10008 d f) (becomes d f (mendedFile f)))) w (mended w) (refused (repairedRules w))
 file-repaired {g} {f} {w} d h = branch (not (w .marked)) (ap not (h .marked)) (λ z. record { same = refl; kept = record { head = refl; file = h } })
     (λ z. branch (not (none (w .intents))) (some-taken h) (λ y. record { same = refl; kept = record { head = refl; file = h } })
     (λ y. record { same = refl; kept = record { head = refl; file = with-mark (with-copies h (copies-unblamed (h .copies))) refl } }))
@@ -199,11 +200,15 @@ file-ended f w h = record {
 }
 
 -- ---- a report
+told-phase : (x : Change) (d : Head) (f : File) → phaseIn (toldHead x d f) ≡ phaseIn d
+unfolding toldHead
+told-phase x d f = refl
+
 reports-at : {g : Bool} {f : File} {w : Row} (d : Head) (c : ℕ) (xs : List DeviceError) (ys : List Statistic) → FileIs g f w → AtIntent c g f w
     → FileAgrees d g (assessedFile d f (ofClient (assessmentOf (f .mirrors) (Whole xs ys)) (first (isIntent c) (f .intents)))) w (reported Current xs w) (refused (intentRules c w))
 unfolding has
 reports-at {f} d c xs ys h (missing a b) = rw (a, b, nothing-changed d 10034 f) (record { same = refl; kept = record { head = refl; file = h } })
-reports-at {f} d c xs ys h (found i y t) = rw (t .at, t .there) (record { same = whole-status (f .mirrors) xs ys; kept = record { head = refl; file = file-after-report xs ys h } })
+reports-at {f} d c xs ys h (found i y t) = rw (t .at, t .there) (record { same = whole-status (f .mirrors) xs ys; kept = record { head = told-phase (assessmentOf (f .mirrors) (Whole xs ys) .change) d f; file = file-after-report xs ys h } })
 
 pub file-reported : {g : Bool} {f : File} {w : Row} (d : Head) (c : ℕ) (xs : List DeviceError) (ys : List Statistic) → FileIs g f w
     → FileAgrees d g (assessedFile d f (ofClient (assessmentOf (f .mirrors) (Whole xs ys)) (first (isIntent c) (f .intents)))) w (reported Current xs w) (refused (intentRules c w))

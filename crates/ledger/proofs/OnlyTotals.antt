@@ -20,9 +20,9 @@ use Rattle.mirroring.specs.Totals.{noTotals}
 use Rattle.mirroring.specs.Blame.{statusOnly, withTotals, errorsAssessed, assessmentOf}
 use Rattle.mirroring.specs.declared.blame.Assessment.{Assessment}
 use Rattle.mirroring.specs.declared.totals.Totals.{Totals}
-use Rattle.files.specs.File.{noFile, isFile, fileAnswered}
-use Rattle.files.proofs.Changing.{unchanged}
-use Rattle.layoutreturn.specs.LayoutReturn.{handedOnCode, phaseOf, decided, decisionOf, reportOn, outcomeOf, replyBy}
+use Rattle.files.specs.File.{noFile, isFile}
+use Rattle.files.specs.declared.file.FileAnswered.{FileAnswered}
+use Rattle.layoutreturn.specs.LayoutReturn.{handedOnCode, phaseOf, decided, decisionOf, reportOn, outcomeOn, replyBy}
 use Rattle.layoutreturn.specs.declared.Decision.{Decision}
 use Rattle.layoutreturn.specs.declared.Decision.the-variants.{Answered, HandedOn, ReadBody}
 use Rattle.files.specs.declared.file.File.{File}
@@ -33,6 +33,7 @@ use Rattle.recovery.specs.declared.returns.Returned.{Returned}
 use Rattle.recovery.specs.declared.record.Record.{Record}
 use Rattle.ledger.specs.History.{returnStep, step}
 use Rattle.ledger.specs.OnlyTotals.{kindOf, SameButStatistics, withoutTotals, Alike, OnlyTotals}
+use Rattle.ledger.proofs.Reported.{nothing-changed}
 
 -- ---- an assessment, but for the totals
 abbrev quiet : Assessment → Assessment
@@ -70,7 +71,7 @@ module _ (r : Record) (n c : ℕ) (d : List ℕ) where
 
   -- the same of an assessment of the file
   abbrev leaves : Assessment → Record
-  leaves h = putFile r (placeIn n r) (answeredBy (fileAt n r) (outcomeOf (r .head) h)) .after
+  leaves h = putFile r (placeIn n r) (answeredBy (fileAt n r) (outcomeOn (r .head) (fileAt n r) h)) .after
 
   abbrev says : Assessment → Answer
   says h = cond (eqb (h .status) handedOnCode) (handedOn noTotals (replyBy (h .status) d)) (replied (h .status) noTotals (replyBy (h .status) d))
@@ -100,7 +101,7 @@ module _ (r : Record) (n c : ℕ) (d : List ℕ) where
           answer = says-read s ∙ ap says q ∙ sym (says-read t);
         }
 
-    phase-same : (j k : ℕ) (a : Kind) (o g : Bool) → Same (returnedBy n c s r (phaseOf a (record { grace = g; old = o }) j)) (returnedBy n c t r (phaseOf a (record { grace = g; old = o }) k))
+    phase-same : (j k : ℕ) (a : Kind) (o g : Bool) → Same (returnedBy n c s r (phaseOf a (record { waiting = r .head .waiting; offered = r .head .offered; grace = g; old = o }) j)) (returnedBy n c t r (phaseOf a (record { waiting = r .head .waiting; offered = r .head .offered; grace = g; old = o }) k))
     phase-same j k kind.Anonymous true g = record { after = refl; answer = refl }
     phase-same j k kind.Anonymous false true = reads
     phase-same j k kind.Anonymous false false = record { after = refl; answer = refl }
@@ -134,7 +135,7 @@ module _ (r : Record) (n c : ℕ) (d : List ℕ) where
 
   -- ---- a report without device errors
   nothing-left : (k : ℕ) → leaves (statusOnly k) ≡ r
-  nothing-left k = ap (λ f. putFile r (placeIn n r) (fileAnswered k (r .head) f) .after) (unchanged (fileAt n r)) ∙ ap (λ fs. withFiles fs r) (set-getD (r .files) (placeIn n r) noFile)
+  nothing-left k = ap (λ (a : FileAnswered). putFile r (placeIn n r) a .after) (nothing-changed (r .head) k (fileAt n r)) ∙ ap (λ fs. withFiles fs r) (set-getD (r .files) (placeIn n r) noFile)
 
   nothing-said : (ys : List Statistic) → leaves (quiet (reportOn n c (Whole [] ys) (fileAt n r))) ≡ r
   unfolding reportOn assessmentOf errorsAssessed over
