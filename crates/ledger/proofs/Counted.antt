@@ -8,22 +8,25 @@ use native.Mathlib.Omega.{arith}
 use lib.ListN.{getD, set, length, take, drop, length-set, take-append-drop}
 use lib.Seq.{drop-cons, getD-set-other}
 use lib.Dec.{eqb, leb}
+use Rattle.statuses.specs.Names.{Bytes}
+use Rattle.reports.specs.Device.{halves}
 use Rattle.reports.specs.Report.{reportOf}
 use Rattle.wire.specs.Request.{bodyOf}
-use Rattle.places.specs.Lists.{chosen}
+use Rattle.places.specs.Lists.{any, chosen}
 use Rattle.places.specs.Places.{first, bump, placeOr, leftOut}
 use Rattle.places.specs.declared.Found.{Found}
 use Rattle.places.specs.declared.Found.the-variants.{At, Nothing}
 use Rattle.places.proofs.Loops.{found-below}
 use Rattle.places.proofs.Sets.{true-false}
 use Rattle.places.proofs.Slots.{chosen-length, slots-chosen, pairs-length}
-use Rattle.mirroring.specs.Mirrors.{enrolledOf}
+use Rattle.mirroring.specs.Mirrors.{enrolledOf, isDevice, hasProxy, withProxy, withoutProxy}
+use Rattle.mirroring.specs.declared.mirrors.Mirror.{Mirror}
 use Rattle.mirroring.specs.declared.blame.Assessment.{Assessment}
 use Rattle.mirroring.specs.declared.enrol.Enrolled.{Enrolled}
 use Rattle.intents.specs.Intents.{noIntent, intentOf, isIntent, isFree, firstTaken, unreclaimedIntent}
 use Rattle.intents.specs.declared.Intent.{Intent}
 use Rattle.files.specs.Counts.{recounted}
-use Rattle.files.specs.File.{noFile, blankFile, fileOf, isFile, isVacant, isListed, isReady, movedHead, unreclaimedBar, fileAnswered, becomes, ofFile, takes, opens, openedFile, reclaims, reclaimedFile, leaves, closedFile, repairedFile, mendedFile, forgettable, restartedFile, endedFile, toldHead, withIntents}
+use Rattle.files.specs.File.{noFile, blankFile, fileOf, isFile, isVacant, isListed, isReady, movedHead, unreclaimedBar, fileAnswered, becomes, ofFile, takes, opens, openedFile, reclaims, reclaimedFile, leaves, closedFile, repairedFile, mendedFile, proxyAddedFile, proxyRemovedFile, forgettable, restartedFile, endedFile, toldHead, withIntents, withMirrors}
 use Rattle.files.specs.declared.file.File.{File}
 use Rattle.files.specs.declared.file.FileAnswered.{FileAnswered}
 use Rattle.files.specs.declared.head.Edition.{Edition}
@@ -32,10 +35,10 @@ use Rattle.files.proofs.Counting.{moved-same, moved-reclaimed}
 use Rattle.layoutreturn.specs.LayoutReturn.{decisionOf, reportOn, outcomeOn}
 use Rattle.layoutreturn.specs.declared.Decision.{Decision}
 use Rattle.layoutreturn.specs.declared.Decision.the-variants as decision
-use Rattle.recovery.specs.Calls.{Call, register, opening, reclaim, close, repaired, forget, endGrace, restart, layoutReturn, listing}
+use Rattle.recovery.specs.Calls.{Call, register, opening, reclaim, close, repaired, addProxy, removeProxy, forget, endGrace, restart, layoutReturn, listing}
 use Rattle.recovery.specs.Counts.{counts}
 use Rattle.recovery.specs.LayoutReturn.{answeredBy, reportedOf, returnedBy, layoutreturnOf}
-use Rattle.recovery.specs.Record.{freshAs, withFiles, answered, placeIn, fileAt, onPlace, openOf, reclaimOf, closeOf, repairedOf, raised, roomIn, enter, pulled, withoutFile, isFull, registerWith, registerOf, forgets, forgetOf, endedHead, endOf, restartOf, isWanted}
+use Rattle.recovery.specs.Record.{freshAs, withFiles, answered, placeIn, fileAt, onPlace, openOf, reclaimOf, closeOf, repairedOf, addProxyOf, removeProxyOf, raised, roomIn, enter, pulled, withoutFile, isFull, registerWith, registerOf, forgets, forgetOf, endedHead, endOf, restartOf, isWanted}
 use Rattle.recovery.specs.declared.counts.Counts.{Counts}
 use Rattle.recovery.specs.declared.listing.Listing.the-variants.{Resilver, Offered}
 use Rattle.recovery.specs.declared.record.Answered.{Answered}
@@ -192,6 +195,18 @@ module _ (d : Head) (f : File) where
   unfolding repairedFile
   repaired-moves n = of-file n (either (not (f .marked)) (keeps 22) (either (firstTaken (f .intents)) (keeps 10008) (makes (mendedFile f))))
 
+  remirrors : (ms : List Mirror) → Moves d f (fileAnswered 0 d (withMirrors ms f))
+  remirrors ms = record { head = sym (moved-same f d) }
+
+  add-proxy-moves : (n : ℕ) (s : Bytes) → Moves d f (proxyAddedFile n d s f)
+  unfolding proxyAddedFile
+  add-proxy-moves n s = either (d .grace) (keeps 10013) (of-file n
+      (either (not (eqb (length s) 16)) (keeps 22) (either (any (isDevice (halves s)) (f .mirrors)) (keeps 22) (either (hasProxy (f .mirrors)) (keeps 17) (remirrors (withProxy (halves s .high) (halves s .low) (f .mirrors)))))))
+
+  remove-proxy-moves : (n : ℕ) → Moves d f (proxyRemovedFile n d f)
+  unfolding proxyRemovedFile
+  remove-proxy-moves n = either (d .grace) (keeps 10013) (of-file n (either (not (hasProxy (f .mirrors))) (keeps 2) (remirrors (withoutProxy (f .mirrors)))))
+
   report-moves : (a : Assessment) → Moves d f (answeredBy f (outcomeOn d f a))
   unfolding toldHead
   report-moves a = record { head = refl }
@@ -308,12 +323,14 @@ ending r c = by-test (r .head .grace) (answering 0 (counted-anew r)) (answering 
 
 -- ---- a step
 pub counted-step : (r : Record) (x : Call) → length (r .files) ≡ 64 → Counted r → Counted (step r x .after)
-unfolding step registerOf openOf reclaimOf closeOf repairedOf forgetOf layoutreturnOf
+unfolding step registerOf openOf reclaimOf closeOf repairedOf addProxyOf removeProxyOf forgetOf layoutreturnOf
 counted-step r (register n s) long c = by-test (r .head .grace) (answering 10013 c) (registering n (enrolledOf s) r long c) .so
 counted-step r (opening n k) long c = on-place n (openedFile n (r .head) k) r long c (open-moves (r .head) (fileAt n r) n k)
 counted-step r (reclaim n k) long c = on-place n (reclaimedFile n (r .head) k) r long c (reclaim-moves (r .head) (fileAt n r) n k)
 counted-step r (close n k) long c = on-place n (closedFile n (r .head) k) r long c (close-moves (r .head) (fileAt n r) n k)
 counted-step r (repaired n) long c = on-place n (repairedFile n (r .head)) r long c (repaired-moves (r .head) (fileAt n r) n)
+counted-step r (addProxy n s) long c = on-place n (proxyAddedFile n (r .head) s) r long c (add-proxy-moves (r .head) (fileAt n r) n s)
+counted-step r (removeProxy n) long c = on-place n (proxyRemovedFile n (r .head)) r long c (remove-proxy-moves (r .head) (fileAt n r) n)
 counted-step r (forget n) long c = forgetting n r long c .so
 counted-step r endGrace long c = ending r c .so
 counted-step r restart long c = restarting r c

@@ -107,11 +107,11 @@ module _ (d : Head) (f : File) where
   add-proxy-kept : (n : ℕ) (s : Bytes) → FileKept d f (proxyAddedFile n d s f)
   unfolding proxyAddedFile
   add-proxy-kept n s = either (d .grace) (refuses 10013) (of-file n
-      (either (not (eqb (length s) 16)) (refuses 22) (either (any (isDevice (halves s)) (f .mirrors)) (refuses 22) (either (hasProxy (f .mirrors)) (refuses 17) (accepts _)))))
+      (either (not (eqb (length s) 16)) (refuses 22) (either (any (isDevice (halves s)) (f .mirrors)) (refuses 22) (either (hasProxy (f .mirrors)) (refuses 17) (accepts _ _)))))
 
   remove-proxy-kept : (n : ℕ) → FileKept d f (proxyRemovedFile n d f)
   unfolding proxyRemovedFile
-  remove-proxy-kept n = either (d .grace) (refuses 10013) (of-file n (either (not (hasProxy (f .mirrors))) (refuses 2) (accepts _)))
+  remove-proxy-kept n = either (d .grace) (refuses 10013) (of-file n (either (not (hasProxy (f .mirrors))) (refuses 2) (accepts _ _)))
 
   -- ---- LAYOUTRETURN
   -- a refusal changes nothing
