@@ -9,6 +9,7 @@ use borrow.Struct.Items.{cut-records}
 use Rattle.walks.proofs.Changed.{Parts}
 use Rattle.walks.proofs.Element.{Elements, Kept, Inner}
 use Rattle.records.proofs.Lists.{Lists}
+use Rattle.records.proofs.Tallied.{Apart}
 use Rattle.files.specs.File.{noFile}
 use Rattle.files.proofs.file.File as F
 use Rattle.files.proofs.file.File.Laws as F′
@@ -47,6 +48,10 @@ head = record {
 pub filed : Lists files
 unfolding files
 filed = record { lists = λ r fs. refl; overs = λ r fs gs. refl }
+
+pub apart : Apart files head
+unfolding files head
+apart = record { lists = filed; list-kept = λ r h. refl; head-kept = λ r fs. refl; head-is = λ r h. refl; heads = λ r c d. refl; across = λ r h fs. refl }
 
 abbrev pub parts : Parts T.the-type
 parts = record { F = file; list = files; small = tt; none = noFile; H = heading; head = head }

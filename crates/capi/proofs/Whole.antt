@@ -11,23 +11,26 @@ use borrow.Author.Tests.{lt-ltb, ltb-true, ltb-false, eqb-true}
 use Rattle.records.proofs.Headed.{if-called}
 use Rattle.records.proofs.Pulled.{pulls}
 use Rattle.records.proofs.Raised.{raises}
+use Rattle.records.proofs.Tallied.{tallied as tallies}
 use Rattle.places.specs.Places.{first, bump, placeOr}
 use Rattle.places.specs.declared.Found.{Found}
 use Rattle.places.specs.declared.Found.the-variants.{At, Nothing}
 use Rattle.places.proofs.Loops.{searching}
 use Rattle.mirroring.specs.Mirrors.{enrolledOf}
-use Rattle.files.specs.File.{noFile, blankFile, isFile, isVacant, forgettable, endedFile}
+use Rattle.files.specs.File.{noFile, blankFile, isFile, isVacant, forgettable, countedHead, tallied, endedFile}
 use Rattle.files.specs.Head.{freshHead}
 use Rattle.files.specs.declared.file.File.{File}
 use Rattle.files.specs.declared.file.FileAnswered.{FileAnswered}
 use Rattle.files.specs.declared.head.Edition.{Edition}
+use Rattle.files.specs.declared.head.Head.{Head}
 use Rattle.recovery.specs.Record.{freshAs, withFiles, withHead, placeIn, fileAt, raised, roomIn, enter, pulled, withoutFile, registerOf, forgetOf, endOf}
 use Rattle.recovery.specs.declared.record.Record.{Record}
 use Rattle.recovery.specs.declared.record.Answered.{Answered}
+use Rattle.recovery.proofs.Tallying.{ended-counts}
 use Rattle.recovery.proofs.Moving.{Lowering, lowered-here, lowering-on, lowered-last}
 use Rattle.capi.specs.Place.{soughtIn}
 use Rattle.capi.specs.declared.Verdict.{Verdict}
-use Rattle.capi.specs.Whole.{endVerdict, forgetVerdict, emptiedFile, eachFile, admittedOf, roomSought, isBelow, enteredFiles, pulledFiles}
+use Rattle.capi.specs.Whole.{endVerdict, forgetVerdict, emptiedFile, eachFile, endedEach, admittedOf, roomSought, isBelow, enteredFiles, pulledFiles}
 use Rattle.capi.proofs.Fields.{files}
 use Rattle.capi.proofs.Places.{sought, sought-place}
 
@@ -46,12 +49,26 @@ fresh-so e r long = ap (λ fs. record { files = fs; head = freshHead e }) (all-e
 abbrev Same : ℕ → Record → Answered → Type 0
 Same s r a = (s ≡ a .status) × (r ≡ a .after)
 
-pub ended-so : (r : Record) → Same (endVerdict (r .head) .status) (withHead (endVerdict (r .head) .head) (if-called (eqb (endVerdict (r .head) .status) 0) (eachFile endedFile r) r)) (endOf r)
-unfolding eachFile endOf
-ended-so r = by (r .head .grace) refl
+-- the files, once all are counted
+same-tally : (fs : List File) (h : Head) → tallies (λ f d. countedHead d f) fs h ≡ tallied h fs
+unfolding tallied
+same-tally [] h = refl
+same-tally (f ∷ fs) h = same-tally fs (countedHead h f)
+
+pub each-ended-so : (r : Record) → withHead (tallies (λ f d. countedHead d f) (map endedFile (r .files)) (r .head)) (withFiles (map endedFile (r .files)) r) ≡ endedEach r
+unfolding endedEach
+each-ended-so r = ap (λ h. record { files = map endedFile (r .files); head = h }) (same-tally (map endedFile (r .files)) (r .head))
+
+-- the record once a call has been answered v
+abbrev after-ending : Record → Verdict → Record
+after-ending r v = if-called (eqb (v .status) 0) (endedEach (withHead (v .head) r)) (withHead (v .head) r)
+
+pub ended-so : (r : Record) → length (r .files) ≡ 64 → Same (endVerdict (r .head) .status) (after-ending r (endVerdict (r .head))) (endOf r)
+unfolding endedEach endOf
+ended-so r long = by (r .head .grace) refl
   where
-    by : (b : Bool) → r .head .grace ≡ b → Same (endVerdict (r .head) .status) (withHead (endVerdict (r .head) .head) (if-called (eqb (endVerdict (r .head) .status) 0) (eachFile endedFile r) r)) (endOf r)
-    by true e = rw e (refl, refl)
+    by : (b : Bool) → r .head .grace ≡ b → Same (endVerdict (r .head) .status) (after-ending r (endVerdict (r .head))) (endOf r)
+    by true e = rw e (refl, ap (λ h. record { files = map endedFile (r .files); head = h }) (ended-counts (r .files) (r .head) long))
     by false e = rw e (refl, refl)
 
 -- ---- register

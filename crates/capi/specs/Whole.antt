@@ -12,7 +12,7 @@ use Rattle.files.specs.File.{noFile, blankFile, fileOf, isFile, isVacant, fileA
 use Rattle.files.specs.declared.file.File.{File}
 use Rattle.files.specs.declared.file.FileAnswered.{FileAnswered}
 use Rattle.files.specs.declared.head.Head.{Head}
-use Rattle.recovery.specs.Record.{withFiles, enter, withoutFile}
+use Rattle.recovery.specs.Record.{withFiles, enter, withoutFile, endedRecord}
 use Rattle.recovery.specs.declared.record.Record.{Record}
 use Rattle.capi.specs.declared.Verdict.{Verdict}
 
@@ -21,19 +21,27 @@ abbrev pub verdict : Status → Head → Verdict
 verdict s h = record { status = s; head = h }
 
 abbrev pub inPhase : Bool → Head → Head
-inPhase g h = record { grace = g; old = h .old }
+inPhase g h = record { waiting = h .waiting; offered = h .offered; grace = g; old = h .old }
+
+-- as the end of grace begins: no file is counted
+abbrev pub ending : Head → Head
+ending h = record { waiting = 0; offered = 0; grace = false; old = h .old }
 
 abbrev pub restartVerdict : Head → Verdict
 restartVerdict h = verdict 0 (inPhase true h)
 
 abbrev pub endVerdict : Head → Verdict
-endVerdict h = cond (h .grace) (verdict 0 (inPhase false h)) (verdict 10033 h)
+endVerdict h = cond (h .grace) (verdict 0 (ending h)) (verdict 10033 h)
 
 abbrev pub emptiedFile : File → File
 emptiedFile f = blankFile
 
 unfoldable pub eachFile : (File → File) → Record → Record
 eachFile g r = withFiles (map g (r .files)) r
+
+-- each file after the end of grace, and each of them counted
+unfoldable pub endedEach : Record → Record
+endedEach r = endedRecord (r .head) (r .files)
 
 -- ---- register
 abbrev pub refusedWith : Status → Head → FileAnswered

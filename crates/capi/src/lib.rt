@@ -5,6 +5,7 @@
 // A function that takes a reference has the form that the law of `walks` or `records` which proves it is stated for: each test is a function of values,
 // a loop is left by `break`, and a field is reached anew each time. First a file's place, then the functions by value that `recovery` and `files` lack,
 // then what changes more than one file, and the calls in the paper's order.
+mod counts;
 mod listing;
 mod totals;
 
@@ -19,6 +20,7 @@ use recovery::record::Record;
 ghost use mathlib.Core.Path.{_≡_};
 ghost use mathlib.Core.Bool.{not};
 ghost use Rattle.recovery.specs.Calls.{listed};
+ghost use Rattle.recovery.specs.Counts.{counts, countsOf};
 ghost use Rattle.recovery.specs.Record.{freshAs, fresh, registerOf, openOf, reclaimOf, closeOf, repairedOf, addProxyOf, removeProxyOf, forgetOf, endOf, restartOf};
 ghost use Rattle.recovery.specs.LayoutReturn.{layoutreturnOf, replyAfter};
 ghost use Rattle.recovery.specs.declared.listing.Listing.the-variants.{Resilver, Offered};
@@ -28,13 +30,13 @@ ghost use Rattle.mirroring.specs.Totals.{noTotals};
 ghost use Prim.Native.Nat.{_<_};
 ghost use lib.ListN.{length};
 ghost use Rattle.files.specs.declared.head.Edition.the-variants.{Current, Old};
-ghost use Rattle.files.specs.File.{restartedFile, endedFile};
+ghost use Rattle.files.specs.File.{restartedFile};
 ghost use Rattle.files.specs.Head.{freshHead};
 ghost use Rattle.capi.specs.Place.{isNumbered, soughtIn};
 ghost use Rattle.capi.specs.Asked.{listingBy};
 ghost use Rattle.capi.specs.Lent.{columnOf, maskOf};
 ghost use Rattle.capi.specs.LayoutReturn.{begunOf, returnedIn};
-ghost use Rattle.capi.specs.Whole.{restartVerdict, endVerdict, forgetVerdict, emptiedFile, eachFile, refusedWith, admittedOf, isVacantPlace, roomSought, isBelow, enteredFiles, pulledFiles};
+ghost use Rattle.capi.specs.Whole.{restartVerdict, endVerdict, forgetVerdict, emptiedFile, eachFile, endedEach, refusedWith, admittedOf, isVacantPlace, roomSought, isBelow, enteredFiles, pulledFiles};
 
 // ---- The place of a file.
 // Whether a place with this flag and number is the file's.
@@ -161,13 +163,15 @@ fn restarting(head: Head) -> Verdict
     Verdict {
         status: 0,
         head: Head {
+            waiting: head.waiting,
+            offered: head.offered,
             grace: true,
             old: head.old,
         },
     }
 }
 
-// The end of grace: 10033 not in grace.
+// The end of grace: 10033 not in grace. No file is counted yet.
 fn ending(head: Head) -> Verdict
     ensures { λ s. ⌜ s ≡ endVerdict head ⌝ }
 {
@@ -175,6 +179,8 @@ fn ending(head: Head) -> Verdict
         Verdict {
             status: 0,
             head: Head {
+                waiting: 0,
+                offered: 0,
                 grace: false,
                 old: head.old,
             },
@@ -228,13 +234,14 @@ fn restart_each(r: &mut Record)
     }
 }
 
-// Each file after the end of grace.
+// Each file after the end of grace, and each of them counted.
 fn end_each(r: &mut Record)
-    ensures { λ _. ⌜ now (r .exit) ≡ eachFile endedFile (now (r .entry)) ⌝ }
+    ensures { λ _. ⌜ now (r .exit) ≡ endedEach (now (r .entry)) ⌝ }
 {
     let mut i: usize = 0;
     while i < 64 {
         r.files[i] = File::ended(r.files[i]);
+        r.head = File::counted(r.files[i], r.head);
         i += 1;
     }
 }
@@ -472,10 +479,10 @@ pub extern "C" fn sc_record_end_grace(r: &mut Record) -> u32
     ensures { λ s. ⌜ (s ≡ endOf (now (r .entry)) .status) × (now (r .exit) ≡ endOf (now (r .entry)) .after) ⌝ }
 {
     let s = ending(r.head);
+    r.head = s.head;
     if s.status == 0 {
         end_each(r);
     }
-    r.head = s.head;
     s.status
 }
 
@@ -484,10 +491,10 @@ pub extern "C" fn sc_record_restart(r: &mut Record) -> u32
     ensures { λ s. ⌜ (s ≡ restartOf (now (r .entry)) .status) × (now (r .exit) ≡ restartOf (now (r .entry)) .after) ⌝ }
 {
     let s = restarting(r.head);
+    r.head = s.head;
     if s.status == 0 {
         restart_each(r);
     }
-    r.head = s.head;
     s.status
 }
 
@@ -620,4 +627,12 @@ pub extern "C" fn sc_record_offered_by(
     }
     *count = c.count;
     c.status
+}
+
+// How many files wait for repair, and how many of those are offered now: the record keeps both, and no file is looked at.
+#[no_mangle]
+pub extern "C" fn sc_record_counts(r: &Record, waiting: &mut u64, offered: &mut u64)
+    ensures { λ _. ⌜ counts (now (waiting .exit)) (now (offered .exit)) ≡ countsOf (now (r .entry) .head) ⌝ }
+{
+    counts::hand_out(r.head, waiting, offered)
 }

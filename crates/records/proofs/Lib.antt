@@ -2,14 +2,17 @@
 -- A use is one proof file of about 20 to 35 lines, which names the law, the types and what the generated modules have.
 -- Loops over the array:
 --     Each             f(r: &mut T)  { for each i:  r.list[i] = g(r.list[i]) }
+--     Tallied          f(r: &mut T)  { for each i:  r.list[i] = g(r.list[i]);  r.head = e(r.list[i], r.head) }
 --     Pulled           f(r: &mut T, at, s)  { what stands after a place is pulled down over it, up to a place that a test says }
 --     Listed           f(r: &T, a, b, count) -> u32  { for each i, several times over:  c = g(r.list[i % N], i, c, a, b), with two slices that are lent again at each turn }
 --     Raised           f(r: &mut T, at, s)  { those before a free place that a test says move up one place, and s.rec is entered }
 -- Calls that lend the record to such a function:
---     Headed           f(r: &mut T) -> u32  { let s = g(r.head);  if s.status == 0 { h(r); }  r.head = s.head;  s.status }
+--     Headed           f(r: &mut T) -> u32  { let s = g(r.head);  r.head = s.head;  if s.status == 0 { h(r); }  s.status }
 --     Passed           a CHANGE of crate walks' `Changed`:  if s.status == 0 { h(r, i, s); }
 --     Cleared          f(r: &mut T)  { h(r);  r.head = e(); }
 --     Parted           f(r: &mut T, key, args..) -> u32  { let d = b(r.head, shown..);  if d.wanted { return h(r, key, d.len, args..); }  e(d.status, args..) }, where h may be one of crate walks' `Changed`
+-- A function that gets what stands beside the array:
+--     Beside           f(r: &T, args..)  { g(r.head, args..) }
 -- What these rest on, beside crate walks:
 --     Alone            a function whose one parameter is the record: its contract, and how its walk ends
 --     Placed           a function that is handed the record, a place and a struct: the same
@@ -19,6 +22,7 @@
 --     Lists            a field that is an array as a list; tests that are known
 pub mod Again
 pub mod Alone
+pub mod Beside
 pub mod Cleared
 pub mod Each
 pub mod Headed
@@ -30,4 +34,5 @@ pub mod Placed
 pub mod Pulled
 pub mod Raised
 pub mod Shown
+pub mod Tallied
 pub mod Within
