@@ -128,7 +128,7 @@ repairedFile n h f =
 unfoldable pub forgettable : FileNumber → Head → File → Status
 forgettable n h f = cond (h .grace) 10013 (cond (isFile n f) (cond (f .marked) 10008 (cond (firstTaken (f .intents)) 10008 0)) 70)
 
--- a proxy more, whose device is s: 22 if that isn't 16 bytes or stands there, 17 if a proxy is there
+-- a proxy more (Rules 4.9), whose device is s: 22 if that isn't 16 bytes or stands there, 17 if a proxy is there
 unfoldable pub proxyAddedFile : FileNumber → Head → Bytes → File → FileAnswered
 proxyAddedFile n h s f =
     cond (h .grace) (fileAnswered 10013 h f)
@@ -138,7 +138,7 @@ proxyAddedFile n h s f =
     (cond (hasProxy (f .mirrors)) (fileAnswered 17 h f)
     (fileAnswered 0 h (withMirrors (withProxy (halves s .high) (halves s .low) (f .mirrors)) f))))))
 
--- and none, or 2; its blame goes with it, and the mark stays
+-- and none, or 2 (Rules 4.10); its blame goes with it, and the mark stays
 unfoldable pub proxyRemovedFile : FileNumber → Head → File → FileAnswered
 proxyRemovedFile n h f =
     cond (h .grace) (fileAnswered 10013 h f)

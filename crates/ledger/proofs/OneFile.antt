@@ -5,7 +5,7 @@ use mathlib.Core.List.{List, [], _∷_}
 use mathlib.Core.Bool.{Bool, true, false, not, cond}
 use Prim.Native.Nat.{ℕ, suc, _+_, _<_, _≤_}
 use native.Mathlib.Omega.{arith}
-use lib.ListN.{getD, length, length-set, length-map}
+use lib.ListN.{getD, length, take, length-set, length-map}
 use lib.Dec.{eqb, leb}
 use borrow.Author.Tests.{eqb-true, le-leb, lt-leb}
 use Rattle.statuses.specs.Names.{Bytes}
@@ -16,7 +16,7 @@ use Rattle.reports.specs.Report.{DeviceError, Whole}
 use Rattle.places.specs.Lists.{any, chosen, has, with, none}
 use Rattle.places.specs.Places.{bump, first, placeOr}
 use Rattle.mirroring.specs.Devices.{Proxy, noProxy, proxyAt, isThere}
-use Rattle.mirroring.specs.Mirrors.{noMirror, isDevice, isGood, hasProxy, withProxy, withoutProxy, placedMirrors}
+use Rattle.mirroring.specs.Mirrors.{noMirror, isDevice, hasProxy, withProxy, withoutProxy, placedMirrors}
 use Rattle.mirroring.specs.Direction.{firstBy}
 use Rattle.mirroring.specs.Source.{goodFrom, sourceIn}
 use Rattle.mirroring.specs.declared.source.Direction.{Direction}
@@ -215,18 +215,11 @@ pub file-reported : {g : Bool} {f : File} {w : Row} (d : Head) (c : ℕ) (xs : L
 file-reported d c xs ys h = reports-at d c xs ys h (at-intent c h)
 
 -- ---- the source
--- no place after the mirrors is good: a free one, nor the proxy
-no-proxy : (m : Mirror) → m .present ≡ true → m .proxy ≡ true → isGood m ≡ false
-no-proxy m h k = rw (h, k) (by (m .blamed))
-  where
-    by : (b : Bool) → cond (not b) false false ≡ false
-    by true = refl
-    by false = refl
-
-good-none : {p : Proxy} {n : ℕ} {ms : List Mirror} (k : ℕ) → PlacesAre p n ms [] → goodFrom k ms ≡ []
+-- no place after the mirrors is good
+good-none : {p : Proxy} {n : ℕ} {ms : List Mirror} (k : ℕ) → PlacesAre p n ms [] → goodFrom k (take n ms) ≡ []
 unfolding goodFrom
-good-none k (PlacesAre.bare h e) = rw h
-good-none k (PlacesAre.proxied {m} h) = rw (no-proxy m (h .present) (h .proxy))
+good-none k (PlacesAre.bare h e) = refl
+good-none k (PlacesAre.proxied h) = refl
 good-none k (PlacesAre.free h s) = rw h (good-none (suc k) s)
 
 -- `b` is whether the first place is blamed
@@ -234,16 +227,16 @@ good-item : {m : Mirror} {d : Device} (ms : List Mirror) (ds : List Device) (k :
     → goodFrom (suc k) ms ≡ unblamedFrom (suc k) ds bs → goodFrom k (m ∷ ms) ≡ unblamedFrom k (d ∷ ds) bs
 unfolding goodFrom unblamedFrom
 good-item ms ds k bs true e q r h = rw (e, r .present, q) h
-good-item ms ds k bs false e q r h = rw (e, r .present, r .ordinary, q) (ap {B = List ℕ} (λ ps. k ∷ ps) h)
+good-item ms ds k bs false e q r h = rw (e, r .present, q) (ap {B = List ℕ} (λ ps. k ∷ ps) h)
 
 good-from : {p : Proxy} {n : ℕ} {ms : List Mirror} {ds : List Device} (k : ℕ) (bs : List ℕ) → PlacesAre p n ms ds → ((i : ℕ) → i < length ms → getD ms i noMirror .blamed ≡ has (k + i) bs)
-    → goodFrom k ms ≡ unblamedFrom k ds bs
-unfolding unblamedFrom
-good-from k bs (PlacesAre.bare h e) f = good-none k (PlacesAre.bare h e)
-good-from k bs (PlacesAre.proxied h) f = good-none k (PlacesAre.proxied h)
-good-from k bs (PlacesAre.free h s) f = good-none k (PlacesAre.free h s)
-good-from k bs (PlacesAre.item {ms = ms} {ds = ds} r s) f =
-    good-item ms ds k bs (has k bs) refl (f 0 (omega arith) ∙ ap (λ j. has j bs) (omega arith)) r (good-from (suc k) bs s (λ i p. f (suc i) (omega arith) ∙ ap (λ j. has j bs) (omega arith)))
+    → goodFrom k (take n ms) ≡ unblamedFrom k ds bs
+unfolding goodFrom unblamedFrom
+good-from k bs (PlacesAre.bare h e) f = refl
+good-from k bs (PlacesAre.proxied h) f = refl
+good-from k bs (PlacesAre.free {m = m} h s) f = good-none k (PlacesAre.free {m = m} h s)
+good-from k bs (PlacesAre.item {k = n} {ms = ms} {ds = ds} r s) f =
+    good-item (take n ms) ds k bs (has k bs) refl (f 0 (omega arith) ∙ ap (λ j. has j bs) (omega arith)) r (good-from (suc k) bs s (λ i p. f (suc i) (omega arith) ∙ ap (λ j. has j bs) (omega arith)))
 
 pub few-devices : {p : Proxy} {n : ℕ} {ms : List Mirror} {ds : List Device} → PlacesAre p n ms ds → length ds ≤ n
 few-devices (PlacesAre.bare h e) = omega arith

@@ -1,4 +1,4 @@
--- The search for a source from either end. In this order: from the first place up, where no place before i can be copied from; from the last place down, where no place from i on
+-- The search for a source from either end, among the places of ordinary mirrors. In this order: a place of those; from the first place up, where no place before i can be copied from; from the last place down, where no place from i on
 -- can.
 use mathlib.Core.Path.{_≡_, refl, ap, sym, _∙_}
 use mathlib.Core.List.{List, [], _∷_, _++_, append-nil}
@@ -8,11 +8,18 @@ use native.Mathlib.Numerals.{add-one}
 use native.Mathlib.Nat.{zero-add}
 use native.Mathlib.Omega.{arith}
 use lib.ListN.{getD, length, take, drop, drop-of-length-le}
-use lib.Seq.{drop-cons, take-suc, take-all, length-take-le}
+use lib.Seq.{drop-cons, take-suc, take-all, length-take-le, getD-take}
 use Rattle.mirroring.specs.Direction.{headOr, lastOr}
 use Rattle.mirroring.specs.Mirrors.{noMirror, isGood}
-use Rattle.mirroring.specs.Source.{goodFrom}
+use Rattle.mirroring.specs.Source.{ordinary, goodFrom}
 use Rattle.mirroring.specs.declared.mirrors.Mirror.{Mirror}
+
+-- ---- a place of an ordinary mirror
+pub test-of : (ms : List Mirror) (i : ℕ) (b : Bool) → i < 4 → b ≡ isGood (getD ms i noMirror) → b ≡ isGood (getD (ordinary ms) i noMirror)
+test-of ms i b h t = rw (getD-take 4 ms i noMirror h) t
+
+pub four : (ms : List Mirror) → length ms ≡ 5 → length (ordinary ms) ≡ 4
+four ms e = length-take-le 4 ms (omega (arith, e))
 
 -- ---- up
 pub record Upwards (l : List Mirror) (i : ℕ) : Type 0 where

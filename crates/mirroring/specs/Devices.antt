@@ -1,5 +1,5 @@
 -- DEFINITION. Devices, and the mirror list of a register call (Rules 4.2), in this order: the same id; the ids in a list of
--- bytes; whether a device is among others and at which place; a bad mirror list; a proxy (02, Ticket 7).
+-- bytes; whether a device is among others and at which place; a bad mirror list; a proxy (Rules 4.8).
 use mathlib.Core.List.{List, [], _∷_}
 use mathlib.Core.Bool.{Bool, true, false, not, cond}
 use Prim.Native.Nat.{ℕ, zero, suc, _/_, _%_}

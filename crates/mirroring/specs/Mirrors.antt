@@ -30,9 +30,8 @@ isAt h l m = cond (cond (m .present) (eqb (m .high) h) false) (eqb (m .low) l) f
 abbrev pub isDevice : Device → Mirror → Bool
 isDevice d m = isAt (d .high) (d .low) m
 
--- a proxy is never copied from
 abbrev pub isGood : Mirror → Bool
-isGood m = cond (cond (m .present) (not (m .blamed)) false) (not (m .proxy)) false
+isGood m = cond (m .present) (not (m .blamed)) false
 
 -- ---- changes
 abbrev pub withBlame : Bool → Mirror → Mirror

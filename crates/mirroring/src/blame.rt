@@ -18,8 +18,8 @@ ghost use Rattle.reports.specs.ReportSteps.{errorsIn};
 ghost use Rattle.reports.specs.StatisticsSteps.{statisticsFrom, tally};
 ghost use Rattle.mirroring.specs.Blame.{blaming, statusOnly, withError, withErrorOf, counted, countedOf, assessmentOf};
 
-// What a report changes in a file: whether a device was named that is no mirror; whether a device error of a mirror had a status other than 0; and by
-// place, 1 for a mirror that such a device error blames, and 0. A flag is as wide as a sum of totals, since the compiler packs bytes into one
+// What a report changes in a file: whether a device was named that is neither a mirror nor the proxy; whether a device error of one of these had a
+// status other than 0; and by place, 1 for one that such a device error blames, and 0. A flag is as wide as a sum of totals, since the compiler packs bytes into one
 // number and takes them out again at each device error.
 pub struct Change {
     pub unknown: bool,

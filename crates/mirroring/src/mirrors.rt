@@ -12,10 +12,10 @@ ghost use Rattle.mirroring.specs.Mirrors.{noMirror, newMirror, newProxy,
 pub const MIRRORS: usize = 4;
 
 // The place of a file's proxy, also where it has fewer mirrors.
-pub const PROXY: usize = 4;
+pub const PROXY: usize = MIRRORS;
 
 // How many places a file has in all.
-pub const PLACES: usize = 5;
+pub const PLACES: usize = MIRRORS + 1;
 
 // A place: the two halves of its device's id, whether the place is used, whether its device is blamed, and whether it is a proxy and no ordinary mirror.
 #[repr(C)]
@@ -74,11 +74,11 @@ impl Mirror {
         self.present && self.high == high && self.low == low
     }
 
-    // Whether it can be copied from, as no proxy can.
+    // Whether it can be copied from.
     pub(crate) fn good(self) -> bool
         ensures { λ r. ⌜ r ≡ isGood self ⌝ }
     {
-        self.present && !self.blamed && !self.proxy
+        self.present && !self.blamed
     }
 
     // The place once its device is blamed, if it is.

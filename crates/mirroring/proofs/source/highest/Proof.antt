@@ -5,18 +5,22 @@ use native.Mathlib.Omega.{arith}
 use lib.ListN.{length}
 use borrow.Author.Needs.{needs}
 use Rattle.places.proofs.Loops.{mapped-length}
-use Rattle.mirroring.proofs.Sourcing.{Downwards, downwards, found-down, on-down, none-down}
+use Rattle.mirroring.specs.Source.{ordinary}
+use Rattle.mirroring.proofs.Sourcing.{test-of, four, Downwards, downwards, found-down, on-down, none-down}
 use Rattle.mirroring.proofs.source.highest.Statement.{statement}
 use Rattle.mirroring.proofs.source.highest.Tie as tie
 
 abbrev Inv-loop : tie.InvT-loop
-Inv-loop mirrors i₀ i = (i ≤ 5) × Downwards mirrors i
+Inv-loop mirrors i₀ i = (i ≤ 4) × Downwards (ordinary mirrors) i
 
 abbrev μ-loop : tie.MeasureT-loop
 μ-loop mirrors i₀ i = i
 
-long : (c : tie.Start Inv-loop μ-loop) → length (c .args .t1) ≡ 5
-long c = search (mapped-length, needs)
+all : (c : tie.Start Inv-loop μ-loop) → length (c .args .t1) ≡ 5
+all c = search (mapped-length, needs)
+
+long : (c : tie.Start Inv-loop μ-loop) → length (ordinary (c .args .t1)) ≡ 4
+long c = four (c .args .t1) (all c)
 
 loop-holds : tie.Need-loop-holds Inv-loop μ-loop
 loop-holds c = (omega arith, downwards _ _ (omega (arith, long c)))
@@ -38,7 +42,7 @@ cast-result c = omega (arith, c .before .before .before .before .loop .inv .0)
 
 returns : tie.Need-returns Inv-loop μ-loop
 returns c =
-    found-down (c .before .before .before .before .loop .inv .1) (omega arith) (omega (arith, c .before .before .before .before .loop .inv .0, long (c .before .before .before .before .before))) (c .before .good2 .ensures) (c .if1 .taken)
+    found-down (c .before .before .before .before .loop .inv .1) (omega arith) (omega (arith, c .before .before .before .before .loop .inv .0, long (c .before .before .before .before .before))) (test-of (c .before .before .before .before .before .args .t1) _ _ (omega (arith, c .before .before .before .before .loop .inv .0)) (c .before .good2 .ensures)) (c .if1 .taken)
 
 loop-less : tie.Need-loop-less Inv-loop μ-loop
 loop-less c = omega arith
@@ -46,7 +50,7 @@ loop-less c = omega arith
 loop-again : tie.Need-loop-again Inv-loop μ-loop
 loop-again c = (
   omega (arith, c .before .before .before .before .loop .inv .0),
-  on-down (c .before .before .before .before .loop .inv .1) (omega arith) (omega (arith, c .before .before .before .before .loop .inv .0, long (c .before .before .before .before .before))) (c .before .good2 .ensures) (c .if1 .left),
+  on-down (c .before .before .before .before .loop .inv .1) (omega arith) (omega (arith, c .before .before .before .before .loop .inv .0, long (c .before .before .before .before .before))) (test-of (c .before .before .before .before .before .args .t1) _ _ (omega (arith, c .before .before .before .before .loop .inv .0)) (c .before .good2 .ensures)) (c .if1 .left),
 )
 
 returns-2 : tie.Need-returns-2 Inv-loop μ-loop

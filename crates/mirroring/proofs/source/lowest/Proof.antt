@@ -5,18 +5,22 @@ use native.Mathlib.Omega.{arith}
 use lib.ListN.{length}
 use borrow.Author.Needs.{needs}
 use Rattle.places.proofs.Loops.{mapped-length}
-use Rattle.mirroring.proofs.Sourcing.{Upwards, upwards, found-up, on-up, none-up}
+use Rattle.mirroring.specs.Source.{ordinary}
+use Rattle.mirroring.proofs.Sourcing.{test-of, four, Upwards, upwards, found-up, on-up, none-up}
 use Rattle.mirroring.proofs.source.lowest.Statement.{statement}
 use Rattle.mirroring.proofs.source.lowest.Tie as tie
 
 abbrev Inv-loop : tie.InvT-loop
-Inv-loop mirrors i₀ i = Upwards mirrors i
+Inv-loop mirrors i₀ i = Upwards (ordinary mirrors) i
 
 abbrev μ-loop : tie.MeasureT-loop
-μ-loop mirrors i₀ i = 5 - i
+μ-loop mirrors i₀ i = 4 - i
 
-long : (c : tie.Start Inv-loop μ-loop) → length (c .args .t1) ≡ 5
-long c = search (mapped-length, needs)
+all : (c : tie.Start Inv-loop μ-loop) → length (c .args .t1) ≡ 5
+all c = search (mapped-length, needs)
+
+long : (c : tie.Start Inv-loop μ-loop) → length (ordinary (c .args .t1)) ≡ 4
+long c = four (c .args .t1) (all c)
 
 loop-holds : tie.Need-loop-holds Inv-loop μ-loop
 loop-holds c = upwards _
@@ -34,7 +38,7 @@ cast-result : tie.Need-cast-result Inv-loop μ-loop
 cast-result c = omega arith
 
 returns : tie.Need-returns Inv-loop μ-loop
-returns c = found-up (c .before .before .before .before .loop .inv) (omega (arith, long (c .before .before .before .before .before))) (c .before .good2 .ensures) (c .if1 .taken)
+returns c = found-up (c .before .before .before .before .loop .inv) (omega (arith, long (c .before .before .before .before .before))) (test-of (c .before .before .before .before .before .args .t1) _ _ (omega arith) (c .before .good2 .ensures)) (c .if1 .taken)
 
 add-i : tie.Need-add-i Inv-loop μ-loop
 add-i c = omega arith
@@ -43,7 +47,7 @@ loop-less : tie.Need-loop-less Inv-loop μ-loop
 loop-less c = omega arith
 
 loop-again : tie.Need-loop-again Inv-loop μ-loop
-loop-again c = on-up (c .before .before .before .before .loop .inv) (omega (arith, long (c .before .before .before .before .before))) (c .before .good2 .ensures) (c .if1 .left)
+loop-again c = on-up (c .before .before .before .before .loop .inv) (omega (arith, long (c .before .before .before .before .before))) (test-of (c .before .before .before .before .before .args .t1) _ _ (omega arith) (c .before .good2 .ensures)) (c .if1 .left)
 
 returns-2 : tie.Need-returns-2 Inv-loop μ-loop
 returns-2 c = none-up (c .before .loop .inv) (omega (arith, long (c .before .before)))
