@@ -271,8 +271,7 @@ impl File {
         }
         if change.failed {
             let old = self.mirrors;
-            let flags = change.blamed;
-            let ms = mirroring::mirrors::with_blame(old, flags);
+            let ms = mirroring::mirrors::with_blame(old, change.blamed);
             self.mirrors = ms;
             self.marked = true;
             return self;

@@ -4,7 +4,6 @@ use mathlib.Core.Path.{_≡_, refl, ap, sym, _∙_}
 use mathlib.Core.List.{List, [], _∷_}
 use mathlib.Core.Bool.{Bool, true, false, not, cond}
 use Prim.Native.Nat.{ℕ, _<_}
-use lib.ListN.{length, length-set}
 use lib.Dec.{eqb}
 use Rattle.reports.specs.Statistics.{Statistic}
 use Rattle.reports.specs.Report.{DeviceError, Whole, Malformed, over}
@@ -27,7 +26,7 @@ use Rattle.recovery.specs.LayoutReturn.{answeredBy}
 use Rattle.places.specs.declared.Found.{Found}
 use Rattle.places.specs.declared.Found.the-variants.{At, Nothing}
 use Rattle.places.proofs.Sets.{none-first}
-use Rattle.mirroring.proofs.Copies.{Copies, five, known, placesWith, placed, none-blamed, flag-raised}
+use Rattle.mirroring.proofs.Copies.{Copies, known, placesWith, placed, none-blamed, place-blamed}
 use Rattle.files.specs.declared.head.Edition.the-variants.{Current}
 use Rattle.mirroring.proofs.Assessing.{status-kept}
 use Rattle.ledger.specs.Ledger.{Row, names, placeIn, isFault, isStranger, blame, reported, withMark, withBlame}
@@ -36,7 +35,6 @@ use Rattle.ledger.proofs.Relation.{FileIs, with-mark, with-copies}
 -- no stranger has been named yet; ms are the file's mirrors
 pub record Sees (ms : List Mirror) (h : Assessment) (w : Row) (bs : List ℕ) (b : Bool) : Type 0 where
   pub copies : Copies (blamedAt (h .change .blamed) ms) (w .mirrors) (w .proxy) bs
-  pub flags : length (h .change .blamed) ≡ length ms
   pub unknown : h .change .unknown ≡ false
   pub failed : h .change .failed ≡ b
 
@@ -68,8 +66,7 @@ module _ {was : List ℕ} (ms : List Mirror) (w : Row) (s : Copies ms (w .mirror
   error-at : {bs : List ℕ} {b : Bool} (t i : ℕ) → i < placesWith 4 (w .proxy) → Sees ms h w bs b → (z : Bool) → eqb t 0 ≡ z → Sees ms (withErrorAt h t (At i)) w (cond (not z) (with i bs) bs) (cond (not z) true b)
   error-at t i p k true e = rw e k
   error-at t i p k false e = rw e (record {
-    copies = flag-raised ms (h .change .blamed) i (k .flags) p (k .copies);
-    flags = length-set (h .change .blamed) i 1 ∙ k .flags;
+    copies = place-blamed ms (h .change .blamed) i p (k .copies);
     unknown = k .unknown;
     failed = refl;
   })
@@ -86,7 +83,7 @@ more : (ms : List Mirror) (h : Assessment) (w : Row) (x : DeviceError) (xs : Lis
     → Assesses ms h w xs (cond (isFault x) (with (placeIn w (deviceOf x)) bs) bs) (cond (isFault x) true b) → Assesses ms h w (x ∷ xs) bs b
 unfolding any blame
 more ms h w x xs bs b e (named p q) = named (rw (e, p)) q
-more ms h w x xs bs b e (mirrors-only p q) = mirrors-only (rw (e, p)) (record { copies = q .copies; flags = q .flags; unknown = q .unknown; failed = q .failed ∙ by (isFault x) b (any isFault xs) })
+more ms h w x xs bs b e (mirrors-only p q) = mirrors-only (rw (e, p)) (record { copies = q .copies; unknown = q .unknown; failed = q .failed ∙ by (isFault x) b (any isFault xs) })
   where
     by : (a b c : Bool) → cond (cond a true b) true c ≡ cond b true (cond a true c)
     by true true c = refl
@@ -102,7 +99,7 @@ module _ {was : List ℕ} (ms : List Mirror) (w : Row) (s : Copies ms (w .mirror
 
   pub assessed-all : (xs : List DeviceError) (h : Assessment) (bs : List ℕ) (b : Bool) → Sees ms h w bs b → Assesses ms (over (withError ms) h xs) w xs bs b
   unfolding over any blame
-  assessed-all [] h bs b k = mirrors-only refl (record { copies = k .copies; flags = k .flags; unknown = k .unknown; failed = k .failed ∙ last b })
+  assessed-all [] h bs b k = mirrors-only refl (record { copies = k .copies; unknown = k .unknown; failed = k .failed ∙ last b })
     where
       last : (b : Bool) → b ≡ cond b true false
       last true = refl
@@ -111,7 +108,7 @@ module _ {was : List ℕ} (ms : List Mirror) (w : Row) (s : Copies ms (w .mirror
 
 -- ---- a whole report
 pub assesses-report : {g : Bool} {f : File} {w : Row} (xs : List DeviceError) → FileIs g f w → Assesses (f .mirrors) (over (withError (f .mirrors)) (statusOnly 0) xs) w xs (w .blamed) false
-assesses-report {g} {f} {w} xs k = assessed-all (f .mirrors) w (k .copies) xs (statusOnly 0) (w .blamed) false (record { copies = rw (none-blamed 5 (f .mirrors)) (k .copies); flags = sym (five (k .copies)); unknown = refl; failed = refl })
+assesses-report {g} {f} {w} xs k = assessed-all (f .mirrors) w (k .copies) xs (statusOnly 0) (w .blamed) false (record { copies = rw (none-blamed (f .mirrors)) (k .copies); unknown = refl; failed = refl })
 
 after-report : {g : Bool} {f : File} {w : Row} (h : Assessment) (xs : List DeviceError) → FileIs g f w → Assesses (f .mirrors) h w xs (w .blamed) false → FileIs g (changedFile (h .change) f) (reported Current xs w)
 unfolding changedFile

@@ -59,7 +59,7 @@ counted-stated {y} {h} {l} {r} {w} ms a g =
     ∙ ap (countedOf ms a (halves (y .device) .high) (halves (y .device) .low) (y .read)) (sym (g .written))
 
 -- ---- all of them: an ignored report counts none
-counted-all : (ms : List Mirror) (ys : List Statistic) (s : ℕ) (u f : Bool) (bs : List ℕ) (t : Totals)
+counted-all : (ms : List Mirror) (ys : List Statistic) (s : ℕ) (u f : Bool) (bs : ℕ) (t : Totals)
     → over (counted ms) (record { status = s; change = record { unknown = u; failed = f; blamed = bs }; totals = t }) ys
     ≡ record { status = s; change = record { unknown = u; failed = f; blamed = bs }; totals = cond u t (over (adding ms) t ys) }
 unfolding over countedOf

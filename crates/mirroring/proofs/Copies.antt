@@ -1,8 +1,8 @@
 -- A file's places beside its mirrors, its proxy and the blamed places of a row, in this order: how they go together; a device and its place; the sums by
 -- place; blame of one place; repair; a proxy that comes and goes; a new file's places.
-use mathlib.Core.Path.{_≡_, refl, ap, sym, _∙_}
+use mathlib.Core.Path.{_≡_, refl, ap, ap₂, sym, _∙_}
 use mathlib.Core.List.{List, [], _∷_, _++_, map}
-use mathlib.Core.Bool.{Bool, true, false, not, cond}
+use mathlib.Core.Bool.{Bool, true, false, not, cond, _||_}
 use Prim.Native.Nat.{ℕ, zero, suc, _+_, _<_, _≤_}
 use native.Mathlib.Omega.{arith}
 use native.Mathlib.Decide.{ℕ-discrete}
@@ -10,12 +10,14 @@ use lib.ListN.{getD, set, length, replicate, length-set, length-map, List·getD-
 use lib.Dec.{eqb}
 use lib.Seq.{getD-set-same, getD-set-other}
 use borrow.Author.Tests.{eq-eqb, ne-eqb}
+use Rattle.masks.specs.Mask as mask
+use Rattle.masks.proofs.Laws.{has-zero, has-plus, plus-node}
 use Rattle.places.specs.Lists.{any, chosen, has, with, fill}
 use Rattle.places.specs.Places.{bump, first}
 use Rattle.reports.specs.Device.{Device}
 use Rattle.reports.specs.Statistics.{Statistic}
 use Rattle.mirroring.specs.Devices.{sameDevice, isMirror, placeOf, Proxy, noProxy, proxyAt, isThere, isProxy, isCopy, copyPlace}
-use Rattle.mirroring.specs.Mirrors.{noMirror, newProxy, noMirrors, isDevice, isGood, unblamed, blamedIf, blamedAt, hasProxy, withProxy, withoutProxy, mirrorOf, placedMirrors}
+use Rattle.mirroring.specs.Mirrors.{noMirror, newProxy, noMirrors, isDevice, isGood, unblamed, blamedIf, blamedBy, blamedAt, hasProxy, withProxy, withoutProxy, mirrorOf, placedMirrors}
 use Rattle.mirroring.specs.Totals.{sumOf, proxySum}
 use Rattle.mirroring.specs.TotalsSteps.{sumAt}
 use Rattle.mirroring.specs.declared.mirrors.Mirror.{Mirror}
@@ -155,27 +157,32 @@ sums-of g ys (item h s) = rw (h .present, h .high, h .low, sums-of g ys s)
 abbrev blameAt : List Mirror → ℕ → List Mirror
 blameAt ms i = set ms i (blamedIf true (getD ms i noMirror))
 
--- one flag more is one place more
-one-more : (fs : List ℕ) (ms : List Mirror) (i : ℕ) → i < length fs → i < length ms → blamedAt (set fs i 1) ms ≡ blameAt (blamedAt fs ms) i
-unfolding blamedAt
-one-more [] ms i h k = absurd (omega arith)
-one-more (b ∷ fs) [] i h k = absurd (omega arith)
-one-more (b ∷ fs) (m ∷ ms) zero h k = refl
-one-more (b ∷ fs) (m ∷ ms) (suc i) h k = ap {B = List Mirror} (λ t. blamedIf (eqb b 1) m ∷ t) (one-more fs ms i (omega arith) (omega arith))
+blamed-same : (p q : ℕ → Bool) (ms : List Mirror) → ((j : ℕ) → j < length ms → q j ≡ p j) → blamedBy q ms ≡ blamedBy p ms
+unfolding blamedBy
+blamed-same p q [] h = refl
+blamed-same p q (m ∷ ms) h = ap₂ {C = List Mirror} (λ b t. blamedIf b m ∷ t) (h 0 (omega arith)) (blamed-same (λ k. p (suc k)) (λ k. q (suc k)) ms (λ j l. h (suc j) (omega arith)))
 
-pub blamed-length : (fs : List ℕ) (ms : List Mirror) → length (blamedAt fs ms) ≡ length ms
-unfolding blamedAt
-blamed-length fs [] = refl
-blamed-length [] (m ∷ ms) = refl
-blamed-length (b ∷ fs) (m ∷ ms) = ap suc (blamed-length fs ms)
+-- one place more that passes is one place more that is blamed
+one-more : (p q : ℕ → Bool) (ms : List Mirror) (i : ℕ) → i < length ms → q i ≡ true → ((j : ℕ) → j < length ms → ¬ (j ≡ i) → q j ≡ p j) → blamedBy q ms ≡ blameAt (blamedBy p ms) i
+unfolding blamedBy
+one-more p q [] i l e h = absurd (omega arith)
+one-more p q (m ∷ ms) zero l e h = ap₂ {C = List Mirror} (λ b t. blamedIf b m ∷ t) e (blamed-same (λ k. p (suc k)) (λ k. q (suc k)) ms (λ j k. h (suc j) (omega arith) (λ z. omega arith)))
+one-more p q (m ∷ ms) (suc i) l e h =
+    ap₂ {C = List Mirror} (λ b t. blamedIf b m ∷ t) (h 0 (omega arith) (λ z. omega arith)) (one-more (λ k. p (suc k)) (λ k. q (suc k)) ms i (omega arith) e (λ j k n. h (suc j) (omega arith) (λ z. n (omega arith))))
 
--- no flag is up
-pub none-blamed : (k : ℕ) (ms : List Mirror) → blamedAt (replicate k 0) ms ≡ ms
-unfolding blamedAt
-none-blamed zero [] = refl
-none-blamed zero (m ∷ ms) = refl
-none-blamed (suc k) [] = refl
-none-blamed (suc k) (m ∷ ms) = ap {B = List Mirror} (λ t. m ∷ t) (none-blamed k ms)
+blamed-length : (p : ℕ → Bool) (ms : List Mirror) → length (blamedBy p ms) ≡ length ms
+unfolding blamedBy
+blamed-length p [] = refl
+blamed-length p (m ∷ ms) = ap suc (blamed-length (λ k. p (suc k)) ms)
+
+nobody : (p : ℕ → Bool) (ms : List Mirror) → ((k : ℕ) → p k ≡ false) → blamedBy p ms ≡ ms
+unfolding blamedBy
+nobody p [] h = refl
+nobody p (m ∷ ms) h = ap₂ {C = List Mirror} (λ b t. blamedIf b m ∷ t) (h 0) (nobody (λ k. p (suc k)) ms (λ k. h (suc k)))
+
+-- the empty set blames nobody
+pub none-blamed : (ms : List Mirror) → blamedAt 0 ms ≡ ms
+none-blamed ms = nobody (λ k. mask.has 0 k) ms has-zero
 
 flag-at : (ms : List Mirror) (bs : List ℕ) (i j : ℕ) → i < length ms → getD ms j noMirror .blamed ≡ has j bs → Dec (j ≡ i)
     → getD (blameAt ms i) j noMirror .blamed ≡ has j (with i bs)
@@ -201,10 +208,18 @@ blamed-place {ms} {ds} {p} {bs} i h c = record {
   blame = λ j l. flag-at ms bs i j (omega (arith, within i p h, five c)) (c .blame j l) (ℕ-discrete j i);
 }
 
-pub flag-raised : (ms : List Mirror) {ds : List Device} {p : Proxy} {bs : List ℕ} (fs : List ℕ) (i : ℕ) → length fs ≡ length ms → i < placesWith 4 p → Copies (blamedAt fs ms) ds p bs → Copies (blamedAt (set fs i 1) ms) ds p (with i bs)
-flag-raised ms {p = p} fs i e h c =
-    let l : i < length ms = omega (arith, within i p h, five c, blamed-length fs ms) in
-    rw (one-more fs ms i (omega (arith, e, l)) l) (blamed-place i h c)
+set-more : (s i j : ℕ) → j < 32 → ¬ (j ≡ i) → mask.has (mask.plus s i) j ≡ mask.has s j
+set-more s i j h n = has-plus s i j h ∙ rw (ne-eqb j i n) (by (mask.has s j))
+  where
+    by : (b : Bool) → (b || false) ≡ b
+    by true = refl
+    by false = refl
+
+pub place-blamed : (ms : List Mirror) {ds : List Device} {p : Proxy} {bs : List ℕ} (s i : ℕ) → i < placesWith 4 p → Copies (blamedAt s ms) ds p bs → Copies (blamedAt (mask.plus s i) ms) ds p (with i bs)
+place-blamed ms {p = p} s i h c =
+    let e : length ms ≡ 5 = sym (blamed-length (λ k. mask.has s k) ms) ∙ five c in
+    let w : i < 5 = within i p h in
+    rw (one-more (λ k. mask.has s k) (λ k. mask.has (mask.plus s i) k) ms i (omega (arith, e, w)) (plus-node s i (omega (arith, w))) (λ j l n. set-more s i j (omega (arith, e, l)) n)) (blamed-place i h c)
 
 -- ---- repair
 unblamed-at : (ms : List Mirror) (i : ℕ) → getD (map unblamed ms) i noMirror .blamed ≡ false

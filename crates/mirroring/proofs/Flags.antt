@@ -1,19 +1,36 @@
--- A map by place that blames where a flag is up gives the mirrors with the blame of the flags.
+-- A map by place that blames where the place is in a set gives the mirrors with that blame; and how far a place that is found is.
 use mathlib.Core.Path.{_≡_, refl, ap, _∙_}
 use mathlib.Core.List.{List, [], _∷_}
-use lib.Dec.{eqb}
-use Prim.Native.Nat.{ℕ, _≤_}
+use mathlib.Core.Bool.{Bool, true, false, cond}
+use Prim.Native.Nat.{ℕ, suc, _≤_}
 use native.Mathlib.Omega.{arith}
-use lib.ListN.{length, getD}
+use lib.ListN.{length}
+use Rattle.masks.specs.Mask as mask
+use Rattle.places.specs.Places.{bump, first, placeOr}
 use Rattle.places.proofs.Loops.{mapAt, Mapping, mapped-at}
-use Rattle.mirroring.specs.Mirrors.{blamedIf, blamedAt}
+use Rattle.places.specs.declared.Found.{Found}
+use Rattle.places.specs.declared.Found.the-variants.{At, Nothing}
+use Rattle.mirroring.specs.Mirrors.{blamedIf, blamedBy, blamedAt}
 use Rattle.mirroring.specs.declared.mirrors.Mirror.{Mirror}
 
-by-flags : (fs : List ℕ) (ms : List Mirror) → length fs ≡ length ms → mapAt (λ k. blamedIf (eqb (getD fs k 0) 1)) ms ≡ blamedAt fs ms
-unfolding mapAt blamedAt
-by-flags fs [] e = refl
-by-flags [] (m ∷ ms) e = absurd (omega (arith, e))
-by-flags (b ∷ fs) (m ∷ ms) e = ap {B = List Mirror} (λ t. blamedIf (eqb b 1) m ∷ t) (by-flags fs ms (omega (arith, e)))
+by-place : (p : ℕ → Bool) (ms : List Mirror) → mapAt (λ k. blamedIf (p k)) ms ≡ blamedBy p ms
+unfolding mapAt blamedBy
+by-place p [] = refl
+by-place p (m ∷ ms) = ap {B = List Mirror} (λ t. blamedIf (p 0) m ∷ t) (by-place (λ k. p (suc k)) ms)
 
-pub mapped-flags : (fs : List ℕ) (l : List Mirror) {m : List Mirror} {i : ℕ} → Mapping (λ k. blamedIf (eqb (getD fs k 0) 1)) l m i → length fs ≡ length l → length l ≤ i → m ≡ blamedAt fs l
-mapped-flags fs l s e h = mapped-at s h ∙ by-flags fs l e
+pub mapped-places : (s : ℕ) (l : List Mirror) {m : List Mirror} {i : ℕ} → Mapping (λ k. blamedIf (mask.has s k)) l m i → length l ≤ i → m ≡ blamedAt s l
+mapped-places s l w h = mapped-at w h ∙ by-place (λ k. mask.has s k) l
+
+-- ---- a place that is found
+bumped : (b : Bool) (o : Found) (n : ℕ) → placeOr 0 o ≤ n → placeOr 0 (cond b (At 0) (bump o)) ≤ suc n
+bumped true o n h = omega arith
+bumped false (At i) n h = omega arith
+bumped false Nothing n h = omega arith
+
+at-most : {A : Type 0} (p : A → Bool) (xs : List A) → placeOr 0 (first p xs) ≤ length xs
+unfolding first
+at-most p [] = omega arith
+at-most p (x ∷ xs) = bumped (p x) (first p xs) (length xs) (at-most p xs)
+
+pub found-within : {A : Type 0} (p : A → Bool) (xs : List A) (i : ℕ) → first p xs ≡ At i → i ≤ length xs
+found-within p xs i e = rw (ap (placeOr 0) e) at (at-most p xs)

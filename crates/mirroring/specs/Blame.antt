@@ -2,7 +2,7 @@
 use mathlib.Core.List.{List}
 use mathlib.Core.Bool.{Bool, true, false, cond}
 use Prim.Native.Nat.{ℕ}
-use lib.ListN.{set, replicate}
+use Rattle.masks.specs.Mask.{plus}
 use lib.Dec.{eqb}
 use Rattle.statuses.specs.Names.{Status}
 use Rattle.reports.specs.Device.{halves}
@@ -20,12 +20,9 @@ use Rattle.mirroring.specs.declared.totals.Totals.{Totals}
 use Rattle.places.specs.declared.Found.{Found}
 use Rattle.places.specs.declared.Found.the-variants.{At, Nothing}
 
-abbrev pub noFlags : List ℕ
-noFlags = replicate 5 0
-
 -- ---- what a report changes
 abbrev pub noChange : Change
-noChange = record { unknown = false; failed = false; blamed = noFlags }
+noChange = record { unknown = false; failed = false; blamed = 0 }
 
 -- it has named a device that is neither a mirror nor the proxy
 abbrev pub naming : Change → Change
@@ -33,7 +30,7 @@ naming x = record { unknown = true; failed = x .failed; blamed = x .blamed }
 
 -- it blames the mirror at place i
 abbrev pub blaming : ℕ → Change → Change
-blaming i x = record { unknown = x .unknown; failed = true; blamed = set (x .blamed) i 1 }
+blaming i x = record { unknown = x .unknown; failed = true; blamed = plus (x .blamed) i }
 
 -- ---- nothing but a status
 abbrev pub statusOnly : Status → Assessment

@@ -1,10 +1,11 @@
 -- MODEL. A file's five places for mirrors, of which the last is the proxy's, in this order: one place; tests; changes; the proxy; the places that a mirror list fills.
 use mathlib.Core.List.{List, [], _∷_, map}
 use mathlib.Core.Bool.{Bool, true, false, not, cond}
-use Prim.Native.Nat.{ℕ, _%_}
+use Prim.Native.Nat.{ℕ, suc, _%_}
 use lib.ListN.{getD, set, replicate}
 use lib.Dec.{eqb, leb}
 use Rattle.statuses.specs.Names.{Bytes}
+use Rattle.masks.specs.Mask as mask
 use Rattle.places.specs.Lists.{fill}
 use Rattle.reports.specs.Device.{Device}
 use Rattle.mirroring.specs.Devices.{mirrorsIn, badMirrors}
@@ -43,11 +44,14 @@ unblamed m = withBlame false m
 abbrev pub blamedIf : Bool → Mirror → Mirror
 blamedIf b m = withBlame (cond b true (m .blamed)) m
 
--- a mirror is blamed if its flag is 1, or if it was
-unfoldable pub blamedAt : List ℕ → List Mirror → List Mirror
-blamedAt bs [] = []
-blamedAt [] (m ∷ ms) = m ∷ ms
-blamedAt (b ∷ bs) (m ∷ ms) = blamedIf (eqb b 1) m ∷ blamedAt bs ms
+-- a mirror is blamed if its place passes, or if it was
+unfoldable pub blamedBy : (ℕ → Bool) → List Mirror → List Mirror
+blamedBy p [] = []
+blamedBy p (m ∷ ms) = blamedIf (p 0) m ∷ blamedBy (λ k. p (suc k)) ms
+
+-- those whose places are in a set
+abbrev pub blamedAt : ℕ → List Mirror → List Mirror
+blamedAt s ms = blamedBy (λ k. mask.has s k) ms
 
 -- ---- the proxy
 abbrev pub hasProxy : List Mirror → Bool

@@ -10,21 +10,19 @@ use reports::report::Entry;
 use reports::report::Reading;
 use reports::statistics::Item;
 ghost use mathlib.Core.Path.{_≡_};
-ghost use mathlib.Core.Bool.{cond};
-ghost use Prim.Native.Nat.{_+_, _*_, _≤_};
-ghost use lib.ListN.{length, drop, set};
+ghost use Prim.Native.Nat.{_+_, _*_, _<_, _≤_};
+ghost use lib.ListN.{length, drop};
 ghost use Rattle.reports.specs.Report.{reportOf, over, outcome};
 ghost use Rattle.reports.specs.ReportSteps.{errorsIn};
 ghost use Rattle.reports.specs.StatisticsSteps.{statisticsFrom, tally};
 ghost use Rattle.mirroring.specs.Blame.{blaming, statusOnly, withError, withErrorOf, counted, countedOf, assessmentOf};
 
 // What a report changes in a file: whether a device was named that is neither a mirror nor the proxy; whether a device error of one of these had a
-// status other than 0; and by place, 1 for one that such a device error blames, and 0. A flag is as wide as a sum of totals, since the compiler packs bytes into one
-// number and takes them out again at each device error.
+// status other than 0; and the set of the places that such a device error blames.
 pub struct Change {
     pub unknown: bool,
     pub failed: bool,
-    pub blamed: [u64; PLACES],
+    pub blamed: u32,
 }
 
 // What a report says of a file's mirrors, as far as it has been read: the status of step 5, what it changes, and the totals of bytes by place.
@@ -40,35 +38,13 @@ struct ErrorsAssessed {
     next: Cursor,
 }
 
-// A flag, once it is raised or as it was.
-fn raised(raise: bool, flag: u64) -> u64
-    ensures { λ r. ⌜ r ≡ cond raise 1 flag ⌝ }
-{
-    if raise { 1 } else { flag }
-}
-
-// The flags with that at `at` up; each place is written by its own number, which the compiler can keep in registers.
-fn flagged(flags: [u64; PLACES], at: usize) -> [u64; PLACES]
-    ensures { λ r. ⌜ r ≡ set flags at 1 ⌝ }
-{
-    let mut fs = flags;
-    let mut i: usize = 0;
-    while i < PLACES {
-        let f = raised(i == at, fs[i]);
-        fs[i] = f;
-        i += 1;
-    }
-    fs
-}
-
 impl Change {
     // The mirror at a place is blamed too.
     pub(crate) fn blame(mut self, at: usize) -> Change
+        requires { ⌜ at < 32 ⌝ }
         ensures { λ r. ⌜ r ≡ blaming at self ⌝ }
     {
-        let old = self.blamed;
-        let blamed = flagged(old, at);
-        self.blamed = blamed;
+        self.blamed = masks::with(self.blamed, at as u32);
         self.failed = true;
         self
     }
@@ -79,14 +55,13 @@ impl Assessment {
     pub fn only(status: u32) -> Assessment
         ensures { λ r. ⌜ r ≡ statusOnly status ⌝ }
     {
-        let blamed = [0u64; PLACES];
         let totals = Totals::none();
         Assessment {
             status,
             change: Change {
                 unknown: false,
                 failed: false,
-                blamed,
+                blamed: 0,
             },
             totals,
         }

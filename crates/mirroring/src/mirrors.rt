@@ -169,15 +169,15 @@ pub fn cleared(mirrors: [Mirror; PLACES]) -> [Mirror; PLACES]
     ms
 }
 
-// The mirrors with those blamed whose flag is 1.
-pub fn with_blame(mirrors: [Mirror; PLACES], flags: [u64; PLACES]) -> [Mirror; PLACES]
-    ensures { λ r. ⌜ r ≡ blamedAt flags mirrors ⌝ }
+// The mirrors with those blamed whose places are in a set.
+pub fn with_blame(mirrors: [Mirror; PLACES], places: u32) -> [Mirror; PLACES]
+    ensures { λ r. ⌜ r ≡ blamedAt places mirrors ⌝ }
 {
     let mut ms = mirrors;
     let mut i: usize = 0;
     while i < PLACES {
         let m = ms[i];
-        let n = m.blame(flags[i] == 1);
+        let n = m.blame(masks::test(places, i as u32));
         ms[i] = n;
         i += 1;
     }

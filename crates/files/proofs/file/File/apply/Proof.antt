@@ -14,7 +14,7 @@ with-blame-requires c κs = search needs
 
 returns-2 : tie.Need-returns-2
 unfolding changedFile
-returns-2 c = rw (c .before .before .before .before .if1 .left, c .before .before .before .if2 .taken, c .with-blame .ensures)
+returns-2 c = rw (c .before .before .before .if1 .left, c .before .before .if2 .taken, c .with-blame .ensures)
 
 returns-3 : tie.Need-returns-3
 unfolding changedFile

@@ -1,5 +1,8 @@
 -- By the place that `place` finds.
-use mathlib.Core.Path.{sym, _∙_}
+use mathlib.Core.Path.{_≡_, sym, _∙_}
+use lib.ListN.{length}
+use Rattle.places.proofs.Loops.{mapped-length}
+use Rattle.mirroring.proofs.Flags.{found-within}
 use Prim.Native.Nat.{_-_}
 use borrow.Author.Tests.{eq-eqb, ne-eqb}
 use Rattle.mirroring.specs.Blame.{withErrorOf}
@@ -7,6 +10,9 @@ use native.Mathlib.Omega.{arith}
 use borrow.Author.Needs.{needs}
 use Rattle.mirroring.proofs.blame.Assessment.device_error.Statement.{statement}
 use Rattle.mirroring.proofs.blame.Assessment.device_error.Tie as tie
+
+long : (c : tie.Start) → length (c .args .mirrors) ≡ 5
+long c = search (mapped-length, needs)
 
 place-requires : tie.Need-place-requires
 place-requires c κs = search needs
@@ -26,7 +32,7 @@ unfolding withErrorOf
 returns-2 c = rw (sym (c .before .before .before .before .place .ensures) ∙ c .before .before .i .given .1, eq-eqb _ _ (c .if1 .taken))
 
 blame-requires : tie.Need-blame-requires
-blame-requires c κs = search needs
+blame-requires c κs = omega (arith, long (c .before .before .before .before .before .before), found-within _ _ _ (sym (c .before .before .before .before .before .place .ensures) ∙ c .before .before .before .i .given .1))
 
 returns-3 : tie.Need-returns-3
 unfolding withErrorOf
