@@ -108,7 +108,7 @@ pub extern "C" fn sc_layout_commit(
 ) -> u32
     ensures { λ r. ⌜ MergedC (commitColumns (now (commits .entry)) block (now (devices .entry)) (now (offsets .entry)) (now (lengths .entry)) (now (storages .entry)) (now (states .entry)) (length (now (d .entry)))) (committed (rangesOf (now (commits .entry))) (columnList (now (devices .entry)) (now (offsets .entry)) (now (lengths .entry)) (now (storages .entry)) (now (states .entry)))) (now (d .entry)) r (now (place .exit)) (now (d .exit)) ⌝ }
 {
-    wire::layout::numbers(
+    scsi::layout::numbers(
         commit(
             commits,
             block,

@@ -2,7 +2,7 @@
 // `layouts`. A kind is a constant in each of the two crates that export its calls, so that the compiler makes each writer for one kind alone.
 // In this order: the check; the extent at a place; the writer.
 use layouts::kinds::Kind;
-use wire::layout::numbers;
+use scsi::layout::numbers;
 ghost use mathlib.Core.Path.{_≡_};
 ghost use Rattle.extents.specs.Extents.{numberOf, placeOf};
 ghost use Rattle.layouts.specs.declared.kinds.Kind.the-variants.{Rdma};

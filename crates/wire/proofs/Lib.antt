@@ -1,4 +1,4 @@
--- LAYOUTRETURN. Requests, RequestModel: the request. First, Handed, Walk: C's walks of a report. Replies: the reply. RequestExamples: computed examples. Layouts, Merged: layout bodies for C.
+-- LAYOUTRETURN. Requests, RequestModel: the request. First, Handed, Walk: C's walks of a report. Replies: the reply. RequestExamples: computed examples.
 pub mod Requests
 pub mod Stateids
 pub mod RequestModel
@@ -7,5 +7,3 @@ pub mod First
 pub mod Handed
 pub mod Walk
 pub mod Replies
-pub mod Layouts
-pub mod Merged

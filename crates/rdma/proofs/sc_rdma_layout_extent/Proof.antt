@@ -1,6 +1,6 @@
 -- sc_rdma_layout_extent hands out what the place gives.
 use mathlib.Core.Path.{ap}
-use Rattle.wire.proofs.Layouts.{gave}
+use Rattle.scsi.proofs.Layouts.{gave}
 use borrow.Author.Needs.{needs}
 use Rattle.rdma.proofs.sc_rdma_layout_extent.Statement.{statement}
 use Rattle.rdma.proofs.sc_rdma_layout_extent.Tie as tie

@@ -1,5 +1,5 @@
 -- sc_rdma_layout_write hands out the two numbers of the answer.
-use Rattle.wire.proofs.Layouts.{handed}
+use Rattle.scsi.proofs.Layouts.{handed}
 use borrow.Author.Needs.{needs}
 use Rattle.rdma.proofs.sc_rdma_layout_write.Statement.{statement}
 use Rattle.rdma.proofs.sc_rdma_layout_write.Tie as tie

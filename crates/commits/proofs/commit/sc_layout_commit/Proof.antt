@@ -1,5 +1,5 @@
 -- sc_layout_commit hands out the two numbers of the answer.
-use Rattle.wire.proofs.Merged.{merged-handed}
+use Rattle.scsi.proofs.Merged.{merged-handed}
 use borrow.Author.Needs.{needs}
 use Rattle.commits.proofs.commit.sc_layout_commit.Statement.{statement}
 use Rattle.commits.proofs.commit.sc_layout_commit.Tie as tie

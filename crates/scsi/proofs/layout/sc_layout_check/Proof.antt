@@ -2,8 +2,8 @@
 use mathlib.Core.Path.{ap, _∙_}
 use Rattle.extents.specs.Extents.{numberOf, placeOf}
 use borrow.Author.Needs.{needs}
-use Rattle.wire.proofs.layout.sc_layout_check.Statement.{statement}
-use Rattle.wire.proofs.layout.sc_layout_check.Tie as tie
+use Rattle.scsi.proofs.layout.sc_layout_check.Statement.{statement}
+use Rattle.scsi.proofs.layout.sc_layout_check.Tie as tie
 
 check-requires : tie.Need-check-requires
 check-requires c κs = search needs

@@ -1,8 +1,8 @@
 -- sc_layout_write hands out the two numbers of the answer.
-use Rattle.wire.proofs.Layouts.{handed}
+use Rattle.scsi.proofs.Layouts.{handed}
 use borrow.Author.Needs.{needs}
-use Rattle.wire.proofs.layout.sc_layout_write.Statement.{statement}
-use Rattle.wire.proofs.layout.sc_layout_write.Tie as tie
+use Rattle.scsi.proofs.layout.sc_layout_write.Statement.{statement}
+use Rattle.scsi.proofs.layout.sc_layout_write.Tie as tie
 
 slice-aggregate-write : tie.Need-slice-aggregate-write
 slice-aggregate-write c = search needs

@@ -1,8 +1,8 @@
 -- sc_layout_extent hands out what the place gives.
-use Rattle.wire.proofs.Layouts.{gave}
+use Rattle.scsi.proofs.Layouts.{gave}
 use borrow.Author.Needs.{needs}
-use Rattle.wire.proofs.layout.sc_layout_extent.Statement.{statement}
-use Rattle.wire.proofs.layout.sc_layout_extent.Tie as tie
+use Rattle.scsi.proofs.layout.sc_layout_extent.Statement.{statement}
+use Rattle.scsi.proofs.layout.sc_layout_extent.Tie as tie
 
 extent-in-requires : tie.Need-extent-in-requires
 extent-in-requires c κs = search needs

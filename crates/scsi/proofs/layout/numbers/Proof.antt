@@ -2,8 +2,8 @@
 use mathlib.Core.Path.{sym, ap}
 use Rattle.extents.specs.Extents.{numberOf, placeOf}
 use borrow.Author.Needs.{needs}
-use Rattle.wire.proofs.layout.numbers.Statement.{statement}
-use Rattle.wire.proofs.layout.numbers.Tie as tie
+use Rattle.scsi.proofs.layout.numbers.Statement.{statement}
+use Rattle.scsi.proofs.layout.numbers.Tie as tie
 
 enum-known-v : tie.Need-enum-known-v
 enum-known-v c = search needs

@@ -1,8 +1,8 @@
 -- sc_layout_merge hands out the two numbers of the answer.
 use borrow.Author.Needs.{needs}
-use Rattle.wire.proofs.Merged.{merged-handed}
-use Rattle.wire.proofs.merge.sc_layout_merge.Statement.{statement}
-use Rattle.wire.proofs.merge.sc_layout_merge.Tie as tie
+use Rattle.scsi.proofs.Merged.{merged-handed}
+use Rattle.scsi.proofs.merge.sc_layout_merge.Statement.{statement}
+use Rattle.scsi.proofs.merge.sc_layout_merge.Tie as tie
 
 merge-requires : tie.Need-merge-requires
 merge-requires c κs = search needs
