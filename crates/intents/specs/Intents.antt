@@ -1,29 +1,29 @@
 -- MODEL. A file's eight places for intents, in this order: one place; tests; changes.
 use mathlib.Core.List.{List}
 use mathlib.Core.Bool.{Bool, true, false, not, cond}
-use Prim.Native.Nat.{ℕ}
 use lib.ListN.{getD, replicate}
 use lib.Dec.{eqb}
+use Rattle.statuses.specs.Names.{Client}
 use Rattle.intents.specs.declared.Intent.{Intent}
 
 abbrev pub noIntent : Intent
 noIntent = record { client = 0; taken = false; reclaimed = false }
 
-abbrev pub intentOf : ℕ → Intent
+abbrev pub intentOf : Client → Intent
 intentOf c = record { client = c; taken = true; reclaimed = false }
 
 -- one that stays at the end of grace, or a free place
-abbrev pub stayedOf : ℕ → Bool → Intent
+abbrev pub stayedOf : Client → Bool → Intent
 stayedOf c b = record { client = c; taken = b; reclaimed = b }
 
-abbrev pub clientOf : Intent → ℕ
+abbrev pub clientOf : Intent → Client
 clientOf x = x .client
 
 abbrev pub noIntents : List Intent
 noIntents = replicate 8 noIntent
 
 -- ---- tests
-abbrev pub isIntent : ℕ → Intent → Bool
+abbrev pub isIntent : Client → Intent → Bool
 isIntent c x = cond (x .taken) (eqb (x .client) c) false
 
 abbrev pub isFree : Intent → Bool
@@ -45,7 +45,7 @@ abbrev pub withReclaimed : Bool → Intent → Intent
 withReclaimed b x = record { client = x .client; taken = x .taken; reclaimed = b }
 
 -- every place of the client is changed, so that nothing hangs on there being one only
-abbrev pub reclaimedIf : ℕ → Intent → Intent
+abbrev pub reclaimedIf : Client → Intent → Intent
 reclaimedIf c x = withReclaimed (cond (isIntent c x) true (x .reclaimed)) x
 
 abbrev pub unreclaimedIntent : Intent → Intent
