@@ -37,11 +37,19 @@ pub fn same_count(
     ensures { λ r. ⌜ r ≡ even kind (record { devices = now (devices .entry); offsets = now (offsets .entry); handles = now (handles .entry); lengths = now (lengths .entry); storages = now (storages .entry); states = now (states .entry) }) ⌝ }
 {
     let n = offsets.len();
-    lengths.len() == n
-        && storages.len() == n
-        && states.len() == n
-        && handles_count(kind, handles, n)
-        && devices.len() == 16 * n
+    if lengths.len() != n {
+        return false;
+    }
+    if storages.len() != n {
+        return false;
+    }
+    if states.len() != n {
+        return false;
+    }
+    if !handles_count(kind, handles, n) {
+        return false;
+    }
+    devices.len() == 16 * n
 }
 
 // Rules 3 to 7 on the list, in one pass; they look at no device id and at no handle.
