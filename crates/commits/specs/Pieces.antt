@@ -1,10 +1,11 @@
--- MODEL of the code: the pieces of a sweep. In this order: what a sweep takes; a part of a row; the pieces from x up to y, from what lies over x; the three places at x; the pieces over all cuts.
+-- MODEL of the code: the pieces of a sweep. In this order: what a sweep takes; what it finds; a part of a row; the pieces from x up to y, from what lies over x; the three places at x; the pieces over all cuts.
 use Prim.Native.Nat.{ℕ, _+_, _-_, _*_, _^_, _<_, _≤_}
 use mathlib.Core.Path.{_≡_}
 use mathlib.Core.List.{List, [], _∷_, _++_}
 use mathlib.Core.Bool.{Bool, true, false, cond, not, _&&_}
 use lib.Dec.{eqb}
 use lib.ListN.{length}
+use lib.Seq.{sets}
 use Rattle.extents.specs.Extents.{listFrom, verdict}
 use Rattle.extents.specs.declared.Extent.{Extent}
 use Rattle.extents.specs.declared.Verdict.the-variants.{Accepted}
@@ -12,9 +13,13 @@ use Rattle.layouts.specs.declared.kinds.Kind.the-variants.{Scsi}
 use Rattle.layouts.specs.Columns.{Even}
 use Rattle.merging.specs.Meaning.{All}
 use Rattle.committing.specs.Ranges.{Range, rangeAt, InOrder, AllPairs}
+use Rattle.committing.specs.Commit.{committed}
+use Rattle.committing.specs.Bare.{isBare}
 use Rattle.committing.specs.Seek.{seekAt}
+use Rattle.joining.specs.Joiner.{bytesOf}
 use Rattle.joining.specs.Merge.{columnsOf, columnList}
 use Rattle.joining.specs.declared.joiner.Piece.{Piece}
+use Rattle.commits.specs.declared.sweep.Found.{Found}
 use Rattle.commits.specs.Spot.{Marks, rangeBegin, rangeEnd, isKind, always, overAt}
 
 -- the ranges that a sweep takes: each has bytes and ends in 64 bits, and every pair is in order
@@ -30,6 +35,12 @@ pub record Asked (s : List ℕ) (m : ℕ) (devs offs lens stos sts : List ℕ) :
   pub columns-even : Even Scsi (columnsOf devs offs lens stos sts)
   pub list-passes : verdict [] 0 (columnList devs offs lens stos sts) ≡ Accepted (length offs)
   pub ranges-orderly : Orderly (listFrom (rangeAt s) m 0)
+
+-- what a sweep over ranges and a list finds, and the lent bytes d before it and d′ after it: those of the list after the commit, behind the count, if it is asked to write
+pub record Finds (rs : List Range) (es : List Extent) (write : Bool) (d : List ℕ) (r : Found) (d′ : List ℕ) : Type 0 where
+  pub counted : r .count ≡ length (committed rs es)
+  pub bared : r .bare ≡ isBare rs es
+  pub stored : d′ ≡ cond write (sets d 4 (bytesOf (committed rs es))) d
 
 -- where the part from byte x on of a row that begins at lo, at this storage, lies; a hole lies nowhere
 unfoldable pub storageOf : (lo storage st x : ℕ) → ℕ

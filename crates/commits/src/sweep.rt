@@ -9,15 +9,13 @@ ghost use mathlib.Core.Path.{_≡_};
 ghost use mathlib.Core.Bool.{true, cond};
 ghost use Prim.Native.Nat.{_+_, _-_, _*_, _^_, _<_, _≤_};
 ghost use lib.ListN.{length};
-ghost use lib.Seq.{sets};
 ghost use Rattle.extents.specs.Extents.{listFrom};
 ghost use Rattle.committing.specs.Ranges.{rangeAt};
 ghost use Rattle.committing.specs.Commit.{committed};
-ghost use Rattle.committing.specs.Bare.{isBare};
-ghost use Rattle.joining.specs.Joiner.{bytesOf, storedLonger, storedStart};
+ghost use Rattle.joining.specs.Joiner.{storedLonger, storedStart};
 ghost use Rattle.joining.specs.Merge.{columnList};
 ghost use Rattle.commits.specs.Spot.{numberIn};
-ghost use Rattle.commits.specs.Pieces.{Asked, storageOf, pieceOf};
+ghost use Rattle.commits.specs.Pieces.{Asked, Finds, storageOf, pieceOf};
 
 // Where the part from byte x on of row i, which begins at `lo`, lies in storage; a hole lies nowhere.
 fn storage_of(stos: &[u64], i: usize, st: u32, lo: u64, x: u64) -> u64
@@ -85,9 +83,7 @@ pub(crate) fn sweep(
 ) -> Found
     requires { ⌜ Asked (now s) m (now devs) (now offs) (now lens) (now stos) (now sts) ⌝ }
     requires { ⌜ (write ≡ true → 4 + 44 * length (committed (listFrom (rangeAt (now s)) m 0) (columnList (now devs) (now offs) (now lens) (now stos) (now sts))) ≤ length (now d)) ⌝ }
-    ensures counted { λ r. ⌜ r .count ≡ length (committed (listFrom (rangeAt (now (s .entry))) m 0) (columnList (now (devs .entry)) (now (offs .entry)) (now (lens .entry)) (now (stos .entry)) (now (sts .entry)))) ⌝ }
-    ensures bared { λ r. ⌜ r .bare ≡ isBare (listFrom (rangeAt (now (s .entry))) m 0) (columnList (now (devs .entry)) (now (offs .entry)) (now (lens .entry)) (now (stos .entry)) (now (sts .entry))) ⌝ }
-    ensures stored { λ r. ⌜ now (d .exit) ≡ cond write (sets (now (d .entry)) 4 (bytesOf (committed (listFrom (rangeAt (now (s .entry))) m 0) (columnList (now (devs .entry)) (now (offs .entry)) (now (lens .entry)) (now (stos .entry)) (now (sts .entry)))))) (now (d .entry)) ⌝ }
+    ensures { λ r. ⌜ Finds (listFrom (rangeAt (now (s .entry))) m 0) (columnList (now (devs .entry)) (now (offs .entry)) (now (lens .entry)) (now (stos .entry)) (now (sts .entry))) write (now (d .entry)) r (now (d .exit)) ⌝ }
 {
     let mut runs = [joiner::no_run(); 4];
     let mut count = 0;

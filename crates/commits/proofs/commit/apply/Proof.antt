@@ -40,7 +40,7 @@ same-length c = search needs
 returns-2 : tie.Need-returns-2
 returns-2 c =
     let a = c .before .before .before .before .before .before .before .before .before .before .before .before .before .before .before .args in let s = a .s .now in let h = may-commit s (a .block) (c .before .before .before .before .before .before .before .refusal .result) (c .before .before .before .before .before .before .before .refusal .ensures) (c .before .before .before .before .before .before .if1 .left) in
-    (no-cover s (a .block) (h .0) (h .1) (c .before .before .before .before .before .be32 .result) (c .before .before .before .before .before .be32 .ensures) (columnList (a .devs .now) (a .offs .now) (a .lens .now) (a .stos .now) (a .sts .now)) (length (a .d .now)) (c .before .before .before .sweep .result .bare) (c .before .before .before .sweep .ensures .1 .0) (c .if2 .taken), c .before .before .before .sweep .ensures .1 .1)
+    (no-cover s (a .block) (h .0) (h .1) (c .before .before .before .before .before .be32 .result) (c .before .before .before .before .before .be32 .ensures) (columnList (a .devs .now) (a .offs .now) (a .lens .now) (a .stos .now) (a .sts .now)) (length (a .d .now)) (c .before .before .before .sweep .result .bare) (c .before .before .before .sweep .ensures .bared) (c .if2 .taken), c .before .before .before .sweep .ensures .stored)
 
 same-length-2 : tie.Need-same-length-2
 same-length-2 c = search needs
@@ -48,7 +48,7 @@ same-length-2 c = search needs
 returns-3 : tie.Need-returns-3
 returns-3 c =
     let a = c .before .before .before .before .before .before .before .before .before .before .before .before .before .before .before .before .args in let s = a .s .now in let h = may-commit s (a .block) (c .before .before .before .before .before .before .before .before .refusal .result) (c .before .before .before .before .before .before .before .before .refusal .ensures) (c .before .before .before .before .before .before .before .if1 .left) in
-    (too-long s (a .block) (h .0) (h .1) (c .before .before .before .before .before .before .be32 .result) (c .before .before .before .before .before .before .be32 .ensures) (columnList (a .devs .now) (a .offs .now) (a .lens .now) (a .stos .now) (a .sts .now)) (length (a .d .now)) (c .before .before .before .before .sweep .result .bare) (c .before .before .before .before .sweep .ensures .1 .0) (c .before .if2 .left) (c .before .before .before .before .sweep .result .count) (c .before .before .before .before .sweep .ensures .0) (c .if3 .taken), c .before .before .before .before .sweep .ensures .1 .1)
+    (too-long s (a .block) (h .0) (h .1) (c .before .before .before .before .before .before .be32 .result) (c .before .before .before .before .before .before .be32 .ensures) (columnList (a .devs .now) (a .offs .now) (a .lens .now) (a .stos .now) (a .sts .now)) (length (a .d .now)) (c .before .before .before .before .sweep .result .bare) (c .before .before .before .before .sweep .ensures .bared) (c .before .if2 .left) (c .before .before .before .before .sweep .result .count) (c .before .before .before .before .sweep .ensures .counted) (c .if3 .taken), c .before .before .before .before .sweep .ensures .stored)
 
 mul-if4 : tie.Need-mul-if4
 mul-if4 c = search needs
@@ -62,8 +62,8 @@ same-length-3 c = search needs
 returns-4 : tie.Need-returns-4
 returns-4 c =
     let a = c .before .before .before .before .before .before .before .before .before .before .before .before .before .before .before .before .before .args in let s = a .s .now in let h = may-commit s (a .block) (c .before .before .before .before .before .before .before .before .before .refusal .result) (c .before .before .before .before .before .before .before .before .before .refusal .ensures) (c .before .before .before .before .before .before .before .before .if1 .left) in
-    let same = ap length (c .before .before .before .before .before .sweep .ensures .1 .1) in
-    (no-room s (a .block) (h .0) (h .1) (c .before .before .before .before .before .before .before .be32 .result) (c .before .before .before .before .before .before .before .be32 .ensures) (columnList (a .devs .now) (a .offs .now) (a .lens .now) (a .stos .now) (a .sts .now)) (length (a .d .now)) (c .before .before .before .before .before .sweep .result .bare) (c .before .before .before .before .before .sweep .ensures .1 .0) (c .before .before .if2 .left) (c .before .before .before .before .before .sweep .result .count) (c .before .before .before .before .before .sweep .ensures .0) (c .before .if3 .left) (omega (arith, same, c .if4 .taken)), c .before .before .before .before .before .sweep .ensures .1 .1)
+    let same = ap length (c .before .before .before .before .before .sweep .ensures .stored) in
+    (no-room s (a .block) (h .0) (h .1) (c .before .before .before .before .before .before .before .be32 .result) (c .before .before .before .before .before .before .before .be32 .ensures) (columnList (a .devs .now) (a .offs .now) (a .lens .now) (a .stos .now) (a .sts .now)) (length (a .d .now)) (c .before .before .before .before .before .sweep .result .bare) (c .before .before .before .before .before .sweep .ensures .bared) (c .before .before .if2 .left) (c .before .before .before .before .before .sweep .result .count) (c .before .before .before .before .before .sweep .ensures .counted) (c .before .if3 .left) (omega (arith, same, c .if4 .taken)), c .before .before .before .before .before .sweep .ensures .stored)
 
 cast-put32 : tie.Need-cast-put32
 cast-put32 c = search needs
@@ -74,7 +74,7 @@ put32-requires c κs = search needs
 sweep-requires-2 : tie.Need-sweep-requires-2
 sweep-requires-2 c κs =
     let a = c .before .before .before .before .before .before .before .before .before .before .before .before .before .before .before .before .before .before .before .before .before .before .args in let s = a .s .now in let h = may-commit s (a .block) (c .before .before .before .before .before .before .before .before .before .before .before .before .before .before .refusal .result) (c .before .before .before .before .before .before .before .before .before .before .before .before .before .before .refusal .ensures) (c .before .before .before .before .before .before .before .before .before .before .before .before .before .if1 .left) in
-    (asked s (a .block) (h .0) (h .1) (c .before .before .before .before .before .before .before .before .before .before .before .before .be32 .result) (c .before .before .before .before .before .before .before .before .before .before .before .before .be32 .ensures) (a .devs .now) (a .offs .now) (a .lens .now) (a .stos .now) (a .sts .now) (c .before .before .before .before .before .before .before .before .before .before .before .before .before .before .before .before .before .before .before .before .before .before .pre .0) (c .before .before .before .before .before .before .before .before .before .before .before .before .before .before .before .before .before .before .before .before .before .before .pre .1 .0) (c .before .before .before .before .before .before .before .before .before .before .before .before .before .before .before .before .before .before .before .before .before .before .pre .1 .1), λ z. omega (arith, c .before .before .before .before .before .before .before .before .before .before .sweep .ensures .0, c .before .before .before .before .before .if4 .left, ap length (c .before .before .before .put32 .ensures), length-sets (c .before .before .before .before .before .before .before .before .before .before .sweep .last .0) 0 (beBytes 4 (c .before .before .before .before .before .before .before .before .before .before .sweep .result .count))))
+    (asked s (a .block) (h .0) (h .1) (c .before .before .before .before .before .before .before .before .before .before .before .before .be32 .result) (c .before .before .before .before .before .before .before .before .before .before .before .before .be32 .ensures) (a .devs .now) (a .offs .now) (a .lens .now) (a .stos .now) (a .sts .now) (c .before .before .before .before .before .before .before .before .before .before .before .before .before .before .before .before .before .before .before .before .before .before .pre .0) (c .before .before .before .before .before .before .before .before .before .before .before .before .before .before .before .before .before .before .before .before .before .before .pre .1 .0) (c .before .before .before .before .before .before .before .before .before .before .before .before .before .before .before .before .before .before .before .before .before .before .pre .1 .1), λ z. omega (arith, c .before .before .before .before .before .before .before .before .before .before .sweep .ensures .counted, c .before .before .before .before .before .if4 .left, ap length (c .before .before .before .put32 .ensures), length-sets (c .before .before .before .before .before .before .before .before .before .before .sweep .last .0) 0 (beBytes 4 (c .before .before .before .before .before .before .before .before .before .before .sweep .result .count))))
 
 same-length-4 : tie.Need-same-length-4
 same-length-4 c = search needs
@@ -82,9 +82,9 @@ same-length-4 c = search needs
 returns-5 : tie.Need-returns-5
 returns-5 c =
     let a = c .before .before .before .before .before .before .before .before .before .before .before .before .before .before .before .before .before .before .before .before .before .before .before .before .before .args in let s = a .s .now in let h = may-commit s (a .block) (c .before .before .before .before .before .before .before .before .before .before .before .before .before .before .before .before .before .refusal .result) (c .before .before .before .before .before .before .before .before .before .before .before .before .before .before .before .before .before .refusal .ensures) (c .before .before .before .before .before .before .before .before .before .before .before .before .before .before .before .before .if1 .left) in
-    let same = ap length (c .before .before .before .before .before .before .before .before .before .before .before .before .before .sweep .ensures .1 .1) in (
-      room-for s (a .block) (h .0) (h .1) (c .before .before .before .before .before .before .before .before .before .before .before .before .before .before .before .be32 .result) (c .before .before .before .before .before .before .before .before .before .before .before .before .before .before .before .be32 .ensures) (columnList (a .devs .now) (a .offs .now) (a .lens .now) (a .stos .now) (a .sts .now)) (length (a .d .now)) (c .before .before .before .before .before .before .before .before .before .before .before .before .before .sweep .result .bare) (c .before .before .before .before .before .before .before .before .before .before .before .before .before .sweep .ensures .1 .0) (c .before .before .before .before .before .before .before .before .before .before .if2 .left) (c .before .before .before .before .before .before .before .before .before .before .before .before .before .sweep .result .count) (c .before .before .before .before .before .before .before .before .before .before .before .before .before .sweep .ensures .0) (c .before .before .before .before .before .before .before .before .before .if3 .left) (omega (arith, same, c .before .before .before .before .before .before .before .before .if4 .left)),
-      bytes-are s (a .block) (h .0) (h .1) (c .before .before .before .before .before .before .before .before .before .before .before .before .before .before .before .be32 .result) (c .before .before .before .before .before .before .before .before .before .before .before .before .before .before .before .be32 .ensures) (columnList (a .devs .now) (a .offs .now) (a .lens .now) (a .stos .now) (a .sts .now)) (c .before .before .before .before .before .before .before .before .before .before .before .before .before .sweep .result .count) (a .d .now) (c .before .before .before .before .before .before .before .before .before .before .before .before .before .sweep .last .0) (c .before .before .before .before .before .before .put32 .last .0) (c .before .before .sweep2 .last .0) (c .before .before .before .before .before .before .before .before .before .before .before .before .before .sweep .ensures .1 .1) (c .before .before .before .before .before .before .put32 .ensures) (c .before .before .sweep2 .ensures .1 .1),
+    let same = ap length (c .before .before .before .before .before .before .before .before .before .before .before .before .before .sweep .ensures .stored) in (
+      room-for s (a .block) (h .0) (h .1) (c .before .before .before .before .before .before .before .before .before .before .before .before .before .before .before .be32 .result) (c .before .before .before .before .before .before .before .before .before .before .before .before .before .before .before .be32 .ensures) (columnList (a .devs .now) (a .offs .now) (a .lens .now) (a .stos .now) (a .sts .now)) (length (a .d .now)) (c .before .before .before .before .before .before .before .before .before .before .before .before .before .sweep .result .bare) (c .before .before .before .before .before .before .before .before .before .before .before .before .before .sweep .ensures .bared) (c .before .before .before .before .before .before .before .before .before .before .if2 .left) (c .before .before .before .before .before .before .before .before .before .before .before .before .before .sweep .result .count) (c .before .before .before .before .before .before .before .before .before .before .before .before .before .sweep .ensures .counted) (c .before .before .before .before .before .before .before .before .before .if3 .left) (omega (arith, same, c .before .before .before .before .before .before .before .before .if4 .left)),
+      bytes-are s (a .block) (h .0) (h .1) (c .before .before .before .before .before .before .before .before .before .before .before .before .before .before .before .be32 .result) (c .before .before .before .before .before .before .before .before .before .before .before .before .before .before .before .be32 .ensures) (columnList (a .devs .now) (a .offs .now) (a .lens .now) (a .stos .now) (a .sts .now)) (c .before .before .before .before .before .before .before .before .before .before .before .before .before .sweep .result .count) (a .d .now) (c .before .before .before .before .before .before .before .before .before .before .before .before .before .sweep .last .0) (c .before .before .before .before .before .before .put32 .last .0) (c .before .before .sweep2 .last .0) (c .before .before .before .before .before .before .before .before .before .before .before .before .before .sweep .ensures .stored) (c .before .before .before .before .before .before .put32 .ensures) (c .before .before .sweep2 .ensures .stored),
     )
 
 pub apply-spec : {M : Type 1} → statement M

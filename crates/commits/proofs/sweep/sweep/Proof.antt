@@ -193,7 +193,7 @@ returns c =
     let A = c .before .before .before .before .before .before .before .before .before .before .before .before .pre .0 in
     let l = c .before .before .loop in
     let t = turns-end (a .s .now) (a .m) (a .devs .now) (a .offs .now) (a .lens .now) (a .stos .now) (a .sts .now) A (l .inv) (c .before .before .before .before .before .before .before .before .before .before .before .before .pre .1) (c .if1 .left) in
-    (t .0, (t .1, t .2))
+    record { counted = t .0; bared = t .1; stored = t .2 }
 
 pub sweep-spec : {M : Type 1} → statement M
 sweep-spec =
