@@ -534,6 +534,25 @@ static bool run_listing_by(const struct command *c, const struct word *argument)
     return true;
 }
 
+/* How long the two lists are, as the record keeps it. */
+static bool run_counts(const struct command *c, const struct word *argument)
+{
+    (void)c;
+    (void)argument;
+    struct lent waiting = lend(sizeof(uint64_t)), offered = lend(sizeof(uint64_t));
+    memcpy(record_before, record, sizeof *record);
+    sc_record_counts(record, (uint64_t *)(void *)bytes_of(waiting), (uint64_t *)(void *)bytes_of(offered));
+    if (memcmp(record_before, record, sizeof *record) != 0)
+        broken("a question for the counts changed the record");
+    check_lent(waiting, waiting.len, "bytes beside the count of files that wait changed");
+    check_lent(offered, offered.len, "bytes beside the count of offered files changed");
+    check_held();
+    printf("%" PRIu64 " %" PRIu64 "\n", number_in(waiting), number_in(offered));
+    give_back(waiting);
+    give_back(offered);
+    return true;
+}
+
 /* An extent as the library hands it out; the handle is 0 in a SCSI body. */
 struct extent {
     uint64_t device, offset, length, storage;
@@ -827,6 +846,7 @@ static const struct command commands[] = {
     {"offered", 2, run_listing, {.list = sc_record_offered}},
     {"resilver", 3, run_listing_by, {.list_by = sc_record_resilver_by}},
     {"offered", 3, run_listing_by, {.list_by = sc_record_offered_by}},
+    {"counts", 0, run_counts, {NULL}},
     {"layout", 1, run_layout, {.kind = &scsi}},
     {"rdma", 1, run_layout, {.kind = &rdma}},
     {"write", 2, run_write, {.kind = &scsi}},

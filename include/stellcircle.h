@@ -32,7 +32,7 @@ extern "C" {
  * The first number rises where a server has to be changed, the second where calls are added, the third where neither is.
  */
 #define SC_VERSION_MAJOR 2
-#define SC_VERSION_MINOR 1
+#define SC_VERSION_MINOR 2
 #define SC_VERSION_PATCH 0
 
 /* ---- statuses, by NFS's own names (RFC 8881, 15.1) ----
@@ -178,7 +178,8 @@ uint32_t sc_layoutreturn_reply(uint8_t *reply, size_t reply_len, uint32_t status
 
 /* ---- the recovery record ----
  *
- * At most 64 files, each with 1 to 4 mirror devices, at most one proxy, and at most 8 write intents, one a client; and whether the server is in grace.
+ * At most 64 files, each with 1 to 4 mirror devices, at most one proxy, and at most 8 write intents, one a client; how many of them need repair and how many
+ * are offered for copying; and whether the server is in grace.
  * The places of a file are 0 to 3 for its mirrors, in the order in which they are registered, and 4 for its proxy, also where it has fewer than four mirrors.
  *
  * A record is plain memory that the server owns, sizeof(struct sc_record) bytes aligned as a uint64_t. Its words are for these calls alone: a
@@ -187,10 +188,10 @@ uint32_t sc_layoutreturn_reply(uint8_t *reply, size_t reply_len, uint32_t status
  * A call changes the record where it lies, and leaves it as it was where it answers a refusal. Calls on two records may run at once.
  */
 struct sc_record {
-    uint64_t opaque[2113];
+    uint64_t opaque[2115];
 };
 
-SC_ASSERT(sizeof(struct sc_record) == 16904, "struct sc_record is as the library has it");
+SC_ASSERT(sizeof(struct sc_record) == 16920, "struct sc_record is as the library has it");
 
 #define SC_PLACES 5 /* the places of a file; a later version may have more */
 #define SC_PROXY 4  /* the place of its proxy */
@@ -286,6 +287,10 @@ static inline uint32_t sc_record_offered(const struct sc_record *r, uint64_t *fi
 {
     return sc_record_offered_by(r, files, files_len, sources, sources_len, count, SC_UNASKED);
 }
+
+/* How many files need repair, and how many of those are offered for copying: the lengths of the two lists. The record keeps both numbers, so that no file
+ * is looked at, and a console may ask as often as it likes, in grace too. No refusal. The record is only read. */
+void sc_record_counts(const struct sc_record *r, uint64_t *waiting, uint64_t *offered);
 
 /* ---- the grace epochs of a cluster: the epoch record of a node, and the calls on it ----
  *
