@@ -1,6 +1,6 @@
 /* The calls on a full record (64 files, 8 intents each): first with files and clients in random order, which no branch predictor learns, then the calls
  * that have a limit with both in rising order, which it does. A call on one file may take 1.5 times gcc's time in either order, a LAYOUTRETURN with statistics
- * 1.2 times, register, forget, restart, the end of grace and the lists 2.0 times. */
+ * 1.2 times, register, forget, restart, the end of grace and the lists 2.0 times; a question for the counts, of a few nanoseconds, 1.5 times. */
 #include "bench.h"
 #include "bytes.h"
 #include "plain.h"
@@ -12,7 +12,7 @@ PLAIN(clang_)
 enum { FILES = 64, MANY = 1024 };
 static uint8_t mirrors[64], proxy[16], one[52 + 4096], twenty[52 + 4096], live[52 + 4096], four[52 + 4096], eight[52 + 4096], bulk[16], reply[24], sources[FILES];
 static size_t one_len, twenty_len, live_len, four_len, eight_len;
-static uint64_t files[FILES], count, bytes_read[SC_PLACES], bytes_written[SC_PLACES];
+static uint64_t files[FILES], count, waiting, ready, bytes_read[SC_PLACES], bytes_written[SC_PLACES];
 static uint32_t read_over, written_over;
 
 static uint64_t number(int k) { return 1000003 * (uint64_t)(k + 1); }
@@ -82,6 +82,7 @@ static const struct bench_job jobs[] = {
     {"end of grace", 1, 2.0, BOTH(half, end)},
     {"resilver list, 64 files", FILES, 2.0, BOTH(lost, resilver)},
     {"offered for copying, 64 files", FILES, 2.0, BOTH(lost, offered)},
+    {"counts", MANY, 1.5, BOTH(lost, counts)},
     {"resilver list, 64 files, nobody asks", FILES, 2.0, BOTH(lost, resilver_highest)},
     {"offered for copying, 64 files, nobody asks", FILES, 2.0, BOTH(lost, offered_highest)},
 };

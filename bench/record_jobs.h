@@ -64,6 +64,7 @@ static void P(restart)(void) { EACH P(record_restart)(&P(held)); }
 static void P(end)(void) { bench_sum[FORM] += P(record_end_grace)(&P(held)); }
 static void P(resilver)(void) { EACH P(record_resilver_by)(&P(held), files, FILES, sources, FILES, &count, SC_LOWEST) + count + files[63] + sources[5]; }
 static void P(offered)(void) { EACH P(record_offered_by)(&P(held), files, FILES, sources, FILES, &count, SC_LOWEST) + count + files[63] + sources[5]; }
+static void P(counts)(void) { for (int k = 0; k < MANY; k++) { P(record_counts)(&P(held), &waiting, &ready); bench_sum[FORM] += waiting + ready; } }
 static void P(resilver_highest)(void) { EACH P(record_resilver)(&P(held), files, FILES, sources, FILES, &count) + count + files[63] + sources[5]; }
 static void P(offered_highest)(void) { EACH P(record_offered)(&P(held), files, FILES, sources, FILES, &count) + count + files[63] + sources[5]; }
 #undef ANY

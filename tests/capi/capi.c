@@ -1,8 +1,8 @@
 /*
  * The calls on a record through the archive: where a record lies and how big it is, marked examples K10 to K13, and random calls
  * (seed: the argument, or 1) beside tests/plain/record.c: each answer, each reply, all totals and both lists, from either direction, where nobody asks
- * for one, and for numbers that are none; and what the record holds of the mirrors, the proxy, the blame and the mark of each file, since no call tells
- * of a proxy's blame.
+ * for one, and for numbers that are none; after each call both counts; and what the record holds of the mirrors, the proxy, the blame and the mark of each
+ * file, since no call tells of a proxy's blame.
  * Prints one line, and ends with 1 where anything differs.
  */
 #include "bytes.h"
@@ -51,9 +51,9 @@ static void guards(unsigned long n)
             expect(0, "a byte beside the record", n);
 }
 
-/* ---- what a record holds: 64 files, then grace and the edition. A file: its number; its places, each of the two halves of a device's id and whether it
+/* ---- what a record holds: 64 files, then the two counts, grace and the edition. A file: its number; its places, each of the two halves of a device's id and whether it
  * is there, is blamed and is a proxy; eight intents of a client and two flags; whether there is such a file, and its mark. */
-enum { MIRRORS = 8, MIRROR_SIZE = 24, INTENTS = MIRRORS + SC_PLACES * MIRROR_SIZE, FLAGS = INTENTS + 8 * 16, FILE_SIZE = FLAGS + 8, HEAD = 64 * FILE_SIZE };
+enum { MIRRORS = 8, MIRROR_SIZE = 24, INTENTS = MIRRORS + SC_PLACES * MIRROR_SIZE, FLAGS = INTENTS + 8 * 16, FILE_SIZE = FLAGS + 8, HEAD = 64 * FILE_SIZE, GRACE = HEAD + 16, OLD };
 
 /* The id of a device as the record holds it: two numbers. */
 static int holds(const uint8_t *mirror, const uint8_t *id)
@@ -106,12 +106,12 @@ static void layout(void)
             same = same && memcmp(one + at + INTENTS + 16 * i, two + at + INTENTS + 16 * i, 10) == 0;
         expect(same, "a fresh file", f);
     }
-    expect(one[HEAD] == 0 && two[HEAD] == 0, "fresh grace", 0);
-    expect(one[HEAD + 1] == 0 && two[HEAD + 1] == 0, "the edition", 0);
+    for (size_t i = HEAD; i <= OLD; i++)
+        expect(one[i] == 0 && two[i] == 0, "fresh counts, grace and edition", i);
     sc_record_fresh_old(&held.r);
-    expect(two[HEAD] == 0 && two[HEAD + 1] == 1, "the old edition", 0);
-    expect(sc_record_restart(&held.r) == 0 && two[HEAD] == 1, "grace after a restart", 0);
-    expect(_Alignof(struct sc_record) == _Alignof(uint64_t) && sizeof(struct sc_record) == HEAD + 8, "the struct", 0);
+    expect(two[GRACE] == 0 && two[OLD] == 1, "the old edition", 0);
+    expect(sc_record_restart(&held.r) == 0 && two[GRACE] == 1, "grace after a restart", 0);
+    expect(_Alignof(struct sc_record) == _Alignof(uint64_t) && sizeof(struct sc_record) == HEAD + 24, "the struct", 0);
 }
 
 /* ---- requests */
@@ -379,6 +379,50 @@ static void proxies(void)
     expect(at_proxy(17) == 1 && sc_record_end_grace(&held.r) == 0 && sc_record_repaired(&held.r, 7) == 0 && at_proxy(16) == 1 && at_proxy(17) == 0 && removed(7) == 0, "a repaired proxy", 0);
 }
 
+/* ---- counts */
+/* What the library says of both, with a word before and after each that no call may touch. */
+static int counts(uint64_t waiting, uint64_t offered)
+{
+    uint64_t lent[5] = {FILL, ~waiting, FILL, ~offered, FILL};
+    sc_record_counts(&held.r, &lent[1], &lent[3]);
+    return lent[0] == FILL && lent[1] == waiting && lent[2] == FILL && lent[3] == offered && lent[4] == FILL;
+}
+
+/* Puts both counts into the record, as no history would. */
+static void put_counts(uint64_t waiting, uint64_t offered)
+{
+    memcpy((uint8_t *)&held.r + HEAD, &waiting, 8);
+    memcpy((uint8_t *)&held.r + HEAD + 8, &offered, 8);
+}
+
+/* The counts of a record that no history leads to: kept modulo 2^64, asked by no call, and counted anew as grace ends. */
+static void counts_astray(void)
+{
+    static const uint64_t most = UINT64_MAX;
+    example(0, -1);
+    expect(counts(1, 1), "the counts of a lost file", 0);
+    put_counts(0, 0);
+    expect(counts(0, 0) && lists(0, 1, 7, 0, 1) && sc_record_open(&held.r, 7, 1) == 0 && counts(0, most), "a count below 0", 0);
+    expect(sc_record_close(&held.r, 7, 1) == 0 && counts(0, 0) && sc_record_repaired(&held.r, 7) == 0 && counts(most, most), "both counts below 0", 0);
+    example(0, -1);
+    put_counts(most, most);
+    expect(sc_record_open(&held.r, 7, 1) == 0 && counts(most, most - 1) && sc_record_close(&held.r, 7, 1) == 0 && counts(most, most), "the most that counts hold", 0);
+    put_counts(5, most);
+    expect(sc_record_open(&held.r, 7, 2) == 0 && sc_record_restart(&held.r) == 0 && counts(5, most - 1), "a restart counts nothing", 0);
+    expect(sc_record_end_grace(&held.r) == 0 && counts(1, 1) && lists(1, 1, 7, 0, 1), "the end of grace counts anew", 0);
+    put_counts(9, 8);
+    expect(sc_record_end_grace(&held.r) == 10033 && counts(9, 8), "a refused end counts nothing", 0);
+    sc_record_fresh(&held.r);
+    expect(counts(0, 0), "fresh counts", 0);
+    example(1, -1);
+    expect(sc_record_restart(&held.r) == 0, "a restart", 0);
+    put_counts(most, most);
+    size_t n = report(0, 1, 5);
+    static const uint64_t none[SC_PLACES];
+    totals("a report that wraps a count", n, 1, 24, 0, none, none, 0, 0);
+    expect(counts(0, most) && lists(0, 1, 7, 1, 1), "a count past 2^64 - 1", 0);
+}
+
 /* ---- random calls */
 static uint64_t seed = 1;
 
@@ -529,6 +573,26 @@ static void compare_added(unsigned long n, uint64_t file)
     same(sc_record_add_proxy(&held.r, file, id, len), plain_record_add_proxy(&plain, file, id, len), "add a proxy", n);
 }
 
+/* How often no file waited, some did of which none or a part was offered, and all of them were; and how often in grace. */
+static unsigned long idle_counts, open_counts, part_counts, all_counts, grace_counts;
+
+/* Both counts beside plain C's, and beside its files. */
+static void compare_counts(unsigned long n)
+{
+    static struct sc_record before;
+    uint64_t waiting, offered, marked = 0, ready = 0;
+    plain_record_counts(&plain, &waiting, &offered);
+    for (size_t k = 0; k < plain.count; k++) {
+        marked += plain.files[k].marked;
+        ready += plain.files[k].marked && plain.files[k].intent_count == 0;
+    }
+    expect(waiting == marked && offered == ready, "plain C's counts", n);
+    memcpy(&before, &held.r, sizeof before);
+    expect(counts(waiting, offered) && memcmp(&before, &held.r, sizeof before) == 0, "the counts", n);
+    *(waiting == 0 ? &idle_counts : offered == 0 ? &open_counts : offered < waiting ? &part_counts : &all_counts) += 1;
+    grace_counts += waiting != 0 && plain.grace;
+}
+
 static void count_blamed_proxies(void)
 {
     for (size_t k = 0; k < plain.count; k++)
@@ -574,11 +638,13 @@ static void random_calls(int old)
         }
         guards(n);
         compare_files(n);
+        compare_counts(n);
         count_blamed_proxies();
     }
     for (int i = 0; !old && i < ANSWERS; i++)
         expect(seen[i] != 0, "an answer that never came up", answers[i]);
     expect(astray != 0 && alike != 0 && otherwise != 0 && (without != 0 || old), "sources of the random calls: other from the other end, or not, or none", without);
+    expect(idle_counts != 0 && open_counts != 0 && part_counts != 0 && all_counts != 0 && grace_counts != 0, "counts of the random calls: none, open, a part or all", part_counts);
     expect((of_proxies != 0 && blamed_proxies != 0) == !old, "proxies of the random calls: with totals, or blamed", of_proxies);
     expect((flagged != 0 && full != 0 && counted != 0) == !old, "totals of the random calls: flags, 2^64 - 1 without one, or others", flagged);
 }
@@ -593,10 +659,12 @@ int main(int argc, char **argv)
     examples();
     edges();
     proxies();
+    counts_astray();
     random_calls(1);
     random_calls(0);
     printf("capi: %d random calls beside plain C, with %lu totals (%lu flagged, %lu of 2^64 - 1 that are not; %lu columns with a proxy's); %lu lists from no direction; of the files\n"
-           "    on lists %lu have another source from the other end, %lu the same, %lu none; the struct, totals at the edge, proxies and K10 to K13: %lu differences\n",
-           CALLS, counted + flagged + full, flagged, full, of_proxies, astray, otherwise, alike, without, differences);
+           "    on lists %lu have another source from the other end, %lu the same, %lu none; counts after each call, %lu with files that wait, %lu of these in grace;\n"
+           "    the struct, totals at the edge, proxies, counts that are wrong and K10 to K13: %lu differences\n",
+           CALLS, counted + flagged + full, flagged, full, of_proxies, astray, otherwise, alike, without, open_counts + part_counts + all_counts, grace_counts, differences);
     return differences != 0;
 }

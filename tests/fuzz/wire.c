@@ -51,7 +51,7 @@ static uint8_t *at_edge(uint8_t *region, size_t len, bool end)
 }
 
 /* A region for each thing that is lent. */
-enum { INPUT, REPLY, READ, WRITTEN, READ_OVER, WRITTEN_OVER, WANTED, STORAGES, STATES, COMMITS, DEVICE, REGIONS };
+enum { INPUT, REPLY, READ, WRITTEN, READ_OVER, WRITTEN_OVER, WANTED, STORAGES, STATES, COMMITS, DEVICE, WAITING, OFFERED, REGIONS };
 
 static uint8_t *regions[REGIONS];
 
@@ -266,8 +266,21 @@ static void check_list(const struct sc_record *r, const struct plain_record *p, 
     }
 }
 
+/* Both counts, lent at an edge. */
+static void check_counts(const struct sc_record *r, const struct plain_record *p)
+{
+    for (int end = 0; end < 2; end++) {
+        uint64_t *waiting = (uint64_t *)(void *)at_edge(regions[WAITING], 8, end), *offered = (uint64_t *)(void *)at_edge(regions[OFFERED], 8, end), wanted[2];
+        plain_record_counts(p, &wanted[0], &wanted[1]);
+        sc_record_counts(r, waiting, offered);
+        same("count of files that wait", *waiting, wanted[0]);
+        same("count of offered files", *offered, wanted[1]);
+    }
+}
+
 static void check_lists(const struct sc_record *r, const struct plain_record *p)
 {
+    check_counts(r, p);
     for (uint32_t direction = 0; direction <= UNASKED; direction++) {
         check_list(r, p, false, direction);
         check_list(r, p, true, direction);

@@ -32,10 +32,11 @@ struct plain_file {
     bool marked, proxy;
 };
 
-/* The files stand by rising number. */
+/* The files stand by rising number; so many of them are marked, and so many of those have no intent. */
 struct plain_record {
     struct plain_file files[PLAIN_FILES];
     size_t count;
+    uint64_t waiting, offered;
     bool grace, old;
 };
 
@@ -81,6 +82,7 @@ struct plain_epochs {
     uint32_t P##record_offered(const struct plain_record *, uint64_t *, size_t, uint8_t *, size_t, uint64_t *); \
     uint32_t P##record_resilver_by(const struct plain_record *, uint64_t *, size_t, uint8_t *, size_t, uint64_t *, uint32_t); \
     uint32_t P##record_offered_by(const struct plain_record *, uint64_t *, size_t, uint8_t *, size_t, uint64_t *, uint32_t); \
+    void P##record_counts(const struct plain_record *, uint64_t *, uint64_t *); \
     void P##epochs_fresh(struct plain_epochs *); \
     uint32_t P##epochs_join(struct plain_epochs *, uint32_t); \
     uint32_t P##epochs_leave(struct plain_epochs *, uint32_t); \

@@ -1,4 +1,4 @@
-/* The recovery record in plain C, working in place. First what the calls share, then the calls, LAYOUTRETURN and the two lists. */
+/* The recovery record in plain C, working in place. First what the calls share, then the calls, LAYOUTRETURN, the two lists and the counts. */
 #include "layoutreturn.h"
 #include "plain.h"
 
@@ -75,6 +75,8 @@ uint32_t FN(record_open)(struct plain_record *r, uint64_t file, uint64_t client)
         return 0;
     if (f->intent_count == PLAIN_INTENTS)
         return 28;
+    if (f->marked && f->intent_count == 0)
+        r->offered--;
     f->intents[f->intent_count++] = (struct plain_intent){client, false};
     return 0;
 }
@@ -103,6 +105,8 @@ uint32_t FN(record_close)(struct plain_record *r, uint64_t file, uint64_t client
         return 10025;
     memmove(i, i + 1, (size_t)(f->intents + f->intent_count - (i + 1)) * sizeof *i);
     f->intent_count--;
+    if (f->marked && f->intent_count == 0)
+        r->offered++;
     return 0;
 }
 
@@ -117,6 +121,8 @@ uint32_t FN(record_repaired)(struct plain_record *r, uint64_t file)
         return 10008;
     f->marked = false;
     f->blamed = 0;
+    r->waiting--;
+    r->offered--;
     return 0;
 }
 
@@ -168,6 +174,7 @@ uint32_t FN(record_end_grace)(struct plain_record *r)
 {
     if (!r->grace)
         return 10033;
+    r->waiting = r->offered = 0;
     for (struct plain_file *f = r->files; f < r->files + r->count; f++) {
         uint8_t kept = 0;
         for (size_t i = 0; i < f->intent_count; i++)
@@ -176,6 +183,8 @@ uint32_t FN(record_end_grace)(struct plain_record *r)
         if (kept < f->intent_count)
             f->marked = true;
         f->intent_count = kept;
+        r->waiting += f->marked;
+        r->offered += f->marked && kept == 0;
     }
     r->grace = false;
     return 0;
@@ -256,6 +265,13 @@ static uint32_t report(const uint8_t *s, size_t n, const struct plain_file *f, s
     return at == n ? 0 : BADXDR;
 }
 
+/* A file that is reported on has an intent: it waits, and is not offered. */
+static void mark(struct plain_record *r, struct plain_file *f)
+{
+    r->waiting += !f->marked;
+    f->marked = true;
+}
+
 /* Steps 1 to 7: the status, or PLAIN_HANDED_ON. What is heard counts where the status is 0. */
 static uint32_t returned(struct plain_record *r, uint64_t file, uint64_t client, const uint8_t *s, size_t n, struct heard *h)
 {
@@ -281,10 +297,10 @@ static uint32_t returned(struct plain_record *r, uint64_t file, uint64_t client,
     if (intent(f, client) == NULL)
         return 10034;
     if (h->unknown) {
-        f->marked = true;
+        mark(r, f);
     } else if (h->blamed != 0) {
         f->blamed |= h->blamed;
-        f->marked = true;
+        mark(r, f);
     }
     return 0;
 }
@@ -367,4 +383,11 @@ uint32_t FN(record_resilver)(const struct plain_record *r, uint64_t *files, size
 uint32_t FN(record_offered)(const struct plain_record *r, uint64_t *files, size_t files_len, uint8_t *sources, size_t sources_len, uint64_t *count)
 {
     return list(r, true, PLAIN_HIGHEST, files, files_len, sources, sources_len, count);
+}
+
+/* ---- the counts */
+void FN(record_counts)(const struct plain_record *r, uint64_t *waiting, uint64_t *offered)
+{
+    *waiting = r->waiting;
+    *offered = r->offered;
 }

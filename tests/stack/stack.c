@@ -12,7 +12,7 @@ static _Alignas(64) unsigned char stack[STACK];
 static ucontext_t here, there;
 static struct sc_record record, before;
 static uint8_t mirrors[64], proxy[16], request[52 + 4 + 60 + 4], bulk[16], reply[24], sources[FILES];
-static uint64_t files[FILES], count, read_bytes[SC_PLACES], written_bytes[SC_PLACES];
+static uint64_t files[FILES], count, waiting, waiting_offered, read_bytes[SC_PLACES], written_bytes[SC_PLACES];
 static uint32_t read_over, written_over;
 static volatile uint32_t answer;
 enum { EXTENTS = 1024, EXTENT = 48, RANGES = 1024, BLOCK = 512 };
@@ -46,6 +46,7 @@ static void resilver(void) { answer = sc_record_resilver(&record, files, FILES, 
 static void offered(void) { answer = sc_record_offered(&record, files, FILES, sources, FILES, &count); }
 static void resilver_by(void) { answer = sc_record_resilver_by(&record, files, FILES, sources, FILES, &count, SC_LOWEST); }
 static void offered_by(void) { answer = sc_record_offered_by(&record, files, FILES, sources, FILES, &count, SC_LOWEST); }
+static void counts(void) { sc_record_counts(&record, &waiting, &waiting_offered); answer = 0; }
 static void resilver_by_none(void) { answer = sc_record_resilver_by(&record, files, FILES, sources, FILES, &count, 3); }
 
 static void write_layout(void)
@@ -94,7 +95,7 @@ static const struct { const char *what; void (*call)(void); uint32_t answer; } c
     {"reclaim", reclaim, 0}, {"LAYOUTRETURN", reports, 0}, {"LAYOUTRETURN, handed on", handed_on, SC_HANDED_ON},
     {"end of grace", end_grace, 0}, {"resilver list", resilver, 0}, {"offered for copying", offered, 0},
     {"resilver list, lowest", resilver_by, 0}, {"offered, lowest", offered_by, 0}, {"resilver, no direction", resilver_by_none, SC_INVAL},
-    {"repaired", repaired, 0},
+    {"counts", counts, 0}, {"repaired", repaired, 0},
     {"fresh", fresh, 0}, {"fresh, old", fresh_old, 0},
     {"layout write", write_layout, 0}, {"layout check", check_layout, 0}, {"layout extent", extent, 0}, {"layout merge", merge, 0},
     {"layout commit", commit, 0},
