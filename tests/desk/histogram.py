@@ -38,6 +38,7 @@ ANSWERS = {
     "offered lowest": SOURCES,
     "offered highest": SOURCES,
     "directions": "differ agree",
+    "counts": "none open some all full",
     "layout": "extents refused:1 refused:2 refused:3 refused:4 refused:5 refused:6 refused:7",
     "rdma": "extents refused:1 refused:2 refused:3 refused:4 refused:5 refused:6 refused:7",
     "write": "0 refused:2 refused:3 refused:4 refused:5 refused:6 refused:7 refused:8",
@@ -69,6 +70,15 @@ def total_kinds(places):
     return [kind for kind, seen in kinds.items() if seen]
 
 
+def counts_kind(waiting, offered):
+    """What two counts say: no file needs repair; all that do are open; some or all of them are offered, or all 64 that a record has."""
+    if waiting == 0:
+        return "none"
+    if offered < waiting:
+        return "some" if offered else "open"
+    return "full" if offered == 64 else "all"
+
+
 def keys(command, words):
     """The answers that one output line shows."""
     if words[0] == b"?":
@@ -78,6 +88,8 @@ def keys(command, words):
     if command == "totals":
         kinds = total_kinds(words) + [f"proxy:{kind}" for kind in total_kinds(words[4:]) if kind != "zeros"]
         return [(command, kind) for kind in kinds]
+    if command == "counts":
+        return [(command, counts_kind(int(words[0]), int(words[1])))]
     if words[0] == b"refused":
         return [(command, "refused:" + words[1].decode())]
     sources = [("source:" + word.split(b":")[1].decode()) for word in words[2:]] if command.startswith(LISTS) else []

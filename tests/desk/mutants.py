@@ -3,7 +3,8 @@
 
     mutants.py [LABEL ..]     all edits, or those named; prints one line for each; exits 1 if one goes unseen
 
-An edit is four lines: `label`, `file` (of tests/second), `old` (text that stands once in that file, on one line) and `new`.
+An edit is `label`, `file` (of tests/second), `old` (text that stands once in that file, on one line) and `new`; where one change is not enough, more of
+`old` and `new`, as in a program that keeps something which this one does not.
 It takes a few minutes and is run by hand, after a change to the generator, the scripts or the second program.
 """
 import os
@@ -24,7 +25,10 @@ def edits():
     for block in blocks:
         lines = [line for line in block.split("\n") if not line.startswith("#")]
         if lines:
-            yield dict(line.split(": ", 1) for line in lines)
+            fields = [line.split(": ", 1) for line in lines]
+            edit = {name: text for name, text in fields if name in ("label", "file")}
+            edit["changes"] = list(zip([text for name, text in fields if name == "old"], [text for name, text in fields if name == "new"]))
+            yield edit
 
 
 def rustc(source, program):
@@ -54,7 +58,7 @@ def scripts(work):
         capture = os.path.join(DESK, "..", "captures", name + ".txt")
         subprocess.run([sys.executable, os.path.join(DESK, "captures.py"), name, capture, path, path + ".expected"], check=True)
         yield path
-    for name in ["marked", "incident", "lines", "directions", "proxies"]:
+    for name in ["marked", "incident", "lines", "directions", "proxies", "counts"]:
         yield os.path.join(DESK, name + ".txt")
 
 
@@ -66,10 +70,12 @@ def mutant(work, edit):
     path = os.path.join(source, edit["file"])
     with open(path) as file:
         text = file.read()
-    if text.count(edit["old"]) != 1:
-        sys.exit(f"mutants: {edit['label']}: the old text stands {text.count(edit['old'])} times in {edit['file']}")
+    for old, new in edit["changes"]:
+        if text.count(old) != 1:
+            sys.exit(f"mutants: {edit['label']}: the old text stands {text.count(old)} times in {edit['file']}: {old}")
+        text = text.replace(old, new)
     with open(path, "w") as file:
-        file.write(text.replace(edit["old"], edit["new"]))
+        file.write(text)
     rustc(os.path.join(source, "main.rs"), os.path.join(work, "mutant"))
     return os.path.join(work, "mutant")
 

@@ -113,6 +113,19 @@ uint32_t __wrap_sc_record_resilver_by(const struct sc_record *r, uint64_t *files
     return answer;
 }
 
+void __real_sc_record_counts(const struct sc_record *, uint64_t *, uint64_t *);
+void __wrap_sc_record_counts(const struct sc_record *, uint64_t *, uint64_t *);
+void __wrap_sc_record_counts(const struct sc_record *r, uint64_t *waiting, uint64_t *offered)
+{
+    __real_sc_record_counts(r, waiting, offered);
+    scribble("counts-record", r);
+    scribble("counts-record-after", r + 1);
+    scribble("counts-waiting-after", waiting + 1);
+    scribble("counts-waiting-before", (uint8_t *)waiting - 1);
+    scribble("counts-offered-after", offered + 1);
+    scribble("counts-offered-before", (uint8_t *)offered - 1);
+}
+
 uint32_t __real_sc_layout_check(const uint8_t *, size_t, uint64_t *);
 uint32_t __wrap_sc_layout_check(const uint8_t *, size_t, uint64_t *);
 uint32_t __wrap_sc_layout_check(const uint8_t *body, size_t len, uint64_t *place)

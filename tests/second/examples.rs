@@ -213,6 +213,27 @@ fn a_proxy_in_a_report() {
     assert_eq!(and(&[&counted("00000000", &records), "totals"]), "1:2 0:0 0:0 0:0 18446744073709551615!:7");
 }
 
+/// Ticket 8: the lengths of the two lists, in grace and out of it.
+#[test]
+fn counts_of_the_lists() {
+    let lost = [&registered(), "open 7 1", "restart", "end"];
+    let and = |more: &[&str]| last(&[&lost, more, &["counts"]].concat());
+    assert_eq!(last(&["counts"]), "0 0");
+    assert_eq!(last(&[&registered(), "open 7 1", "restart", "counts"]), "0 0");
+    assert_eq!(and(&[]), "1 1");
+    assert_eq!(and(&["open 7 2"]), "1 0");
+    assert_eq!(and(&["open 7 2", "open 7 3", "close 7 2"]), "1 0");
+    assert_eq!(and(&["open 7 2", "open 7 3", "close 7 2", "close 7 3"]), "1 1");
+    assert_eq!(and(&["restart"]), "1 1");
+    assert_eq!(and(&["forget 7"]), "1 1");
+    assert_eq!(and(&["repaired 7"]), "0 0");
+    assert_eq!(and(&["repaired 7", "forget 7"]), "0 0");
+    let reported = [&registered(), "open 7 1", "restart", &report(A, 5), &report(C, 5)];
+    assert_eq!(last(&[&reported[..], &["counts"]].concat()), "1 0");
+    assert_eq!(last(&[&reported[..], &["end", "counts"]].concat()), "1 1");
+    assert_eq!(last(&["counts 1"]), "? 1");
+}
+
 /// Ticket 2: one client's word does not stand for another's, and it keeps its own intent.
 #[test]
 fn one_of_two_clients_comes_back() {

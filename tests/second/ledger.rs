@@ -242,6 +242,11 @@ impl Ledger {
         self.marked_rows(direction, |row| !row.is_open())
     }
 
+    /// Ticket 8: the lengths of the two lists, which are counted each time.
+    pub fn counts(&self) -> (usize, usize) {
+        (self.resilver(Direction::Lowest).len(), self.offered(Direction::Lowest).len())
+    }
+
     fn marked_rows(&self, direction: Direction, wanted: impl Fn(&Row) -> bool) -> Vec<(u64, u8)> {
         let rows = self.rows.iter().filter(|(_, row)| row.marked && wanted(row));
         rows.map(|(file, row)| (*file, row.source(direction))).collect()

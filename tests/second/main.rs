@@ -68,6 +68,7 @@ impl Desk {
             ("totals", []) => Some(summed(&self.totals)),
             ("resilver", [f, s, asked @ ..]) => Some(listed(self.ledger.resilver(direction(asked)?), room(f)?, room(s)?)),
             ("offered", [f, s, asked @ ..]) => Some(listed(self.ledger.offered(direction(asked)?), room(f)?, room(s)?)),
+            ("counts", []) => Some(counted(self.ledger.counts())),
             ("layout", [b]) => Some(laid_out(Kind::Scsi, &bytes(b, MAX_BODY)?)),
             ("rdma", [b]) => Some(laid_out(Kind::Rdma, &bytes(b, MAX_BODY)?)),
             ("write", [r, e]) => Some(written(Kind::Scsi, room(r)?, &list(Kind::Scsi, &bytes(e, MAX_LIST)?)?)),
@@ -147,6 +148,11 @@ fn listed(list: Vec<(u64, u8)>, files: usize, sources: usize) -> String {
     }
     let entries: String = list.iter().map(|(file, source)| format!(" {file}:{source}")).collect();
     format!("0 {}{entries}", list.len())
+}
+
+/// The line for the two counts.
+fn counted((waiting, offered): (usize, usize)) -> String {
+    format!("{waiting} {offered}")
 }
 
 /// The line for a layout body of this kind.

@@ -13,6 +13,8 @@ pub struct Campaigns<W: Write> {
     r: Random,
     out: W,
     calls: u64,
+    /// Whether a console asks for the counts after each call.
+    polled: bool,
 }
 
 /// The numbers that one campaign's calls draw from.
@@ -28,7 +30,7 @@ type Done = io::Result<()>;
 const ONCE_MORE: &str = "# once more";
 
 /// How often each call of a walk is made.
-const WALK: [(u64, &str); 14] = [
+const WALK: [(u64, &str); 15] = [
     (9, "register"),
     (16, "open"),
     (11, "reclaim"),
@@ -42,12 +44,13 @@ const WALK: [(u64, &str); 14] = [
     (20, "layoutreturn"),
     (7, "resilver"),
     (6, "offered"),
+    (8, "counts"),
     (1, "grace"),
 ];
 
 impl<W: Write> Campaigns<W> {
     pub fn new(seed: u64, out: W) -> Campaigns<W> {
-        Campaigns { r: Random::new(seed), out, calls: 0 }
+        Campaigns { r: Random::new(seed), out, calls: 0, polled: false }
     }
 
     fn raw(&mut self, line: &[u8]) -> Done {
@@ -56,20 +59,24 @@ impl<W: Write> Campaigns<W> {
         self.out.write_all(b"\n")
     }
 
-    /// Writes a call, now and then in other dress, or with a spoilt one before it that must change nothing.
+    /// Writes a call, now and then in other dress, or with a spoilt one before it that must change nothing; and what a console asks for after it.
     fn call(&mut self, line: &str) -> Done {
         match self.r.below(200) {
             0 => {
                 let dressed = dressed(&mut self.r, line);
-                self.raw(&dressed)
+                self.raw(&dressed)?;
             }
             1 => {
                 let spoilt = spoilt(&mut self.r, line);
                 self.raw(&spoilt)?;
-                self.raw(line.as_bytes())
+                self.raw(line.as_bytes())?;
             }
-            _ => self.raw(line.as_bytes()),
+            _ => self.raw(line.as_bytes())?,
         }
+        if self.polled {
+            self.raw(b"counts")?;
+        }
+        Ok(())
     }
 
     // ---- Calls on the record ----
@@ -447,6 +454,22 @@ impl<W: Write> Campaigns<W> {
         Ok(())
     }
 
+    /// Another campaign on the record, with a console that asks for the counts after each call (Ticket 8).
+    fn console(&mut self) -> Done {
+        self.polled = true;
+        match self.r.below(7) {
+            0 => self.walk()?,
+            1 => self.intents()?,
+            2 => self.table()?,
+            3 => self.all_lost()?,
+            4 => self.reports()?,
+            5 => self.returning()?,
+            _ => self.proxies()?,
+        }
+        self.polled = false;
+        Ok(())
+    }
+
     /// A history for Ticket 14: it ends with the end of a grace period and the resilver list, and the comment ONCE_MORE stands where one more restart
     /// may go, anywhere in that period.
     fn restartable(&mut self) -> Done {
@@ -579,6 +602,7 @@ impl<W: Write> Campaigns<W> {
                 "fresh old".to_string(),
                 "epochs".to_string(),
                 "totals".to_string(),
+                "counts".to_string(),
                 "request -".to_string(),
                 "resilver 2 2".to_string(),
                 "resilver 2 2 lowest".to_string(),
@@ -615,7 +639,7 @@ impl<W: Write> Campaigns<W> {
     }
 
     pub fn run(mut self, calls: u64) -> Done {
-        const KINDS: [(u64, u32); 14] = [(30, 0), (12, 1), (10, 2), (6, 3), (50, 4), (10, 5), (18, 6), (10, 7), (24, 8), (60, 9), (12, 10), (18, 11), (30, 12), (40, 13)];
+        const KINDS: [(u64, u32); 15] = [(30, 0), (12, 1), (10, 2), (6, 3), (50, 4), (10, 5), (18, 6), (10, 7), (24, 8), (60, 9), (12, 10), (18, 11), (30, 12), (40, 13), (40, 14)];
         self.limits()?;
         while self.calls < calls {
             match self.r.weighted(&KINDS) {
@@ -632,7 +656,8 @@ impl<W: Write> Campaigns<W> {
                 10 => self.requests()?,
                 11 => self.merges()?,
                 12 => self.commits()?,
-                _ => self.proxies()?,
+                13 => self.proxies()?,
+                _ => self.console()?,
             }
         }
         self.out.flush()
