@@ -6,6 +6,6 @@ ghost use Rattle.recovery.specs.Counts.{counts, countsOf};
 pub(crate) fn hand_out(head: Head, waiting: &mut u64, offered: &mut u64)
     ensures { λ _. ⌜ counts (now (waiting .exit)) (now (offered .exit)) ≡ countsOf head ⌝ }
 {
-    *waiting = head.waiting;
-    *offered = head.offered;
+    *waiting = head.waiting as u64;
+    *offered = head.offered as u64;
 }

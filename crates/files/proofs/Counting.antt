@@ -88,15 +88,15 @@ tallied-snoc h [] x = refl
 tallied-snoc h (y ∷ ys) x = tallied-snoc (countedHead h y) ys x
 
 -- one count, of n and those of a list; one of those more
-on-list : (b : Bool) (n m : ℕ) (x : File) (xs : List File) → n + suc m < 2 ^ 64 → recounted false b n + length xs ≡ n + length (cond b (x ∷ xs) xs)
+on-list : (b : Bool) (n m : ℕ) (x : File) (xs : List File) → n + suc m < 2 ^ 8 → recounted false b n + length xs ≡ n + length (cond b (x ∷ xs) xs)
 on-list true n m x xs k = omega (arith, k)
 on-list false n m x xs k = refl
 
-few-more : (b : Bool) (n m : ℕ) → n + suc m < 2 ^ 64 → recounted false b n + m < 2 ^ 64
+few-more : (b : Bool) (n m : ℕ) → n + suc m < 2 ^ 8 → recounted false b n + m < 2 ^ 8
 few-more true n m k = omega (arith, k)
 few-more false n m k = omega (arith, k)
 
-pub tallied-lengths : (h : Head) (fs : List File) → h .waiting + length fs < 2 ^ 64 → h .offered + length fs < 2 ^ 64
+pub tallied-lengths : (h : Head) (fs : List File) → h .waiting + length fs < 2 ^ 8 → h .offered + length fs < 2 ^ 8
     → tallied h fs ≡ withCounts (h .waiting + length (chosen isListed fs)) (h .offered + length (chosen isReady fs)) h
 unfolding tallied chosen
 tallied-lengths h [] k j =

@@ -1,4 +1,4 @@
--- MODEL. The two counts beside a record's files (02, Ticket 8), as calls keep them. A count is kept modulo 2^64, so that no record value traps; crate ledger
+-- MODEL. The two counts beside a record's files (02, Ticket 8), as calls keep them. A count is kept modulo 2^8, so that no record value traps; crate ledger
 -- shows that after any history both are the lengths of the two lists. In this order: what a file adds to them; a count; both, in a head.
 use mathlib.Core.Bool.{Bool, false, not, cond}
 use Prim.Native.Nat.{ℕ, _+_, _%_, _^_}
@@ -11,7 +11,7 @@ standing l b = record { listed = l; offered = cond l (not b) false }
 
 -- a count once a file that was counted if `was` is counted if `is`
 abbrev pub recounted : Bool → Bool → ℕ → ℕ
-recounted was is n = cond was (cond is n ((n + 18446744073709551615) % 2 ^ 64)) (cond is ((n + 1) % 2 ^ 64) n)
+recounted was is n = cond was (cond is n ((n + 255) % 2 ^ 8)) (cond is ((n + 1) % 2 ^ 8) n)
 
 abbrev pub withCounts : ℕ → ℕ → Head → Head
 withCounts w o h = record { waiting = w; offered = o; grace = h .grace; old = h .old }

@@ -23,18 +23,18 @@ impl Standing {
     }
 }
 
-// A count once a file that was counted if `was` is counted if `is`: modulo 2^64, so that no record value traps.
-fn recount(was: bool, is: bool, n: u64) -> u64
+// A count once a file that was counted if `was` is counted if `is`: modulo 2^8, so that no record value traps.
+fn recount(was: bool, is: bool, n: u8) -> u8
     ensures { λ r. ⌜ r ≡ recounted was is n ⌝ }
 {
     if was {
         if is {
             return n;
         }
-        return std::num::wrapping_add_u64(n, u64::MAX);
+        return std::num::wrapping_add_u8(n, u8::MAX);
     }
     if is {
-        return std::num::wrapping_add_u64(n, 1);
+        return std::num::wrapping_add_u8(n, 1);
     }
     n
 }

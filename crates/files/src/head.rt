@@ -1,5 +1,5 @@
 // What stands beside a record's files: how many of them are on either list (02, Ticket 8), whether it is in grace, and its edition (02, Ticket 1). A call on one
-// file is told of it.
+// file is told of it. A head has no padding, which the compiler would copy with it.
 ghost use mathlib.Core.Path.{_≡_};
 ghost use Rattle.files.specs.Head.{isOld, freshHead, editionOf};
 
@@ -22,8 +22,8 @@ impl Edition {
 
 #[repr(C)]
 pub struct Head {
-    pub waiting: u64,
-    pub offered: u64,
+    pub waiting: u8,
+    pub offered: u8,
     pub grace: bool,
     pub old: bool,
 }

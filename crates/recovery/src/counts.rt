@@ -16,8 +16,8 @@ impl Record {
     {
         let head = self.head;
         Counts {
-            waiting: head.waiting,
-            offered: head.offered,
+            waiting: head.waiting as u64,
+            offered: head.offered as u64,
         }
     }
 }

@@ -6,17 +6,17 @@ use Rattle.files.proofs.counts.recount.Tie as tie
 returns : tie.Need-returns
 returns c = search needs
 
-wrapping-add-u64-requires : tie.Need-wrapping-add-u64-requires
-wrapping-add-u64-requires c κs = search needs
+wrapping-add-u8-requires : tie.Need-wrapping-add-u8-requires
+wrapping-add-u8-requires c κs = search needs
 
 returns-2 : tie.Need-returns-2
-returns-2 c = rw (c .before .before .if1 .taken, c .before .if2 .left) (c .wrapping-add-u64 .ensures)
+returns-2 c = rw (c .before .before .if1 .taken, c .before .if2 .left) (c .wrapping-add-u8 .ensures)
 
-wrapping-add-u64-requires-2 : tie.Need-wrapping-add-u64-requires-2
-wrapping-add-u64-requires-2 c κs = search needs
+wrapping-add-u8-requires-2 : tie.Need-wrapping-add-u8-requires-2
+wrapping-add-u8-requires-2 c κs = search needs
 
 returns-3 : tie.Need-returns-3
-returns-3 c = rw (c .before .before .if1 .left, c .before .if3 .taken) (c .wrapping-add-u642 .ensures)
+returns-3 c = rw (c .before .before .if1 .left, c .before .if3 .taken) (c .wrapping-add-u82 .ensures)
 
 returns-4 : tie.Need-returns-4
 returns-4 c = search needs
@@ -26,8 +26,8 @@ recount-spec =
     tie.close
     (tie.spec
     returns
-    wrapping-add-u64-requires
+    wrapping-add-u8-requires
     returns-2
-    wrapping-add-u64-requires-2
+    wrapping-add-u8-requires-2
     returns-3
     returns-4)
