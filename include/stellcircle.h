@@ -188,10 +188,10 @@ uint32_t sc_layoutreturn_reply(uint8_t *reply, size_t reply_len, uint32_t status
  * A call changes the record where it lies, and leaves it as it was where it answers a refusal. Calls on two records may run at once.
  */
 struct sc_record {
-    uint64_t opaque[2115];
+    uint64_t opaque[2113];
 };
 
-SC_ASSERT(sizeof(struct sc_record) == 16920, "struct sc_record is as the library has it");
+SC_ASSERT(sizeof(struct sc_record) == 16904, "struct sc_record is as the library has it");
 
 #define SC_PLACES 5 /* the places of a file; a later version may have more */
 #define SC_PROXY 4  /* the place of its proxy */

@@ -53,7 +53,7 @@ static void guards(unsigned long n)
 
 /* ---- what a record holds: 64 files, then the two counts, grace and the edition. A file: its number; its places, each of the two halves of a device's id and whether it
  * is there, is blamed and is a proxy; eight intents of a client and two flags; whether there is such a file, and its mark. */
-enum { MIRRORS = 8, MIRROR_SIZE = 24, INTENTS = MIRRORS + SC_PLACES * MIRROR_SIZE, FLAGS = INTENTS + 8 * 16, FILE_SIZE = FLAGS + 8, HEAD = 64 * FILE_SIZE, GRACE = HEAD + 16, OLD };
+enum { MIRRORS = 8, MIRROR_SIZE = 24, INTENTS = MIRRORS + SC_PLACES * MIRROR_SIZE, FLAGS = INTENTS + 8 * 16, FILE_SIZE = FLAGS + 8, HEAD = 64 * FILE_SIZE, GRACE = HEAD + 2, OLD };
 
 /* The id of a device as the record holds it: two numbers. */
 static int holds(const uint8_t *mirror, const uint8_t *id)
@@ -111,7 +111,7 @@ static void layout(void)
     sc_record_fresh_old(&held.r);
     expect(two[GRACE] == 0 && two[OLD] == 1, "the old edition", 0);
     expect(sc_record_restart(&held.r) == 0 && two[GRACE] == 1, "grace after a restart", 0);
-    expect(_Alignof(struct sc_record) == _Alignof(uint64_t) && sizeof(struct sc_record) == HEAD + 24, "the struct", 0);
+    expect(_Alignof(struct sc_record) == _Alignof(uint64_t) && sizeof(struct sc_record) == HEAD + 8, "the struct", 0);
 }
 
 /* ---- requests */
@@ -389,16 +389,16 @@ static int counts(uint64_t waiting, uint64_t offered)
 }
 
 /* Puts both counts into the record, as no history would. */
-static void put_counts(uint64_t waiting, uint64_t offered)
+static void put_counts(uint8_t waiting, uint8_t offered)
 {
-    memcpy((uint8_t *)&held.r + HEAD, &waiting, 8);
-    memcpy((uint8_t *)&held.r + HEAD + 8, &offered, 8);
+    ((uint8_t *)&held.r)[HEAD] = waiting;
+    ((uint8_t *)&held.r)[HEAD + 1] = offered;
 }
 
-/* The counts of a record that no history leads to: kept modulo 2^64, asked by no call, and counted anew as grace ends. */
+/* The counts of a record that no history leads to: kept modulo 2^8, asked by no call, and counted anew as grace ends. */
 static void counts_astray(void)
 {
-    static const uint64_t most = UINT64_MAX;
+    static const uint8_t most = UINT8_MAX;
     example(0, -1);
     expect(counts(1, 1), "the counts of a lost file", 0);
     put_counts(0, 0);
@@ -406,9 +406,9 @@ static void counts_astray(void)
     expect(sc_record_close(&held.r, 7, 1) == 0 && counts(0, 0) && sc_record_repaired(&held.r, 7) == 0 && counts(most, most), "both counts below 0", 0);
     example(0, -1);
     put_counts(most, most);
-    expect(sc_record_open(&held.r, 7, 1) == 0 && counts(most, most - 1) && sc_record_close(&held.r, 7, 1) == 0 && counts(most, most), "the most that counts hold", 0);
+    expect(sc_record_open(&held.r, 7, 1) == 0 && counts(most, most - 1U) && sc_record_close(&held.r, 7, 1) == 0 && counts(most, most), "the most that counts hold", 0);
     put_counts(5, most);
-    expect(sc_record_open(&held.r, 7, 2) == 0 && sc_record_restart(&held.r) == 0 && counts(5, most - 1), "a restart counts nothing", 0);
+    expect(sc_record_open(&held.r, 7, 2) == 0 && sc_record_restart(&held.r) == 0 && counts(5, most - 1U), "a restart counts nothing", 0);
     expect(sc_record_end_grace(&held.r) == 0 && counts(1, 1) && lists(1, 1, 7, 0, 1), "the end of grace counts anew", 0);
     put_counts(9, 8);
     expect(sc_record_end_grace(&held.r) == 10033 && counts(9, 8), "a refused end counts nothing", 0);
@@ -420,7 +420,7 @@ static void counts_astray(void)
     size_t n = report(0, 1, 5);
     static const uint64_t none[SC_PLACES];
     totals("a report that wraps a count", n, 1, 24, 0, none, none, 0, 0);
-    expect(counts(0, most) && lists(0, 1, 7, 1, 1), "a count past 2^64 - 1", 0);
+    expect(counts(0, most) && lists(0, 1, 7, 1, 1), "a count past 255", 0);
 }
 
 /* ---- random calls */
