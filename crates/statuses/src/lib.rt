@@ -1,13 +1,13 @@
 // Statuses by NFS's own names (RFC 8881, 15.1), and one number that is no status of NFS; 0 stays a number. Definitions in specs/ keep paper 01's
 // numbers, so that a wrong constant is refused where it is used; specs/Rules.antt has what a table of refusals is.
 
-// The node is no member of the cluster.
+// The node is no member of the cluster, or the file has no proxy.
 pub const NOENT: u32 = 2;
 
-// The file is registered, or the node a member, already.
+// The file is registered, has a proxy, or the node is a member, already.
 pub const EXIST: u32 = 17;
 
-// A node above 31, a bad mirror list, or nothing to repair or to finish.
+// A node above 31, a bad mirror list or proxy, or nothing to repair or to finish.
 pub const INVAL: u32 = 22;
 
 // No room: in a table, in a buffer that is lent, or for another epoch.
