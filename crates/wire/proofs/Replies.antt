@@ -1,27 +1,35 @@
 -- What the stores of a reply leave in the lent buffer.
 use Prim.Native.Nat.{ℕ, _+_, _≤_, _<_}
 use mathlib.Core.Path.{_≡_, refl, sym, ap, _∙_}
-use mathlib.Core.List.{List, [], _∷_, _++_, append-nil}
+use mathlib.Core.List.{List, [], _∷_, _++_, append-nil, append-assoc}
 use mathlib.Core.Bool.{true, false, cond}
 use borrow.Author.Tests.{lt-ltb, le-ltb, eq-eqb, ne-eqb}
-use lib.ListN.{length, replicate}
+use lib.ListN.{length}
 use lib.Seq.{sets}
 use lib.Dec.{ltb, eqb}
 use Rattle.xdr.specs.Be.{beBytes}
 use Rattle.xdr.proofs.Be.{length-bytes, sets-append}
-use Rattle.wire.specs.Reply.{replyBytes, replyIn, replyAnswer}
+use Rattle.xdr.specs.Reader.{zeros}
+use Rattle.wire.specs.Stateid.{noStateid, stateidBytes}
+use Rattle.wire.specs.Reply.{replyWith, replyInWith, replyAnswer}
+use Rattle.wire.specs.declared.stateid.Stateid.{Stateid}
 
-sixteen : replicate 16 0 ≡ beBytes 8 0 ++ beBytes 8 0
-unfolding beBytes
-sixteen = refl
+-- sixteen zero bytes
+pub none-bytes : stateidBytes noStateid ≡ zeros 16
+unfolding beBytes stateidBytes
+none-bytes = refl
 
 -- two numbers stored one after the other
 next-store : (w x : ℕ) (d : List ℕ) (at : ℕ) (t : List ℕ) → sets d at (beBytes w x ++ t) ≡ sets (sets d at (beBytes w x)) (at + w) t
 next-store w x d at t = rw (sets-append, length-bytes)
 
-module _ (d : List ℕ) (status : ℕ) where
-  pub too-short : length d < 24 → (28 ≡ replyAnswer status d) × (d ≡ replyIn status d)
-  unfolding replyAnswer replyIn
+pub stateid-stored : (d : List ℕ) (t : Stateid) → sets (sets (sets d 8 (beBytes 4 (t .seqid))) 12 (beBytes 8 (t .high))) 20 (beBytes 4 (t .low)) ≡ sets d 8 (stateidBytes t)
+unfolding stateidBytes
+stateid-stored d t = rw (append-assoc, next-store 4 (t .seqid), next-store 8 (t .high))
+
+module _ (d : List ℕ) (status : ℕ) (t : List ℕ) where
+  pub too-short : length d < 24 → (28 ≡ replyAnswer status d) × (d ≡ replyInWith status t d)
+  unfolding replyAnswer replyInWith
   too-short h = (rw (lt-ltb (length d) 24 h), rw (lt-ltb (length d) 24 h))
 
   module _ (h : 24 ≤ length d) where
@@ -29,11 +37,10 @@ module _ (d : List ℕ) (status : ℕ) where
     unfolding replyAnswer
     answers = rw (le-ltb (length d) 24 h)
 
-    pub refuses : (status ≡ 0 → ⊥) → sets d 0 (beBytes 4 status) ≡ replyIn status d
-    unfolding replyIn replyBytes
+    pub refuses : (status ≡ 0 → ⊥) → sets d 0 (beBytes 4 status) ≡ replyInWith status t d
+    unfolding replyInWith replyWith
     refuses z = rw (le-ltb (length d) 24 h, ne-eqb status 0 z, append-nil)
 
-    pub accepts : status ≡ 0 → sets (sets (sets (sets d 0 (beBytes 4 status)) 4 (beBytes 4 1)) 8 (beBytes 8 0)) 16 (beBytes 8 0) ≡ replyIn status d
-    unfolding replyIn replyBytes
-    accepts z =
-        rw (le-ltb (length d) 24 h, eq-eqb status 0 z, sixteen, next-store 4 status d 0, next-store 4 1, next-store 8 0)
+    pub accepts : status ≡ 0 → sets (sets (sets d 0 (beBytes 4 status)) 4 (beBytes 4 1)) 8 t ≡ replyInWith status t d
+    unfolding replyInWith replyWith
+    accepts z = rw (le-ltb (length d) 24 h, eq-eqb status 0 z, next-store 4 status d 0, next-store 4 1)

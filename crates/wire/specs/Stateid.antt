@@ -2,19 +2,25 @@
 --     seqid, other, ones, current     the two fields; bytes that are all ones; the string of the current stateid
 --     stateidKind            which kind a stateid is: the first of the fixed strings that its bytes, or those of its `other`, are
 --     kindNumber             the number of a kind in C
+--     stateidOf, stateidBytes         the two fields as numbers (the `other` as its first 8 and last 4 bytes), from sixteen bytes and back
+--     stateidIn                       the stateid of a request, which lies from byte 32 on; zeros where it is not all there
+--     newStateid, badOther            the first stateid of an `other` that a caller gives; one that is not 12 bytes, all zeros or all ones (Rules 4.12)
 --     Is, OneKind            what the RFC says of each kind, by seqid and `other`; the claim that each stateid is of exactly one kind, the one that
 --                            `stateidKind` names. proofs/Stateids.antt proves it
 use Prim.Native.Nat.{ℕ, _-_, _^_, _<_}
+use mathlib.Core.Bool.{Bool, true, not, cond}
 use mathlib.Core.Path.{_≡_}
 use mathlib.Core.Logic.{_⊎_, _↔_}
-use mathlib.Core.List.{[], _∷_}
+use mathlib.Core.List.{[], _∷_, _++_}
 use lib.ListN.{length, getD, drop, replicate}
+use lib.Dec.{eqb, ltb}
 use Rattle.statuses.specs.Names.{Bytes}
 use Rattle.statuses.specs.Rules.{_⇒_, firstOf}
-use Rattle.xdr.specs.Be.{beNat}
+use Rattle.xdr.specs.Be.{beNat, beBytes}
 use Rattle.xdr.specs.Reader.{sameBytes, zeros}
 use Rattle.wire.specs.declared.request.Kind.{Kind}
 use Rattle.wire.specs.declared.request.Kind.the-variants.{Anonymous, Bypass, Current, Invalid, Ordinary}
+use Rattle.wire.specs.declared.stateid.Stateid as declared
 
 abbrev pub seqid : Bytes → ℕ
 seqid s = beNat 4 s
@@ -46,6 +52,25 @@ kindNumber Anonymous = 3
 kindNumber Bypass = 4
 kindNumber Current = 5
 kindNumber Invalid = 6
+
+-- ---- as numbers
+abbrev pub noStateid : declared.Stateid
+noStateid = record { high = 0; low = 0; seqid = 0 }
+
+unfoldable pub stateidOf : Bytes → declared.Stateid
+stateidOf s = record { high = beNat 8 (drop 4 s); low = beNat 4 (drop 12 s); seqid = beNat 4 s }
+
+unfoldable pub stateidBytes : declared.Stateid → Bytes
+stateidBytes t = beBytes 4 (t .seqid) ++ beBytes 8 (t .high) ++ beBytes 4 (t .low)
+
+unfoldable pub stateidIn : Bytes → declared.Stateid
+stateidIn s = cond (ltb (length s) 48) noStateid (stateidOf (drop 32 s))
+
+unfoldable pub newStateid : Bytes → declared.Stateid
+newStateid s = cond (eqb (length s) 12) (record { high = beNat 8 s; low = beNat 4 (drop 8 s); seqid = 1 }) noStateid
+
+unfoldable pub badOther : Bytes → Bool
+badOther s = cond (not (eqb (length s) 12)) true (cond (sameBytes s (zeros 12)) true (sameBytes s (ones 12)))
 
 -- ---- the RFC's words: both fields all zeros; both all ones (read bypass); `other` all zeros with seqid 1; `other` all zeros or all ones with any other
 -- seqid; the rest

@@ -2,8 +2,12 @@
 //     request    the arguments of a LAYOUTRETURN: steps 1 to 3
 //     body       the body, as the part of the request where it lies
 //     report     for C: the check and the walk of the error report that the body is
+//     stateid    the stateid of a request, and that of an `other` that a caller gives
+//     seqid      older and newer seqids, and the next one
 //     reply      the reply
 pub mod body;
 pub mod reply;
 pub mod report;
 pub mod request;
+pub mod seqid;
+pub mod stateid;

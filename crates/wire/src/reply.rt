@@ -1,10 +1,26 @@
-// The reply of a LAYOUTRETURN (paper 01, "LAYOUTRETURN"): the status in 4 bytes; for 0 then boolean 1 and a stateid of sixteen zero bytes.
+// The reply of a LAYOUTRETURN (paper 01, "LAYOUTRETURN"; 02, Ticket 13): the status in 4 bytes; for 0 then boolean 1 and a stateid, which is sixteen zero
+// bytes unless one was raised.
+use crate::stateid::Stateid;
 ghost use mathlib.Core.Path.{_≡_};
-ghost use Rattle.wire.specs.Reply.{replyIn, replyAnswer};
+ghost use Prim.Native.Nat.{_≤_};
+ghost use lib.ListN.{length};
+ghost use lib.Seq.{sets};
+ghost use Rattle.wire.specs.Stateid.{stateidBytes};
+ghost use Rattle.wire.specs.Reply.{replyIn, replyInWith, replyAnswer};
 
-// Writes the reply of `status` at the start of `reply`, and answers `status`. A buffer under 24 bytes is left as it is, and gets 28.
-pub fn write(reply: &mut [u8], status: u32) -> u32
-    ensures { λ r. ⌜ (r ≡ replyAnswer status (now (reply .entry))) × (now (reply .exit) ≡ replyIn status (now (reply .entry))) ⌝ }
+// Stores a stateid at byte 8, where a reply has it.
+fn put_stateid(reply: &mut [u8], t: Stateid)
+    requires { ⌜ 24 ≤ length (now reply) ⌝ }
+    ensures { λ _. ⌜ now (reply .exit) ≡ sets (now (reply .entry)) 8 (stateidBytes t) ⌝ }
+{
+    xdr::put32(reply, 8, t.seqid);
+    xdr::put64(reply, 12, t.high);
+    xdr::put32(reply, 20, t.low);
+}
+
+// Writes the reply of `status` and a stateid at the start of `reply`, and answers `status`. A buffer under 24 bytes is left as it is, and gets 28.
+pub fn write_with(reply: &mut [u8], status: u32, t: Stateid) -> u32
+    ensures { λ r. ⌜ (r ≡ replyAnswer status (now (reply .entry))) × (now (reply .exit) ≡ replyInWith status (stateidBytes t) (now (reply .entry))) ⌝ }
 {
     if reply.len() < 24 {
         return statuses::NOSPC;
@@ -14,9 +30,16 @@ pub fn write(reply: &mut [u8], status: u32) -> u32
         return status;
     }
     xdr::put32(reply, 4, 1);
-    xdr::put64(reply, 8, 0);
-    xdr::put64(reply, 16, 0);
+    put_stateid(reply, t);
     status
+}
+
+// The same with sixteen zero bytes.
+pub fn write(reply: &mut [u8], status: u32) -> u32
+    ensures { λ r. ⌜ (r ≡ replyAnswer status (now (reply .entry))) × (now (reply .exit) ≡ replyIn status (now (reply .entry))) ⌝ }
+{
+    let t = Stateid::none();
+    write_with(reply, status, t)
 }
 
 // For C: `write`.
