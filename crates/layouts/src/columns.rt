@@ -1,6 +1,7 @@
 // Writing a layout body of either kind from a list of extents that is lent as columns: 16 bytes a device id, and a number each for offset, handle (in an
 // RDMA list only), length, storage offset and state. Paper 01, "Layout bodies", and Ticket 5: uneven columns get 1 before all else; then rules 2 to 7, then 8.
 // In this order: rule 1; rules 3 to 7; the check; the stores of one extent, and of all; the writer.
+// Rule 1 returns a flag as soon as it is known: with `&&` merging takes more instructions.
 use crate::fields;
 use crate::kinds::Kind;
 use extents::Verdict;
