@@ -4,7 +4,7 @@
 --     kindNumber             the number of a kind in C
 --     stateidOf, stateidBytes         the two fields as numbers (the `other` as its first 8 and last 4 bytes), from sixteen bytes and back
 --     stateidIn                       the stateid of a request, which lies from byte 32 on; zeros where it is not all there
---     newStateid, badOther            the first stateid of an `other` that a caller gives; one that is not 12 bytes, all zeros or all ones (Rules 4.12)
+--     newStateid, badOther            the first stateid of an `other` that a caller gives; one that is not 12 bytes, all zeros or all ones (02, Ticket 13)
 --     Is, OneKind            what the RFC says of each kind, by seqid and `other`; the claim that each stateid is of exactly one kind, the one that
 --                            `stateidKind` names. proofs/Stateids.antt proves it
 use Prim.Native.Nat.{ℕ, _-_, _^_, _<_}
