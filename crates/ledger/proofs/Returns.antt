@@ -12,7 +12,7 @@ use Rattle.statuses.specs.Names.{Bytes, Client, FileNumber}
 use Rattle.statuses.specs.Rules.{_⇒_, firstOf, refused}
 use Rattle.reports.specs.Report.{DeviceError, Report, Whole, Malformed, reportOf}
 use Rattle.wire.specs.Request.{requestOf, bodyOf}
-use Rattle.wire.specs.Reply.{replyIn}
+use Rattle.wire.specs.Reply.{replyIn, replyInWith}
 use Rattle.wire.specs.declared.request.Kind.{Kind}
 use Rattle.wire.specs.declared.request.Kind.the-variants as kind
 use Rattle.wire.specs.declared.request.Request.{Request}
@@ -149,7 +149,7 @@ module _ {r : Record} {l : Ledger} (m : Matches r l) (n c : ℕ) (s d : List ℕ
 
   -- a short reply buffer stays as it is
   short : ltb (length d) 24 ≡ true → StepIs (returns (returning 28 noTotals r) d) l this (replied 28 noTotals d)
-  unfolding feed replyIn
+  unfolding feed replyInWith
   short e = record { answer = rw e; after = m }
 
   pub return-agrees : StepIs (step r this) l this (judge l this)

@@ -5,7 +5,7 @@ use Rattle.extents.specs.Extents.{listFrom, tooFar, outOfOrder, clash, anyOf, r
 use Rattle.layouts.specs.declared.kinds.Kind.the-variants.{Scsi}
 use Rattle.layouts.specs.Layout.{handleSize, bodySize, checkBody}
 use Rattle.xdr.specs.Reader.{sameBytes, number, opaque, boolean, bounded, inTurn}
-use Rattle.wire.specs.Reply.{replyBytes, replyIn}
+use Rattle.wire.specs.Reply.{replyWith, replyInWith}
 use Rattle.reports.specs.Report.{deviceError, ioerr, layoutreturn, joined, reportOf, over}
 use Rattle.wire.specs.Stateid.{stateidKind}
 use Rattle.wire.specs.Request.{fileReturn, returnOf, arguments, refusalOf, unless, requestOf, bodyOf}
@@ -54,35 +54,35 @@ k4-to-k9 = refl
 
 -- ---- histories
 record-k10 : byRecord (started ++ endGrace ∷ list ∷ []) ≡ said 0 ∷ said 0 ∷ said 0 ∷ said 0 ∷ seven 0 ∷ []
-unfolding beNat beBytes sameBytes number opaque boolean bounded inTurn replyBytes replyIn deviceError ioerr layoutreturn joined reportOf over fileReturn returnOf arguments refusalOf stateidKind unless requestOf bodyOf withErrorOf errorsAssessed sumOf totalsOf mirrorTotals assessmentOf devicesIn mirrorsIn isMirror placeOf isCopy copyPlace twice badMirrors openedFile reclaimedFile closedFile repairedFile blamedBy node-has plus setOf changedFile reportOn decisionOf restartedFile endedFile sourceOf any chosen has with none amend discard firstOr fill sourceIn enrolledOf first pull step answers registered rowOf unblamedFrom firstBy headOr goodFrom lend judge blame insert apply feed placeIn openOf reclaimOf closeOf enter raised roomIn registerOf endOf restartOf isWanted listingOf reportedOf layoutreturnOf replyAfter
+unfolding beNat beBytes sameBytes number opaque boolean bounded inTurn replyWith replyInWith deviceError ioerr layoutreturn joined reportOf over fileReturn returnOf arguments refusalOf stateidKind unless requestOf bodyOf withErrorOf errorsAssessed sumOf totalsOf mirrorTotals assessmentOf devicesIn mirrorsIn isMirror placeOf isCopy copyPlace twice badMirrors openedFile reclaimedFile closedFile repairedFile blamedBy node-has plus setOf changedFile reportOn decisionOf restartedFile endedFile sourceOf any chosen has with none amend discard firstOr fill sourceIn enrolledOf first pull step answers registered rowOf unblamedFrom firstBy headOr goodFrom lend judge blame insert apply feed placeIn openOf reclaimOf closeOf enter raised roomIn registerOf endOf restartOf isWanted listingOf reportedOf layoutreturnOf replyAfter
 record-k10 = refl
 
 ledger-k10 : byLedger (started ++ endGrace ∷ list ∷ []) ≡ said 0 ∷ said 0 ∷ said 0 ∷ said 0 ∷ seven 0 ∷ []
-unfolding beNat beBytes sameBytes number opaque boolean bounded inTurn replyBytes replyIn deviceError ioerr layoutreturn joined reportOf over fileReturn returnOf arguments refusalOf stateidKind unless requestOf bodyOf withErrorOf errorsAssessed sumOf totalsOf mirrorTotals assessmentOf devicesIn mirrorsIn isMirror placeOf isCopy copyPlace twice badMirrors openedFile reclaimedFile closedFile repairedFile blamedBy node-has plus setOf changedFile reportOn decisionOf restartedFile endedFile sourceOf any chosen has with none amend discard firstOr fill sourceIn enrolledOf first pull step answers registered rowOf unblamedFrom firstBy headOr goodFrom lend judge blame insert apply feed placeIn openOf reclaimOf closeOf enter raised roomIn registerOf endOf restartOf isWanted listingOf reportedOf layoutreturnOf replyAfter ledgerFrom
+unfolding beNat beBytes sameBytes number opaque boolean bounded inTurn replyWith replyInWith deviceError ioerr layoutreturn joined reportOf over fileReturn returnOf arguments refusalOf stateidKind unless requestOf bodyOf withErrorOf errorsAssessed sumOf totalsOf mirrorTotals assessmentOf devicesIn mirrorsIn isMirror placeOf isCopy copyPlace twice badMirrors openedFile reclaimedFile closedFile repairedFile blamedBy node-has plus setOf changedFile reportOn decisionOf restartedFile endedFile sourceOf any chosen has with none amend discard firstOr fill sourceIn enrolledOf first pull step answers registered rowOf unblamedFrom firstBy headOr goodFrom lend judge blame insert apply feed placeIn openOf reclaimOf closeOf enter raised roomIn registerOf endOf restartOf isWanted listingOf reportedOf layoutreturnOf replyAfter ledgerFrom
 ledger-k10 = refl
 
 record-k11 : byRecord (reclaimed ++ endGrace ∷ list ∷ []) ≡ said 0 ∷ said 0 ∷ said 0 ∷ said 0 ∷ said 0 ∷ none-listed ∷ []
-unfolding beNat beBytes sameBytes number opaque boolean bounded inTurn replyBytes replyIn deviceError ioerr layoutreturn joined reportOf over fileReturn returnOf arguments refusalOf stateidKind unless requestOf bodyOf withErrorOf errorsAssessed sumOf totalsOf mirrorTotals assessmentOf devicesIn mirrorsIn isMirror placeOf isCopy copyPlace twice badMirrors openedFile reclaimedFile closedFile repairedFile blamedBy node-has plus setOf changedFile reportOn decisionOf restartedFile endedFile sourceOf any chosen has with none amend discard firstOr fill sourceIn enrolledOf first pull step answers registered rowOf unblamedFrom firstBy headOr goodFrom lend judge blame insert apply feed placeIn openOf reclaimOf closeOf enter raised roomIn registerOf endOf restartOf isWanted listingOf reportedOf layoutreturnOf replyAfter
+unfolding beNat beBytes sameBytes number opaque boolean bounded inTurn replyWith replyInWith deviceError ioerr layoutreturn joined reportOf over fileReturn returnOf arguments refusalOf stateidKind unless requestOf bodyOf withErrorOf errorsAssessed sumOf totalsOf mirrorTotals assessmentOf devicesIn mirrorsIn isMirror placeOf isCopy copyPlace twice badMirrors openedFile reclaimedFile closedFile repairedFile blamedBy node-has plus setOf changedFile reportOn decisionOf restartedFile endedFile sourceOf any chosen has with none amend discard firstOr fill sourceIn enrolledOf first pull step answers registered rowOf unblamedFrom firstBy headOr goodFrom lend judge blame insert apply feed placeIn openOf reclaimOf closeOf enter raised roomIn registerOf endOf restartOf isWanted listingOf reportedOf layoutreturnOf replyAfter
 record-k11 = refl
 
 ledger-k11 : byLedger (reclaimed ++ endGrace ∷ list ∷ []) ≡ said 0 ∷ said 0 ∷ said 0 ∷ said 0 ∷ said 0 ∷ none-listed ∷ []
-unfolding beNat beBytes sameBytes number opaque boolean bounded inTurn replyBytes replyIn deviceError ioerr layoutreturn joined reportOf over fileReturn returnOf arguments refusalOf stateidKind unless requestOf bodyOf withErrorOf errorsAssessed sumOf totalsOf mirrorTotals assessmentOf devicesIn mirrorsIn isMirror placeOf isCopy copyPlace twice badMirrors openedFile reclaimedFile closedFile repairedFile blamedBy node-has plus setOf changedFile reportOn decisionOf restartedFile endedFile sourceOf any chosen has with none amend discard firstOr fill sourceIn enrolledOf first pull step answers registered rowOf unblamedFrom firstBy headOr goodFrom lend judge blame insert apply feed placeIn openOf reclaimOf closeOf enter raised roomIn registerOf endOf restartOf isWanted listingOf reportedOf layoutreturnOf replyAfter ledgerFrom
+unfolding beNat beBytes sameBytes number opaque boolean bounded inTurn replyWith replyInWith deviceError ioerr layoutreturn joined reportOf over fileReturn returnOf arguments refusalOf stateidKind unless requestOf bodyOf withErrorOf errorsAssessed sumOf totalsOf mirrorTotals assessmentOf devicesIn mirrorsIn isMirror placeOf isCopy copyPlace twice badMirrors openedFile reclaimedFile closedFile repairedFile blamedBy node-has plus setOf changedFile reportOn decisionOf restartedFile endedFile sourceOf any chosen has with none amend discard firstOr fill sourceIn enrolledOf first pull step answers registered rowOf unblamedFrom firstBy headOr goodFrom lend judge blame insert apply feed placeIn openOf reclaimOf closeOf enter raised roomIn registerOf endOf restartOf isWanted listingOf reportedOf layoutreturnOf replyAfter ledgerFrom
 ledger-k11 = refl
 
 record-k12 : byRecord (reclaimed ++ reports A ∷ endGrace ∷ list ∷ offers ∷ close 7 1 ∷ offers ∷ []) ≡ said 0 ∷ said 0 ∷ said 0 ∷ said 0 ∷ accepted ∷ said 0 ∷ seven 1 ∷ none-listed ∷ said 0 ∷ seven 1 ∷ []
-unfolding beNat beBytes sameBytes number opaque boolean bounded inTurn replyBytes replyIn deviceError ioerr layoutreturn joined reportOf over fileReturn returnOf arguments refusalOf stateidKind unless requestOf bodyOf withErrorOf errorsAssessed sumOf totalsOf mirrorTotals assessmentOf devicesIn mirrorsIn isMirror placeOf isCopy copyPlace twice badMirrors openedFile reclaimedFile closedFile repairedFile blamedBy node-has plus setOf changedFile toldHead reportOn decisionOf restartedFile endedFile sourceOf any chosen has with none amend discard firstOr fill sourceIn enrolledOf first pull step answers registered rowOf unblamedFrom firstBy headOr goodFrom lend judge blame insert apply feed placeIn openOf reclaimOf closeOf enter raised roomIn registerOf endOf restartOf isWanted listingOf reportedOf layoutreturnOf replyAfter
+unfolding beNat beBytes sameBytes number opaque boolean bounded inTurn replyWith replyInWith deviceError ioerr layoutreturn joined reportOf over fileReturn returnOf arguments refusalOf stateidKind unless requestOf bodyOf withErrorOf errorsAssessed sumOf totalsOf mirrorTotals assessmentOf devicesIn mirrorsIn isMirror placeOf isCopy copyPlace twice badMirrors openedFile reclaimedFile closedFile repairedFile blamedBy node-has plus setOf changedFile toldHead reportOn decisionOf restartedFile endedFile sourceOf any chosen has with none amend discard firstOr fill sourceIn enrolledOf first pull step answers registered rowOf unblamedFrom firstBy headOr goodFrom lend judge blame insert apply feed placeIn openOf reclaimOf closeOf enter raised roomIn registerOf endOf restartOf isWanted listingOf reportedOf layoutreturnOf replyAfter
 record-k12 = refl
 
 ledger-k12 : byLedger (reclaimed ++ reports A ∷ endGrace ∷ list ∷ offers ∷ close 7 1 ∷ offers ∷ []) ≡ said 0 ∷ said 0 ∷ said 0 ∷ said 0 ∷ accepted ∷ said 0 ∷ seven 1 ∷ none-listed ∷ said 0 ∷ seven 1 ∷ []
-unfolding beNat beBytes sameBytes number opaque boolean bounded inTurn replyBytes replyIn deviceError ioerr layoutreturn joined reportOf over fileReturn returnOf arguments refusalOf stateidKind unless requestOf bodyOf withErrorOf errorsAssessed sumOf totalsOf mirrorTotals assessmentOf devicesIn mirrorsIn isMirror placeOf isCopy copyPlace twice badMirrors openedFile reclaimedFile closedFile repairedFile blamedBy node-has plus setOf changedFile reportOn decisionOf restartedFile endedFile sourceOf any chosen has with none amend discard firstOr fill sourceIn enrolledOf first pull step answers registered rowOf unblamedFrom firstBy headOr goodFrom lend judge blame insert apply feed placeIn openOf reclaimOf closeOf enter raised roomIn registerOf endOf restartOf isWanted listingOf reportedOf layoutreturnOf replyAfter ledgerFrom
+unfolding beNat beBytes sameBytes number opaque boolean bounded inTurn replyWith replyInWith deviceError ioerr layoutreturn joined reportOf over fileReturn returnOf arguments refusalOf stateidKind unless requestOf bodyOf withErrorOf errorsAssessed sumOf totalsOf mirrorTotals assessmentOf devicesIn mirrorsIn isMirror placeOf isCopy copyPlace twice badMirrors openedFile reclaimedFile closedFile repairedFile blamedBy node-has plus setOf changedFile reportOn decisionOf restartedFile endedFile sourceOf any chosen has with none amend discard firstOr fill sourceIn enrolledOf first pull step answers registered rowOf unblamedFrom firstBy headOr goodFrom lend judge blame insert apply feed placeIn openOf reclaimOf closeOf enter raised roomIn registerOf endOf restartOf isWanted listingOf reportedOf layoutreturnOf replyAfter ledgerFrom
 ledger-k12 = refl
 
 record-k13 : byRecord (reclaimed ++ reports C ∷ endGrace ∷ list ∷ []) ≡ said 0 ∷ said 0 ∷ said 0 ∷ said 0 ∷ accepted ∷ said 0 ∷ seven 0 ∷ []
-unfolding beNat beBytes sameBytes number opaque boolean bounded inTurn replyBytes replyIn deviceError ioerr layoutreturn joined reportOf over fileReturn returnOf arguments refusalOf stateidKind unless requestOf bodyOf withErrorOf errorsAssessed sumOf totalsOf mirrorTotals assessmentOf devicesIn mirrorsIn isMirror placeOf isCopy copyPlace twice badMirrors openedFile reclaimedFile closedFile repairedFile blamedBy node-has plus setOf changedFile toldHead reportOn decisionOf restartedFile endedFile sourceOf any chosen has with none amend discard firstOr fill sourceIn enrolledOf first pull step answers registered rowOf unblamedFrom firstBy headOr goodFrom lend judge blame insert apply feed placeIn openOf reclaimOf closeOf enter raised roomIn registerOf endOf restartOf isWanted listingOf reportedOf layoutreturnOf replyAfter
+unfolding beNat beBytes sameBytes number opaque boolean bounded inTurn replyWith replyInWith deviceError ioerr layoutreturn joined reportOf over fileReturn returnOf arguments refusalOf stateidKind unless requestOf bodyOf withErrorOf errorsAssessed sumOf totalsOf mirrorTotals assessmentOf devicesIn mirrorsIn isMirror placeOf isCopy copyPlace twice badMirrors openedFile reclaimedFile closedFile repairedFile blamedBy node-has plus setOf changedFile toldHead reportOn decisionOf restartedFile endedFile sourceOf any chosen has with none amend discard firstOr fill sourceIn enrolledOf first pull step answers registered rowOf unblamedFrom firstBy headOr goodFrom lend judge blame insert apply feed placeIn openOf reclaimOf closeOf enter raised roomIn registerOf endOf restartOf isWanted listingOf reportedOf layoutreturnOf replyAfter
 record-k13 = refl
 
 ledger-k13 : byLedger (reclaimed ++ reports C ∷ endGrace ∷ list ∷ []) ≡ said 0 ∷ said 0 ∷ said 0 ∷ said 0 ∷ accepted ∷ said 0 ∷ seven 0 ∷ []
-unfolding beNat beBytes sameBytes number opaque boolean bounded inTurn replyBytes replyIn deviceError ioerr layoutreturn joined reportOf over fileReturn returnOf arguments refusalOf stateidKind unless requestOf bodyOf withErrorOf errorsAssessed sumOf totalsOf mirrorTotals assessmentOf devicesIn mirrorsIn isMirror placeOf isCopy copyPlace twice badMirrors openedFile reclaimedFile closedFile repairedFile blamedBy node-has plus setOf changedFile reportOn decisionOf restartedFile endedFile sourceOf any chosen has with none amend discard firstOr fill sourceIn enrolledOf first pull step answers registered rowOf unblamedFrom firstBy headOr goodFrom lend judge blame insert apply feed placeIn openOf reclaimOf closeOf enter raised roomIn registerOf endOf restartOf isWanted listingOf reportedOf layoutreturnOf replyAfter ledgerFrom
+unfolding beNat beBytes sameBytes number opaque boolean bounded inTurn replyWith replyInWith deviceError ioerr layoutreturn joined reportOf over fileReturn returnOf arguments refusalOf stateidKind unless requestOf bodyOf withErrorOf errorsAssessed sumOf totalsOf mirrorTotals assessmentOf devicesIn mirrorsIn isMirror placeOf isCopy copyPlace twice badMirrors openedFile reclaimedFile closedFile repairedFile blamedBy node-has plus setOf changedFile reportOn decisionOf restartedFile endedFile sourceOf any chosen has with none amend discard firstOr fill sourceIn enrolledOf first pull step answers registered rowOf unblamedFrom firstBy headOr goodFrom lend judge blame insert apply feed placeIn openOf reclaimOf closeOf enter raised roomIn registerOf endOf restartOf isWanted listingOf reportedOf layoutreturnOf replyAfter ledgerFrom
 ledger-k13 = refl
 
 -- ---- epochs
