@@ -53,6 +53,11 @@ module _ (s : List ℕ) (c : Cursor) where
       unfolding nextAt
       record-found g = simp (ne-eqb (c .left) 0 z, le-ltb (length s - c .at) 36 h, sym e, le-ltb (length s - c .at - 36) (24 * n) g)
 
+      pub record-empty : 24 * n ≡ 0 → Record (c .at + 36) n (record { at = c .at + 36; left = c .left - 1 }) ≡ nextAt s c
+      record-empty g =
+          let k : c .at + 36 ≡ c .at + 36 + 24 * n = omega arith in
+          ap (λ (m : ℕ). Record (c .at + 36) n (record { at = m; left = c .left - 1 })) k ∙ record-found (omega arith)
+
 -- of a device error
 module _ (s : List ℕ) (at : ℕ) where
   pub device-short : length s - at < 24 → Missing ≡ deviceAt s at

@@ -1,6 +1,6 @@
 -- The steps of a cursor visit the statistics records of a report, in their order: from each cursor on, the records are what stands at the cursor and
 -- then those from the next cursor on. Each step goes forward, within the bytes.
--- In order: a record's parts; that law; where the walk begins; what the code's tests say of a step; a caller's fold; the walk as a list.
+-- In order: a record's parts; that law; where the walk begins; what the code's tests say of a record and of a step; a caller's fold; the walk as a list.
 use Prim.Native.Nat.{ℕ, zero, suc, _+_, _-_, _≤_, _<_}
 use mathlib.Core.Path.{_≡_, refl, sym, ap, _∙_}
 use mathlib.Core.List.{List, [], _∷_}
@@ -20,12 +20,10 @@ use Rattle.reports.specs.Report as report
 use Rattle.reports.specs.Walk.{TailWalk as Walk, tail-ends as ends, tail-gives as gives, Stated}
 use Rattle.reports.specs.ReportSteps.{startPast, statisticsStart}
 use Rattle.reports.specs.Cursors.{nowhere, cursorAt}
-use Rattle.reports.specs.StatisticsSteps.{tailOf, counting, givenBy, nextOf, stepBy, stepOf, statisticsFrom, statisticIn, statisticAt, afterNext, tally}
+use Rattle.reports.specs.StatisticsSteps.{tailOf, counting, givenBy, nextOf, statisticsFrom, statisticIn, statisticAt, afterNext, tally}
 use Rattle.xdr.specs.declared.fields.Past.{Past}
 use Rattle.xdr.specs.declared.fields.Past.the-variants as past
 use Rattle.reports.specs.declared.cursor.Cursor.{Cursor}
-use Rattle.reports.specs.declared.statistics.Stepped.{Stepped}
-use Rattle.reports.specs.declared.statistics.Stepped.the-variants as stepped
 use Rattle.reports.specs.declared.statistics.Item.{Item}
 use Rattle.reports.specs.declared.statistics.Item.the-variants.{Given, End, Malformed}
 use Rattle.reports.proofs.Devices.{halves-taken}
@@ -160,6 +158,10 @@ shown u =
         let k : length t ≤ length u - 80 = rw length-drop at (end-shorter l) in
         (refl, end-of-end l (end-drop 80 u), omega arith)
 
+shown-leaves : (u : List ℕ) (r : Read Statistic) → Shown u r → Leaves u r
+shown-leaves u Bad h = tt
+shown-leaves u (Got y t) h = h .1
+
 -- ---- the law of a walk
 after-if : (s : List ℕ) (c : Cursor) (b : Bool) (x y : Item) → afterNext s c (cond b x y) ≡ cond b (afterNext s c x) (afterNext s c y)
 after-if s c true x y = refl
@@ -225,37 +227,19 @@ begins s = by-errors (counted ioerr s) refl (counted-ends ioerr ioerr-ends .leav
     by-errors Bad e l = nowhere-begins s ∙ sym (ap withoutErrors (no-errors-read s e))
     by-errors (Got rs t) e l = tail-begins s (length s - length t) ∙ rw (l .lies) (sym (rest-is s e))
 
--- ---- what the code's tests say of a step
-module _ (s : List ℕ) (c : Cursor) where
-  module _ (z : c .left ≡ 0) where
-    pub at-end : length s - c .at ≡ 0 → stepped.End ≡ stepOf s c
-    unfolding nextOf
-    at-end h = simp (eq-eqb (c .left) 0 z, eq-eqb (length s - c .at) 0 h)
+-- ---- what the code's tests say of a record at a place
+given-past : {A B : Type 0} (n : ℕ) (r : Read A) (b : B) → pastOf n r ≡ pastOf n (onward r (λ _. give b))
+given-past n Bad b = refl
+given-past n (Got a t) b = refl
 
-    pub at-spare : (length s - c .at ≡ 0 → ⊥) → stepped.Malformed ≡ stepOf s c
-    unfolding nextOf
-    at-spare h = simp (eq-eqb (c .left) 0 z, ne-eqb (length s - c .at) 0 h)
+module _ (s : List ℕ) (at : ℕ) where
+  pub record-short : length s - at < 80 → past.Malformed ≡ pastOf (length s) (iostats (drop at s))
+  record-short h = rw (iostats-read, lt-ltb (length (drop at s)) 80 (rw length-drop h))
 
-  module _ (z : c .left ≡ 0 → ⊥) where
-    pub at-cut : length s - c .at < 80 → stepped.Malformed ≡ stepOf s c
-    unfolding nextOf
-    at-cut h = rw (ne-eqb (c .left) 0 z, iostats-read, lt-ltb (length (drop (c .at) s)) 80 (rw length-drop h))
-
-    module _ (h : 80 ≤ length s - c .at) {r : Past} (i : r ≡ pastOf (length s) (layoutupdate (drop (c .at + 80) s))) where
-      record-at : nextOf s c ≡ givenBy s (c .left) (onward (layoutupdate (drop (c .at + 80) s)) (λ _. give (statisticAt s c)))
-      unfolding nextOf
-      record-at = rw (ne-eqb (c .left) 0 z, iostats-read, le-ltb (length (drop (c .at) s)) 80 (rw length-drop h), drop-drop 80 (c .at) s)
-
-      pub at-bad-update : r ≡ past.Malformed → stepped.Malformed ≡ stepOf s c
-      at-bad-update g = rw (record-at, unread (length s) (layoutupdate (drop (c .at + 80) s)) (sym g ∙ i))
-
-      pub at-record-end : {e : ℕ} → r ≡ past.At e → stepped.On (record { at = e; left = c .left - 1 }) ≡ stepOf s c
-      at-record-end {e} g =
-          let t = layoutupdate (drop (c .at + 80) s) in
-          let l = update-ends .leaves (drop (c .at + 80) s) in
-          let f = further s (c .at + 80) t l (sym g ∙ i) (omega arith) in
-          let y : length s - (length s - e) ≡ e = omega (arith, f .1) in
-          rw (record-at, reached s (c .at + 80) t l (sym g ∙ i) .is, length-drop, y)
+  pub record-long : 80 ≤ length s - at → {r : Past} → r ≡ pastOf (length s) (layoutupdate (drop (at + 80) s)) → r ≡ pastOf (length s) (iostats (drop at s))
+  record-long h i =
+      i ∙ given-past (length s) (layoutupdate (drop (at + 80) s)) (statisticIn (drop at s))
+      ∙ rw (iostats-read, le-ltb (length (drop at s)) 80 (rw length-drop h), drop-drop 80 at s)
 
 -- ---- a step takes at least 80 bytes and stays within the bytes: a walk of s makes at most length s / 80 + 1 steps, whatever the count says
 pub record Forward (s : List ℕ) (c next : Cursor) : Type 0 where
@@ -286,45 +270,52 @@ module _ (s : List ℕ) (c : Cursor) {h l r w : ℕ} {next : Cursor} (e : nextOf
   pub stated : Stated (statisticAt s c) h l r w
   stated = (rw e at (stands s c)) .1
 
--- ---- a step, and the record that it passes, whatever its numbers are
-record Passed (s : List ℕ) (c next : Cursor) : Type 0 where
+-- ---- what the code's tests say of a step. A record that is passed, whatever its numbers are
+pub record Passed (s : List ℕ) (c next : Cursor) : Type 0 where
   hi : ℕ
   lo : ℕ
   rd : ℕ
   wr : ℕ
   is : nextOf s c ≡ Given hi lo rd wr next
 
-abbrev Told : List ℕ → Cursor → Stepped → Type 0
-Told s c (stepped.On next) = Passed s c next
-Told s c stepped.End = nextOf s c ≡ End
-Told s c stepped.Malformed = nextOf s c ≡ Malformed
-
-told-by : (s : List ℕ) (c : Cursor) (x : Item) → nextOf s c ≡ x → Told s c (stepBy x)
-told-by s c (Given hi lo rd wr next) e = record { hi = hi; lo = lo; rd = rd; wr = wr; is = e }
-told-by s c End e = e
-told-by s c Malformed e = e
-
 module _ (s : List ℕ) (c : Cursor) where
-  told : Told s c (stepOf s c)
-  told = told-by s c (nextOf s c) refl
+  module _ (z : c .left ≡ 0) where
+    pub at-end : length s - c .at ≡ 0 → End ≡ nextOf s c
+    unfolding nextOf
+    at-end h = simp (eq-eqb (c .left) 0 z, eq-eqb (length s - c .at) 0 h)
 
-  passed : {next : Cursor} → stepOf s c ≡ stepped.On next → Passed s c next
-  passed e = rw e at told
+    pub at-spare : (length s - c .at ≡ 0 → ⊥) → Malformed ≡ nextOf s c
+    unfolding nextOf
+    at-spare h = simp (eq-eqb (c .left) 0 z, ne-eqb (length s - c .at) 0 h)
 
-  pub step-forward : {next : Cursor} → stepOf s c ≡ stepped.On next → Forward s c next
-  step-forward e = goes-forward s c (passed e .is)
+  passed-by : (y : Statistic) (e : ℕ) → e ≤ length s → nextOf s c ≡ givenBy s (c .left) (Got y (drop e s)) → Passed s c (record { at = e; left = c .left - 1 })
+  passed-by y e h q =
+      let k : length s - (length s - e) ≡ e = omega arith in
+      record { hi = halves (y .device) .high; lo = halves (y .device) .low; rd = y .read; wr = y .written; is = q ∙ rw (length-drop, k) }
 
-  pub next-end : stepOf s c ≡ stepped.End → End ≡ nextOf s c
-  next-end e = sym (rw e at told)
+  module _ (z : c .left ≡ 0 → ⊥) {r : Past} (i : r ≡ pastOf (length s) (iostats (drop (c .at) s))) where
+    pub at-malformed : r ≡ past.Malformed → Malformed ≡ nextOf s c
+    unfolding nextOf
+    at-malformed g = rw (ne-eqb (c .left) 0 z, unread (length s) (iostats (drop (c .at) s)) (sym g ∙ i))
 
-  pub next-malformed : stepOf s c ≡ stepped.Malformed → Malformed ≡ nextOf s c
-  next-malformed e = sym (rw e at told)
+    pub at-passed : {e : ℕ} → r ≡ past.At e → Passed s c (record { at = e; left = c .left - 1 })
+    unfolding nextOf
+    at-passed {e} g =
+        let u = iostats (drop (c .at) s) in
+        let l = shown-leaves (drop (c .at) s) u (shown (drop (c .at) s)) in
+        let q = reached s (c .at) u l (sym g ∙ i) in
+        let k : length s - e + 80 ≤ length s - c .at = rw (length-drop e s, length-drop (c .at) s) at ((rw (q .is) at (shown (drop (c .at) s))) .2) in
+        let f = further s (c .at) u l (sym g ∙ i) (omega arith) in
+        let n : nextOf s c ≡ givenBy s (c .left) u = rw (ne-eqb (c .left) 0 z) in
+        passed-by (q .value) e (f .1) (n ∙ ap (givenBy s (c .left)) (q .is))
+
+  pub step-forward : {next : Cursor} → Passed s c next → Forward s c next
+  step-forward g = goes-forward s c (g .is)
 
   -- its numbers are those that stand in their places
-  pub next-given : {next : Cursor} → stepOf s c ≡ stepped.On next → {hi lo rd wr : ℕ} → hi ≡ beNat 8 (drop (c .at + 64) s) → lo ≡ beNat 8 (drop (c .at + 72) s)
+  pub next-given : {next : Cursor} → Passed s c next → {hi lo rd wr : ℕ} → hi ≡ beNat 8 (drop (c .at + 64) s) → lo ≡ beNat 8 (drop (c .at + 72) s)
       → rd ≡ beNat 8 (drop (c .at + 40) s) → wr ≡ beNat 8 (drop (c .at + 56) s) → Given hi lo rd wr next ≡ nextOf s c
-  next-given e {hi} {lo} {rd} {wr} p q u w =
-      let g = passed e in
+  next-given g {hi} {lo} {rd} {wr} p q u w =
       let t = stated s c (g .is) in
       let k : c .at + 64 + 8 ≡ c .at + 72 = omega arith in
       let d : halves (take 16 (drop 64 (drop (c .at) s))) ≡ record { high = hi; low = lo } =
@@ -370,14 +361,14 @@ tally-rest f g bad a s c = only-statistics (λ p. outcome f g bad a p ≡ tally 
 
 -- ---- the status of the records: with the invariant `statusOf (statisticsFrom s c) ≡ answer` a step keeps the answer, and each way out gives it
 module _ (s : List ℕ) (c : Cursor) {answer : ℕ} (inv : statusOf (statisticsFrom s c) ≡ answer) where
-  pub status-on : {next : Cursor} → stepOf s c ≡ stepped.On next → statusOf (statisticsFrom s next) ≡ answer
-  status-on {next} e = sym (counted-status (statisticAt s c) (statisticsFrom s next)) ∙ sym (ap statusOf (turn s c (passed s c e .is))) ∙ inv
+  pub status-on : {next : Cursor} → Passed s c next → statusOf (statisticsFrom s next) ≡ answer
+  status-on {next} g = sym (counted-status (statisticAt s c) (statisticsFrom s next)) ∙ sym (ap statusOf (turn s c (g .is))) ∙ inv
 
-  pub status-end : stepOf s c ≡ stepped.End → 0 ≡ answer
-  status-end e = sym (ap statusOf (turn s c (sym (next-end s c e)))) ∙ inv
+  pub status-end : End ≡ nextOf s c → 0 ≡ answer
+  status-end e = sym (ap statusOf (turn s c (sym e))) ∙ inv
 
-  pub status-malformed : stepOf s c ≡ stepped.Malformed → 10036 ≡ answer
-  status-malformed e = sym (ap statusOf (turn s c (sym (next-malformed s c e)))) ∙ inv
+  pub status-malformed : Malformed ≡ nextOf s c → 10036 ≡ answer
+  status-malformed e = sym (ap statusOf (turn s c (sym e))) ∙ inv
 
 -- of a body: that of its statistics records, from where they begin
 pub status-whole : (s : List ℕ) {c : Cursor} → c ≡ statisticsStart s → statusOf (statisticsFrom s c) ≡ statusOf (reportOf s)

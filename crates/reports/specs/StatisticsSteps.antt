@@ -1,5 +1,5 @@
 -- MODEL of the code: the walk of the statistics records. Walk.antt states that the steps from the start visit the statistics records of `reportOf`.
---     stepOf, nextOf             what `step` and `next` answer
+--     nextOf                     what `next` answers
 --     statisticsFrom             the statistics records from a cursor on; `afterNext` says the same by what stands there
 --     tally                      what a caller makes of them
 use Prim.Native.Nat.{ℕ, _+_, _-_}
@@ -14,8 +14,6 @@ use Rattle.reports.specs.Statistics.{Statistic, iostats}
 use Rattle.reports.specs.Report as report
 use Rattle.reports.specs.Report.{Report, over}
 use Rattle.reports.specs.declared.cursor.Cursor.{Cursor}
-use Rattle.reports.specs.declared.statistics.Stepped.{Stepped}
-use Rattle.reports.specs.declared.statistics.Stepped.the-variants as stepped
 use Rattle.reports.specs.declared.statistics.Item.{Item}
 use Rattle.reports.specs.declared.statistics.Item.the-variants.{Given, End, Malformed}
 
@@ -36,15 +34,6 @@ givenBy s n (Got y t) =
 
 unfoldable pub nextOf : List ℕ → Cursor → Item
 nextOf s c = cond (eqb (c .left) 0) (cond (eqb (length s - c .at) 0) End Malformed) (givenBy s (c .left) (iostats (drop (c .at) s)))
-
--- the same but for the record's numbers
-abbrev pub stepBy : Item → Stepped
-stepBy (Given h l r w next) = stepped.On next
-stepBy End = stepped.End
-stepBy Malformed = stepped.Malformed
-
-abbrev pub stepOf : List ℕ → Cursor → Stepped
-stepOf s c = stepBy (nextOf s c)
 
 -- ---- the statistics records from a cursor on
 unfoldable pub statisticsFrom : List ℕ → Cursor → Report

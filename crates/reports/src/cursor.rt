@@ -1,5 +1,4 @@
 // A place among the records of a counted list, by which a caller walks the error records and then the statistics records of a body.
-use xdr::fields::left;
 ghost use mathlib.Core.Path.{_≡_};
 ghost use Rattle.reports.specs.Cursors.{nowhere, cursorAt};
 
@@ -23,7 +22,10 @@ pub fn none(s: &[u8]) -> Cursor
 pub fn begin(s: &[u8], at: usize) -> Cursor
     ensures { λ r. ⌜ r ≡ cursorAt (now (s .entry)) at ⌝ }
 {
-    if left(s, at) < 4 {
+    if s.len() < 4 {
+        return none(s);
+    }
+    if s.len() - 4 < at {
         return none(s);
     }
     Cursor {

@@ -43,7 +43,8 @@ pub fn start(s: &[u8]) -> Cursor
     begin(s, 0)
 }
 
-// What stands at the cursor. Each step takes at least 36 bytes, whatever the counts say: the device errors are passed by their count.
+// What stands at the cursor. Each step takes at least 36 bytes, whatever the counts say: the device errors are passed by their count. A record without any
+// has an answer of its own, so that where the next one stands does not wait for the count to be read.
 pub fn next(s: &[u8], c: Cursor) -> Entry
     ensures { λ r. ⌜ r ≡ nextAt (now (s .entry)) c ⌝ }
 {
@@ -61,6 +62,14 @@ pub fn next(s: &[u8], c: Cursor) -> Entry
     }
     let devices = xdr::be32(s, at + 32);
     let size = 24 * (devices as usize);
+    let left = n - 1;
+    if size == 0 {
+        return Entry::Record {
+            at: at + 36,
+            devices,
+            next: Cursor { at: at + 36, left },
+        };
+    }
     if last - at < size {
         return Entry::Malformed;
     }
@@ -69,7 +78,7 @@ pub fn next(s: &[u8], c: Cursor) -> Entry
         devices,
         next: Cursor {
             at: at + 36 + size,
-            left: n - 1,
+            left,
         },
     }
 }

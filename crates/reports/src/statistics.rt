@@ -1,5 +1,5 @@
 // The statistics records of a LAYOUTRETURN's body (RFC 8435, 9.2; Ticket 3).
-// In order: what stands at a cursor; a record; `step`, by which every walk goes; `next`, which reads the record's numbers too; `check`, the records' status.
+// In order: what stands at a cursor; `past_record`, by which every walk goes; `next`, which reads the record's numbers too; `check`, the records' status.
 use crate::cursor::Cursor;
 use xdr::fields::Past;
 use xdr::fields::left;
@@ -7,18 +7,9 @@ use xdr::fields::past_opaque;
 ghost use mathlib.Core.Path.{_≡_};
 ghost use lib.ListN.{length, drop};
 ghost use Rattle.reports.specs.Report.{statusOf};
-ghost use Rattle.reports.specs.Statistics.{layoutupdate};
-ghost use Rattle.reports.specs.StatisticsSteps.{stepOf, nextOf, statisticsFrom};
+ghost use Rattle.reports.specs.Statistics.{layoutupdate, iostats};
+ghost use Rattle.reports.specs.StatisticsSteps.{nextOf, statisticsFrom};
 ghost use Rattle.xdr.specs.Past.{pastOf};
-
-// What stands at a cursor, but for the record's numbers.
-enum Stepped {
-    // A record, and the cursor past it.
-    On(Cursor),
-    // No record is to come, and nothing follows.
-    End,
-    Malformed,
-}
 
 // What stands at a cursor.
 pub enum Item {
@@ -57,69 +48,62 @@ fn past_update(s: &[u8], at: usize) -> Past
     Past::At(latency + 144)
 }
 
-// One step of a walk. It takes at least 80 bytes, whatever the count says.
-fn step(s: &[u8], c: Cursor) -> Stepped
-    ensures { λ r. ⌜ r ≡ stepOf (now (s .entry)) c ⌝ }
+// The place past a record. It takes at least 80 bytes.
+fn past_record(s: &[u8], at: usize) -> Past
+    ensures { λ r. ⌜ r ≡ pastOf (length (now (s .entry))) (iostats (drop at (now (s .entry)))) ⌝ }
 {
-    let at = c.at;
-    let n = c.left;
-    if n == 0 {
-        if at < s.len() {
-            return Stepped::Malformed;
-        }
-        return Stepped::End;
-    }
     if s.len() < 80 {
-        return Stepped::Malformed;
+        return Past::Malformed;
     }
     if s.len() - 80 < at {
-        return Stepped::Malformed;
+        return Past::Malformed;
     }
-    let Past::At(end) = past_update(s, at + 80) else {
-        return Stepped::Malformed;
-    };
-    Stepped::On(Cursor {
-        at: end,
-        left: n - 1,
-    })
+    past_update(s, at + 80)
 }
 
 // What stands at the cursor.
 pub fn next(s: &[u8], c: Cursor) -> Item
     ensures { λ r. ⌜ r ≡ nextOf (now (s .entry)) c ⌝ }
 {
-    match step(s, c) {
-        Stepped::On(after) => {
-            let at = c.at;
-            Item::Given {
-                high: xdr::be64(s, at + 64),
-                low: xdr::be64(s, at + 72),
-                read: xdr::be64(s, at + 40),
-                written: xdr::be64(s, at + 56),
-                next: after,
-            }
+    let at = c.at;
+    let n = c.left;
+    if n == 0 {
+        if at < s.len() {
+            return Item::Malformed;
         }
-        Stepped::End => Item::End,
-        Stepped::Malformed => Item::Malformed,
+        return Item::End;
+    }
+    let Past::At(end) = past_record(s, at) else {
+        return Item::Malformed;
+    };
+    Item::Given {
+        high: xdr::be64(s, at + 64),
+        low: xdr::be64(s, at + 72),
+        read: xdr::be64(s, at + 40),
+        written: xdr::be64(s, at + 56),
+        next: Cursor {
+            at: end,
+            left: n - 1,
+        },
     }
 }
 
 // The status of what is left from a cursor on: 0, or 10036 where the statistics records are malformed or something follows them.
+// Where no record is to come it calls nothing.
 pub fn check(s: &[u8], from: Cursor) -> u32
     ensures { λ r. ⌜ r ≡ statusOf (statisticsFrom (now (s .entry)) from) ⌝ }
 {
-    let mut c = from;
-    loop {
-        match step(s, c) {
-            Stepped::On(after) => {
-                c = after;
-            }
-            Stepped::End => {
-                return 0;
-            }
-            Stepped::Malformed => {
-                return statuses::BADXDR;
-            }
-        }
+    let mut at = from.at;
+    let mut n = from.left;
+    while n != 0 {
+        let Past::At(end) = past_record(s, at) else {
+            return statuses::BADXDR;
+        };
+        at = end;
+        n -= 1;
     }
+    if s.len() <= at {
+        return 0;
+    }
+    statuses::BADXDR
 }

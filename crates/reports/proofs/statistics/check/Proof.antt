@@ -4,44 +4,63 @@ use mathlib.Core.Path.{_≡_, refl, sym, _∙_}
 use lib.ListN.{length}
 use Rattle.reports.specs.Report.{statusOf}
 use Rattle.reports.specs.StatisticsSteps.{statisticsFrom}
-use Rattle.reports.proofs.StatisticsWalk.{step-forward, status-on, status-end, status-malformed}
+use Rattle.reports.specs.declared.cursor.Cursor.{Cursor}
+use Rattle.reports.proofs.StatisticsWalk.{at-end, at-spare, at-malformed, at-passed, step-forward, status-on, status-end, status-malformed}
 use native.Mathlib.Omega.{arith}
 use borrow.Author.Needs.{needs}
 use Rattle.reports.proofs.statistics.check.Statement.{statement}
 use Rattle.reports.proofs.statistics.check.Tie as tie
 
 abbrev Inv-loop : tie.InvT-loop
-Inv-loop s c₀ c = statusOf (statisticsFrom s c) ≡ statusOf (statisticsFrom s c₀)
+Inv-loop s at₀ n₀ at n = statusOf (statisticsFrom s (record { at = at; left = n })) ≡ statusOf (statisticsFrom s (record { at = at₀; left = n₀ }))
 
 abbrev μ-loop : tie.MeasureT-loop
-μ-loop s c₀ c = length s - c .at
+μ-loop s at₀ n₀ at n = length s - at
 
 loop-holds : tie.Need-loop-holds Inv-loop μ-loop
 loop-holds c = refl
 
-step-requires : tie.Need-step-requires Inv-loop μ-loop
-step-requires c κs = search needs
+past-record-requires : tie.Need-past-record-requires Inv-loop μ-loop
+past-record-requires c κs = search needs
 
-enum-known-after : tie.Need-enum-known-after Inv-loop μ-loop
-enum-known-after c = search needs
-
-loop-less : tie.Need-loop-less Inv-loop μ-loop
-loop-less c = omega (arith, step-forward (c .before .before .before .before .before .before .args .s .now) (c .before .before .before .before .loop .c) (sym (c .before .before .before .step .ensures) ∙ c .before .after .given .1))
-
-loop-again : tie.Need-loop-again Inv-loop μ-loop
-loop-again c = status-on (c .before .before .before .before .before .before .args .s .now) (c .before .before .before .before .loop .c) (c .before .before .before .before .loop .inv) (sym (c .before .before .before .step .ensures) ∙ c .before .after .given .1)
+enum-known-end : tie.Need-enum-known-end Inv-loop μ-loop
+enum-known-end c = search needs
 
 enum-told : tie.Need-enum-told Inv-loop μ-loop
 enum-told c = search needs
 
 returns : tie.Need-returns Inv-loop μ-loop
-returns c = status-end (c .before .before .before .before .before .args .s .now) (c .before .before .before .loop .c) (c .before .before .before .loop .inv) (sym (c .before .before .step .ensures) ∙ c .enum-told .given .1)
+returns c =
+    let s = c .before .before .before .before .before .before .args .s .now in
+    let d : Cursor = record { at = c .before .before .before .before .loop .at; left = c .before .before .before .before .loop .n } in
+    status-malformed s d (c .before .before .before .before .loop .inv) (at-malformed s d (λ h. omega arith) (c .before .before .past-record .ensures) (c .enum-told .given .1))
 
-enum-told-2 : tie.Need-enum-told-2 Inv-loop μ-loop
-enum-told-2 c = search needs
+sub-n : tie.Need-sub-n Inv-loop μ-loop
+sub-n c = search needs
+
+loop-less : tie.Need-loop-less Inv-loop μ-loop
+loop-less c =
+    let s = c .before .before .before .before .before .before .before .args .s .now in
+    let d : Cursor = record { at = c .before .before .before .before .before .loop .at; left = c .before .before .before .before .before .loop .n } in
+    omega (arith, step-forward s d (at-passed s d (λ h. omega arith) (c .before .before .before .past-record .ensures) (c .before .end .given .1)))
+
+loop-again : tie.Need-loop-again Inv-loop μ-loop
+loop-again c =
+    let s = c .before .before .before .before .before .before .before .args .s .now in
+    let d : Cursor = record { at = c .before .before .before .before .before .loop .at; left = c .before .before .before .before .before .loop .n } in
+    status-on s d (c .before .before .before .before .before .loop .inv) (at-passed s d (λ h. omega arith) (c .before .before .before .past-record .ensures) (c .before .end .given .1))
 
 returns-2 : tie.Need-returns-2 Inv-loop μ-loop
-returns-2 c = status-malformed (c .before .before .before .before .before .args .s .now) (c .before .before .before .loop .c) (c .before .before .before .loop .inv) (sym (c .before .before .step .ensures) ∙ c .enum-told2 .given .1)
+returns-2 c =
+    let s = c .before .before .before .before .args .s .now in
+    let d : Cursor = record { at = c .before .before .loop .at; left = c .before .before .loop .n } in
+    status-end s d (c .before .before .loop .inv) (at-end s d (omega arith) (omega arith))
+
+returns-3 : tie.Need-returns-3 Inv-loop μ-loop
+returns-3 c =
+    let s = c .before .before .before .before .args .s .now in
+    let d : Cursor = record { at = c .before .before .loop .at; left = c .before .before .loop .n } in
+    status-malformed s d (c .before .before .loop .inv) (at-spare s d (omega arith) (λ h. omega arith))
 
 pub check-spec : {M : Type 1} → statement M
 check-spec =
@@ -50,11 +69,12 @@ check-spec =
     Inv-loop
     μ-loop
     loop-holds
-    step-requires
-    enum-known-after
-    loop-less
-    loop-again
+    past-record-requires
+    enum-known-end
     enum-told
     returns
-    enum-told-2
-    returns-2)
+    sub-n
+    loop-less
+    loop-again
+    returns-2
+    returns-3)
