@@ -12,13 +12,14 @@ use Rattle.extents.specs.declared.Extent.{Extent}
 use Rattle.extents.proofs.Sentences.{and-both, by-cases}
 use Rattle.merging.proofs.Rules.{Sound, Before, apart, read-first, invalid-first, Valid, sounds}
 use Rattle.committing.specs.Ranges.{Range}
-use Rattle.committing.specs.Commit.{inRange, isCommitted, lies, invalidAt, otherAt, those}
+use Rattle.committing.specs.Commit.{inRange, isCommitted, lies, invalidAt, otherAt}
+use Rattle.places.specs.Lists.{chosen}
 use Rattle.committing.specs.Bare.{writableAt}
 use Rattle.committing.specs.Seek.{Spread, Seeks}
 use Rattle.committing.proofs.Sweep.{test-said, test-holds, or-true}
 use Rattle.committing.proofs.Places.{all-at, valid-at}
 use Rattle.committing.proofs.Seek.{only-one}
-use Rattle.committing.proofs.Next.{those-one, any-those}
+use Rattle.committing.proofs.Next.{chosen-one, any-one}
 use Rattle.commits.specs.Spot.{rangeBegin, rangeEnd, isKind, always, overAt}
 
 abbrev pub stOf : (ℕ → Extent) → ℕ → ℕ
@@ -49,10 +50,10 @@ cond-false : (b : Bool) → cond b false true ≡ not b
 cond-false true = refl
 cond-false false = refl
 
-those-same : (p q : Extent → Bool) → ((e : Extent) → p e ≡ q e) → (es : List Extent) → those p es ≡ those q es
-unfolding those
-those-same p q h [] = refl
-those-same p q h (e ∷ es) = rw (h e, those-same p q h es)
+chosen-same : (p q : Extent → Bool) → ((e : Extent) → p e ≡ q e) → (es : List Extent) → chosen p es ≡ chosen q es
+unfolding chosen
+chosen-same p q h [] = refl
+chosen-same p q h (e ∷ es) = rw (h e, chosen-same p q h es)
 
 any-same : (p q : Extent → Bool) → ((e : Extent) → p e ≡ q e) → (es : List Extent) → anyOf p es ≡ anyOf q es
 unfolding anyOf
@@ -123,13 +124,13 @@ module _ (f : ℕ → Extent) (n : ℕ) (valid : Valid (listFrom f n 0)) where
     kind-not : overAt n p x (f p .offset) ≡ false → p < n → kindAt inv x (f p) ≡ false
     kind-not h l = and-false (isKind (stOf f) inv p) (lies x (f p)) (by-cases (lies x (f p)) (λ t. omega (arith, over-not p n (f p .offset) x h l, test-said (f p .offset) (f p .len) x t .0)))
 
-    those-kind : those (kindAt inv x) (listFrom f n 0) ≡ cond (overAt n p x (f p .offset)) (f p ∷ []) []
-    those-kind = those-one (kindAt inv x) f n p (overAt n p x (f p .offset)) kind-one kind-yes kind-not
+    chosen-kind : chosen (kindAt inv x) (listFrom f n 0) ≡ cond (overAt n p x (f p .offset)) (f p ∷ []) []
+    chosen-kind = chosen-one (kindAt inv x) f n p (overAt n p x (f p .offset)) kind-one kind-yes kind-not
 
     -- among them one more test
-    also : (w : Extent → Bool) → those (λ e. kindAt inv x e && w e) (listFrom f n 0) ≡ cond (overAt n p x (f p .offset) && w (f p)) (f p ∷ []) []
+    also : (w : Extent → Bool) → chosen (λ e. kindAt inv x e && w e) (listFrom f n 0) ≡ cond (overAt n p x (f p .offset) && w (f p)) (f p ∷ []) []
     also w =
-        those-one (λ e. kindAt inv x e && w e) f n p (overAt n p x (f p .offset) && w (f p)) (λ a l t. kind-one a l (and-both (kindAt inv x (f a)) (w (f a)) t .0))
+        chosen-one (λ e. kindAt inv x e && w e) f n p (overAt n p x (f p .offset) && w (f p)) (λ a l t. kind-one a l (and-both (kindAt inv x (f a)) (w (f a)) t .0))
         (λ h.
         let (u, v) = and-both (overAt n p x (f p .offset)) (w (f p)) h in
         let (l, t) = kind-yes u in
@@ -144,11 +145,11 @@ module _ (f : ℕ → Extent) (n : ℕ) (valid : Valid (listFrom f n 0)) where
             rw (lt-ltb p n l, le-leb (f p .offset) x (test-said (f p .offset) (f p .len) x r .0))
 
   module _ (x : ℕ) where
-    pub others-are : (i : ℕ) → Seeks (isKind (stOf f) false) (hiOf f) n x i → those (otherAt x) (listFrom f n 0) ≡ cond (overAt n i x (f i .offset)) (f i ∷ []) []
-    others-are i s = those-same (otherAt x) (kindAt false x) (λ e. ap (λ (t : Bool). t && lies x e) (sym (cond-false (eqb (e .state) 2)))) (listFrom f n 0) ∙ those-kind false x i s
+    pub others-are : (i : ℕ) → Seeks (isKind (stOf f) false) (hiOf f) n x i → chosen (otherAt x) (listFrom f n 0) ≡ cond (overAt n i x (f i .offset)) (f i ∷ []) []
+    others-are i s = chosen-same (otherAt x) (kindAt false x) (λ e. ap (λ (t : Bool). t && lies x e) (sym (cond-false (eqb (e .state) 2)))) (listFrom f n 0) ∙ chosen-kind false x i s
 
-    pub invalids-are : (j : ℕ) → Seeks (isKind (stOf f) true) (hiOf f) n x j → those (invalidAt x) (listFrom f n 0) ≡ cond (overAt n j x (f j .offset)) (f j ∷ []) []
-    invalids-are j s = those-same (invalidAt x) (kindAt true x) (λ e. ap (λ (t : Bool). t && lies x e) (sym (cond-true (eqb (e .state) 2)))) (listFrom f n 0) ∙ those-kind true x j s
+    pub invalids-are : (j : ℕ) → Seeks (isKind (stOf f) true) (hiOf f) n x j → chosen (invalidAt x) (listFrom f n 0) ≡ cond (overAt n j x (f j .offset)) (f j ∷ []) []
+    invalids-are j s = chosen-same (invalidAt x) (kindAt true x) (λ e. ap (λ (t : Bool). t && lies x e) (sym (cond-true (eqb (e .state) 2)))) (listFrom f n 0) ∙ chosen-kind true x j s
 
     -- under read-write or invalid
     splits : (st : ℕ) (l : Bool) → ((eqb st 0 || eqb st 2) && l) ≡ ((eqb st 2 && l) || ((cond (eqb st 2) false true && l) && eqb st 0))
@@ -174,8 +175,8 @@ module _ (f : ℕ → Extent) (n : ℕ) (valid : Valid (listFrom f n 0)) where
         any-same (writableAt x) (λ e. invalidAt x e || (kindAt false x e && eqb (e .state) 0)) (λ e. splits (e .state) (lies x e)) (listFrom f n 0)
         ∙ any-or (invalidAt x) (λ e. kindAt false x e && eqb (e .state) 0) (listFrom f n 0)
         ∙ rw (
-          any-those (invalidAt x) (listFrom f n 0) (overAt n j x (f j .offset)) (f j) (invalids-are j t),
-          any-those (λ e. kindAt false x e && eqb (e .state) 0) (listFrom f n 0) (overAt n i x (f i .offset) && eqb (f i .state) 0) (f i) (also false x i s (λ e. eqb (e .state) 0)),
+          any-one (invalidAt x) (listFrom f n 0) (overAt n j x (f j .offset)) (f j) (invalids-are j t),
+          any-one (λ e. kindAt false x e && eqb (e .state) 0) (listFrom f n 0) (overAt n i x (f i .offset) && eqb (f i .state) 0) (f i) (also false x i s (λ e. eqb (e .state) 0)),
         )
 
 -- ---- the ranges that g gives

@@ -21,7 +21,7 @@ use Rattle.committing.specs.Seek.{Spread, Seeks}
 use Rattle.committing.proofs.Sweep.{At, next, free-extents, over-x, Free}
 use Rattle.committing.proofs.Places.{all-at}
 use Rattle.committing.proofs.Seek.{seeks}
-use Rattle.committing.proofs.Next.{any-those}
+use Rattle.committing.proofs.Next.{any-one}
 use Rattle.joining.specs.Joiner.{pieceIn}
 use Rattle.joining.specs.declared.joiner.Piece.{Piece}
 use Rattle.joining.proofs.Fed.{extentsOf}
@@ -115,7 +115,7 @@ module _ (f : ℕ → Extent) (n : ℕ) (g : ℕ → Range) (m : ℕ) (valid : V
         ∙ rw (
           committed-is g m spread x (rangeRow k x) (ranges-sought x),
           others-are f n valid x (otherRow k x) (others-sought x),
-          any-those (invalidAt x) es (invalidOver k x) (f (invalidRow k x)) (invalids-are f n valid x (invalidRow k x) (invalids-sought x)),
+          any-one (invalidAt x) es (invalidOver k x) (f (invalidRow k x)) (invalids-are f n valid x (invalidRow k x) (invalids-sought x)),
           invalids-are f n valid x (invalidRow k x) (invalids-sought x),
         )
 

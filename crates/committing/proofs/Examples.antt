@@ -10,7 +10,8 @@ use Rattle.extents.specs.Extents.{anyOf}
 use Rattle.extents.specs.declared.Extent.{Extent}
 use Rattle.merging.specs.Merged.{plain, follows, place, joined}
 use Rattle.committing.specs.Ranges.{Range, unfit, anyUnfit, uncommittable}
-use Rattle.committing.specs.Commit.{isCommitted, those, between, sweepFrom, sweep, cutAt, rangeCuts, allCuts, committed}
+use Rattle.committing.specs.Commit.{isCommitted, between, sweepFrom, sweep, cutAt, rangeCuts, allCuts, committed}
+use Rattle.places.specs.Lists.{chosen}
 use Rattle.committing.specs.Bare.{bareFrom, bareOver, isBare}
 
 -- an extent of one device: its state, offset, length, storage offset; and a range
@@ -21,15 +22,15 @@ abbrev range : ℕ → ℕ → Range
 range off len = record { offset = off; len = len }
 
 pub copy-on-write : committed (range 4 4 ∷ []) (extent 1 0 12 100 ∷ extent 2 0 12 500 ∷ []) ≡ extent 1 0 4 100 ∷ extent 2 0 4 500 ∷ extent 0 4 4 504 ∷ extent 1 8 4 108 ∷ extent 2 8 4 508 ∷ []
-unfolding sameBytes plain follows place joined anyOf isCommitted those between sweepFrom sweep cutAt rangeCuts allCuts
+unfolding sameBytes plain follows place joined anyOf isCommitted chosen between sweepFrom sweep cutAt rangeCuts allCuts
 copy-on-write = refl
 
 pub follows-written : committed (range 0 2 ∷ range 2 4 ∷ []) (extent 0 0 4 100 ∷ extent 2 4 4 104 ∷ []) ≡ extent 0 0 6 100 ∷ extent 2 6 2 106 ∷ []
-unfolding sameBytes plain follows place joined anyOf isCommitted those between sweepFrom sweep cutAt rangeCuts allCuts
+unfolding sameBytes plain follows place joined anyOf isCommitted chosen between sweepFrom sweep cutAt rangeCuts allCuts
 follows-written = refl
 
 pub no-range : committed [] (extent 1 0 4 100 ∷ extent 2 2 2 500 ∷ extent 1 4 4 104 ∷ []) ≡ extent 1 0 8 100 ∷ extent 2 2 2 500 ∷ []
-unfolding sameBytes plain follows place joined anyOf isCommitted those between sweepFrom sweep cutAt rangeCuts allCuts
+unfolding sameBytes plain follows place joined anyOf isCommitted chosen between sweepFrom sweep cutAt rangeCuts allCuts
 no-range = refl
 
 pub under-read : isBare (range 0 4 ∷ []) (extent 1 0 4 100 ∷ extent 2 0 2 500 ∷ []) ≡ true

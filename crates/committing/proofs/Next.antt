@@ -13,8 +13,11 @@ use Rattle.extents.specs.Extents.{listFrom, anyOf}
 use Rattle.extents.specs.declared.Extent.{Extent}
 use Rattle.extents.proofs.Sentences.{by-cases}
 use Rattle.committing.specs.Ranges.{Range}
-use Rattle.committing.specs.Commit.{those, cutAt, rangeCuts, allCuts}
+use Rattle.committing.specs.Commit.{cutAt, rangeCuts, allCuts}
+use Rattle.places.specs.Lists.{chosen, none}
 use Rattle.committing.proofs.Cuts.{Rising, Sorted, Cut, Ends, ExtentEnds, RangeEnds, at-or-above}
+use Rattle.committing.proofs.Places.{at-all}
+use Rattle.committing.proofs.Sweep.{none-chosen}
 use Rattle.committing.specs.Seek.{above}
 
 -- ---- what holds of every begin and end holds of every cut
@@ -85,51 +88,38 @@ no-cut x [] h = refl
 no-cut x (c ∷ cuts) h = rw (le-ltb x c (h c (inl refl))) (no-cut x cuts (λ d g. h d (inr g)))
 
 -- ---- what a test chooses, if it chooses one place at most
-those-none : (q : Extent → Bool) (f : ℕ → Extent) (n k : ℕ) → ((a : ℕ) → k ≤ a → a < k + n → q (f a) ≡ false) → those q (listFrom f n k) ≡ []
-unfolding those listFrom
-those-none q f zero k h = refl
-those-none q f (suc n) k h = rw (h k (omega arith) (omega arith)) (those-none q f n (k + 1) (λ a l g. h a (omega arith) (omega arith)))
+none-from : (q : Extent → Bool) (f : ℕ → Extent) (n k : ℕ) → ((a : ℕ) → k ≤ a → a < k + n → q (f a) ≡ false) → chosen q (listFrom f n k) ≡ []
+none-from q f n k h = none-chosen q (listFrom f n k) (at-all (λ e. q e ≡ false) f n k h)
 
-those-from : (q : Extent → Bool) (f : ℕ → Extent) (n k p : ℕ) → k ≤ p → p < k + n → ((a : ℕ) → k ≤ a → a < k + n → q (f a) ≡ true → a ≡ p) → q (f p) ≡ true → those q (listFrom f n k) ≡ f p ∷ []
-unfolding those listFrom
-those-from q f zero k p l g one h = absurd (omega arith)
-those-from q f (suc n) k p l g one h = by (ℕ-discrete k p) (λ u v. those-from q f n (k + 1) p u v (λ a w z t. one a (omega arith) (omega arith) t) h)
+chosen-from : (q : Extent → Bool) (f : ℕ → Extent) (n k p : ℕ) → k ≤ p → p < k + n → ((a : ℕ) → k ≤ a → a < k + n → q (f a) ≡ true → a ≡ p) → q (f p) ≡ true → chosen q (listFrom f n k) ≡ f p ∷ []
+unfolding chosen listFrom
+chosen-from q f zero k p l g one h = absurd (omega arith)
+chosen-from q f (suc n) k p l g one h = by (ℕ-discrete k p) (λ u v. chosen-from q f n (k + 1) p u v (λ a w z t. one a (omega arith) (omega arith) t) h)
   where
-    by : Dec (k ≡ p) → (k + 1 ≤ p → p < k + 1 + n → those q (listFrom f n (k + 1)) ≡ f p ∷ []) → cond (q (f k)) (f k ∷ those q (listFrom f n (k + 1))) (those q (listFrom f n (k + 1))) ≡ f p ∷ []
+    by : Dec (k ≡ p) → (k + 1 ≤ p → p < k + 1 + n → chosen q (listFrom f n (k + 1)) ≡ f p ∷ []) → cond (q (f k)) (f k ∷ chosen q (listFrom f n (k + 1))) (chosen q (listFrom f n (k + 1))) ≡ f p ∷ []
     by (yes e) ih =
-        rw (e, h, those-none q f n (p + 1) (λ a u v. by-cases (q (f a)) (λ t. absurd (omega (arith, one a (omega arith) (omega arith) t)))))
+        rw (e, h, none-from q f n (p + 1) (λ a u v. by-cases (q (f a)) (λ t. absurd (omega (arith, one a (omega arith) (omega arith) t)))))
     by (no e) ih = rw (by-cases (q (f k)) (λ t. e (one k (omega arith) (omega arith) t))) (ih (omega arith) (omega arith))
 
-pub those-one : (q : Extent → Bool) (f : ℕ → Extent) (n p : ℕ) (here : Bool) → ((a : ℕ) → a < n → q (f a) ≡ true → a ≡ p) → (here ≡ true → (p < n) × (q (f p) ≡ true)) → (here ≡ false → p < n → q (f p) ≡ false)
-    → those q (listFrom f n 0) ≡ cond here (f p ∷ []) []
-those-one q f n p true one yes-here not-here = those-from q f n 0 p (omega arith) (omega (arith, yes-here refl .0)) (λ a l g t. one a (omega (arith, g)) t) (yes-here refl .1)
-those-one q f n p false one yes-here not-here =
-    those-none q f n 0 (λ a l g. by-cases (q (f a)) (λ t.
+pub chosen-one : (q : Extent → Bool) (f : ℕ → Extent) (n p : ℕ) (here : Bool) → ((a : ℕ) → a < n → q (f a) ≡ true → a ≡ p) → (here ≡ true → (p < n) × (q (f p) ≡ true)) → (here ≡ false → p < n → q (f p) ≡ false)
+    → chosen q (listFrom f n 0) ≡ cond here (f p ∷ []) []
+chosen-one q f n p true one yes-here not-here = chosen-from q f n 0 p (omega arith) (omega (arith, yes-here refl .0)) (λ a l g t. one a (omega (arith, g)) t) (yes-here refl .1)
+chosen-one q f n p false one yes-here not-here =
+    none-from q f n 0 (λ a l g. by-cases (q (f a)) (λ t.
     let k : a < n = omega (arith, g) in
     let e : a ≡ p = one a k t in
     false≢true (sym (not-here refl (rw e at k)) ∙ rw e at t)))
 
-pub any-those : (q : Extent → Bool) (es : List Extent) (here : Bool) (e : Extent) → those q es ≡ cond here (e ∷ []) [] → anyOf q es ≡ here
-unfolding those anyOf
-any-those q es true e h = some es e [] h
+any-chosen : (q : Extent → Bool) (es : List Extent) → anyOf q es ≡ not (none (chosen q es))
+unfolding chosen anyOf none
+any-chosen q [] = refl
+any-chosen q (e ∷ es) = by (q e) (any-chosen q es)
   where
-    some : (cs : List Extent) (d : Extent) (ds : List Extent) → those q cs ≡ d ∷ ds → anyOf q cs ≡ true
-    some [] d ds g =
-        let z = ap length g in
-        absurd (omega (arith, z))
-    some (c ∷ cs) d ds g = by (q c) g (some cs d ds)
-      where
-        by : (t : Bool) → cond t (c ∷ those q cs) (those q cs) ≡ d ∷ ds → (those q cs ≡ d ∷ ds → anyOf q cs ≡ true) → (t || anyOf q cs) ≡ true
-        by true r ih = refl
-        by false r ih = ih r
-any-those q es false e h = none es h
-  where
-    none : (cs : List Extent) → those q cs ≡ [] → anyOf q cs ≡ false
-    none [] g = refl
-    none (c ∷ cs) g = by (q c) g (none cs)
-      where
-        by : (t : Bool) → cond t (c ∷ those q cs) (those q cs) ≡ [] → (those q cs ≡ [] → anyOf q cs ≡ false) → (t || anyOf q cs) ≡ false
-        by true r ih =
-            let z = ap length r in
-            absurd (omega (arith, z))
-        by false r ih = ih r
+    by : (t : Bool) → anyOf q es ≡ not (none (chosen q es)) → (t || anyOf q es) ≡ not (none (cond t (e ∷ chosen q es) (chosen q es)))
+    by true ih = refl
+    by false ih = ih
+
+pub any-one : (q : Extent → Bool) (es : List Extent) (here : Bool) (e : Extent) → chosen q es ≡ cond here (e ∷ []) [] → anyOf q es ≡ here
+unfolding none
+any-one q es true e h = any-chosen q es ∙ ap (λ (l : List Extent). not (none l)) h
+any-one q es false e h = any-chosen q es ∙ ap (λ (l : List Extent). not (none l)) h

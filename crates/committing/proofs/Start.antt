@@ -14,10 +14,11 @@ use Rattle.extents.specs.declared.Extent.{Extent}
 use Rattle.extents.proofs.Sentences.{by-cases}
 use Rattle.merging.specs.Meaning.{Some, All}
 use Rattle.committing.specs.Ranges.{Range}
-use Rattle.committing.specs.Commit.{inRange, isCommitted, lies, invalidAt, otherAt, those, between, sweepFrom, sweep, cutAt, rangeCuts, allCuts}
+use Rattle.committing.specs.Commit.{inRange, isCommitted, lies, invalidAt, otherAt, between, sweepFrom, sweep, cutAt, rangeCuts, allCuts}
+use Rattle.places.specs.Lists.{chosen}
 use Rattle.merging.proofs.Rules.{all-map}
 use Rattle.committing.proofs.Cuts.{Rising, Sorted, Cut, Ends, ExtentEnds, RangeEnds, all-cuts, Known, at-or-above, ends-map}
-use Rattle.committing.proofs.Sweep.{At, test-said}
+use Rattle.committing.proofs.Sweep.{At, test-said, none-chosen}
 use Rattle.committing.specs.Bare.{bareAt, bareFrom, bareOver}
 use Rattle.committing.specs.Seek.{above}
 use Rattle.committing.proofs.Next.{above-rising, rising-sorted}
@@ -52,11 +53,6 @@ at-above rs es x =
     }
 
 -- ---- before the first cut
-none-those : (p : Extent → Bool) (es : List Extent) → All (λ e. p e ≡ false) es → those p es ≡ []
-unfolding those
-none-those p [] h = refl
-none-those p (e ∷ es) h = rw (h .0) (none-those p es (h .1))
-
 none-committed : (x : ℕ) (rs : List Range) → All (λ r. inRange x r ≡ false) rs → isCommitted rs x ≡ false
 unfolding isCommitted
 none-committed x [] h = refl
@@ -78,11 +74,11 @@ module _ (rs : List Range) (es : List Extent) where
     and-false true q h = h
     and-false false q h = refl
 
-    no-other : those (otherAt 0) es ≡ []
-    no-other = none-those (otherAt 0) es (all-map (λ e k. and-false (not (eqb (e .state) 2)) (lies 0 e) (not-there a (e .offset) (e .len) pos (low (e .offset) (k .0)))) es ke)
+    no-other : chosen (otherAt 0) es ≡ []
+    no-other = none-chosen (otherAt 0) es (all-map (λ e k. and-false (not (eqb (e .state) 2)) (lies 0 e) (not-there a (e .offset) (e .len) pos (low (e .offset) (k .0)))) es ke)
 
-    no-invalid : those (invalidAt 0) es ≡ []
-    no-invalid = none-those (invalidAt 0) es (all-map (λ e k. and-false (eqb (e .state) 2) (lies 0 e) (not-there a (e .offset) (e .len) pos (low (e .offset) (k .0)))) es ke)
+    no-invalid : chosen (invalidAt 0) es ≡ []
+    no-invalid = none-chosen (invalidAt 0) es (all-map (λ e k. and-false (eqb (e .state) 2) (lies 0 e) (not-there a (e .offset) (e .len) pos (low (e .offset) (k .0)))) es ke)
 
     nothing-before : (b : ℕ) → between rs es 0 b ≡ []
     unfolding between

@@ -15,7 +15,8 @@ use Rattle.extents.specs.declared.Extent.{Extent}
 use Rattle.extents.proofs.Sentences.{and-both}
 use Rattle.merging.specs.Meaning.{Some, All, Meaning, stored, hole, meaningOf, Gives, Says}
 use Rattle.committing.specs.Ranges.{Range, Within, Committed}
-use Rattle.committing.specs.Commit.{inRange, isCommitted, lies, invalidAt, otherAt, partAs, part, writtenPart, those, between, sweepFrom, sweep, allCuts}
+use Rattle.committing.specs.Commit.{inRange, isCommitted, lies, invalidAt, otherAt, partAs, part, writtenPart, between, sweepFrom, sweep, allCuts}
+use Rattle.places.specs.Lists.{chosen}
 use Rattle.committing.specs.Committing.{Turned, AfterCommit, turned, kept}
 use Rattle.merging.proofs.Rules.{all-map, all-map₂, all-append, some-all, some-left, some-right, some-append, some-either, met, Sound, Before, apart, read-first, invalid-first, Valid, valid-append}
 use Rattle.merging.proofs.Runs.{alike-means}
@@ -105,34 +106,39 @@ module _ (a b x : ℕ) (at-a : a ≤ x) (below-b : x < b) where
   part-here m e f l g = record { over = lies-here e f l; means = sym (part-means e l) ∙ g .means }
 
 -- ---- the parts that are chosen
-pub chosen-said : (P : Extent → Type 0) (p : Extent → Bool) (g : Extent → Extent) (es : List Extent) → Some P (map g (those p es)) → Some (λ e. (p e ≡ true) × P (g e)) es
-unfolding those
+pub chosen-said : (P : Extent → Type 0) (p : Extent → Bool) (g : Extent → Extent) (es : List Extent) → Some P (map g (chosen p es)) → Some (λ e. (p e ≡ true) × P (g e)) es
+unfolding chosen
 chosen-said P p g (e ∷ es) h = by (p e) refl h (chosen-said P p g es)
   where
-    by : (t : Bool) → p e ≡ t → Some P (map g (cond t (e ∷ those p es) (those p es))) → (Some P (map g (those p es)) → Some (λ c. (p c ≡ true) × P (g c)) es)
+    by : (t : Bool) → p e ≡ t → Some P (map g (cond t (e ∷ chosen p es) (chosen p es))) → (Some P (map g (chosen p es)) → Some (λ c. (p c ≡ true) × P (g c)) es)
         → Some (λ c. (p c ≡ true) × P (g c)) (e ∷ es)
     by true q (inl k) ih = inl (q, k)
     by true q (inr k) ih = inr (ih k)
     by false q k ih = inr (ih k)
 
-pub chosen-holds : (P : Extent → Type 0) (p : Extent → Bool) (g : Extent → Extent) (es : List Extent) → Some (λ e. (p e ≡ true) × P (g e)) es → Some P (map g (those p es))
-unfolding those
+pub chosen-holds : (P : Extent → Type 0) (p : Extent → Bool) (g : Extent → Extent) (es : List Extent) → Some (λ e. (p e ≡ true) × P (g e)) es → Some P (map g (chosen p es))
+unfolding chosen
 chosen-holds P p g (e ∷ es) (inl (q, k)) = rw q (inl k)
 chosen-holds P p g (e ∷ es) (inr h) = by (p e) (chosen-holds P p g es h)
   where
-    by : (t : Bool) → Some P (map g (those p es)) → Some P (map g (cond t (e ∷ those p es) (those p es)))
+    by : (t : Bool) → Some P (map g (chosen p es)) → Some P (map g (cond t (e ∷ chosen p es) (chosen p es)))
     by true k = inr k
     by false k = k
 
 pub chosen-all : {C : Extent → Type 0} (P : Extent → Type 0) (p : Extent → Bool) (g : Extent → Extent) → ((e : Extent) → C e → p e ≡ true → P (g e))
-    → (es : List Extent) → All C es → All P (map g (those p es))
-unfolding those
+    → (es : List Extent) → All C es → All P (map g (chosen p es))
+unfolding chosen
 chosen-all P p g f [] c = tt
 chosen-all P p g f (e ∷ es) c = by (p e) refl (chosen-all P p g f es (c .1))
   where
-    by : (t : Bool) → p e ≡ t → All P (map g (those p es)) → All P (map g (cond t (e ∷ those p es) (those p es)))
+    by : (t : Bool) → p e ≡ t → All P (map g (chosen p es)) → All P (map g (cond t (e ∷ chosen p es) (chosen p es)))
     by true q ih = (f e (c .0) q, ih)
     by false q ih = ih
+
+pub none-chosen : (p : Extent → Bool) (es : List Extent) → All (λ e. p e ≡ false) es → chosen p es ≡ []
+unfolding chosen
+none-chosen p [] h = refl
+none-chosen p (e ∷ es) h = rw (h .0) (none-chosen p es (h .1))
 
 pub any-said : (p : Extent → Bool) (es : List Extent) → anyOf p es ≡ true → Some (λ e. p e ≡ true) es
 unfolding anyOf
@@ -173,7 +179,7 @@ module _ (rs : List Range) (es : List Extent) (a b x : ℕ) (at-a : a ≤ x) (be
       each e f g = rw (eq-eqb (e .state) 2 (stored-state e x 2 n d (g .means) .0)) (lies-there a b x at-a below-b e f (g .over))
 
   -- committed and invalid
-  turned-there : isCommitted rs a ≡ true → (m : Meaning) → Says (map (writtenPart a b) (those (invalidAt a) es)) x m → AfterCommit rs es x m
+  turned-there : isCommitted rs a ≡ true → (m : Meaning) → Says (map (writtenPart a b) (chosen (invalidAt a) es)) x m → AfterCommit rs es x m
   unfolding meaningOf
   turned-there c m s =
       met each es (all-map₂ {R = λ e. Free a b e × ((y : ℕ) → Covers e y → Says es y (meaningOf e y))} (λ e f o. (f, o)) es ke (own es))
@@ -188,7 +194,7 @@ module _ (rs : List Range) (es : List Extent) (a b x : ℕ) (at-a : a ≤ x) (be
           (record { in-range = committed-said a b x at-a below-b rs kr c; was-invalid = rw (invalid-means e x (eqb-true (e .state) 2 q)) at (o x (lies-here a b x at-a below-b e f l)) })
           (sym (g .means) ∙ ap (λ (k : ℕ). stored 0 (e .device) k) n)
 
-  turned-here : (d : List ℕ) (n : ℕ) → Says es x (stored 2 d n) → Says (map (writtenPart a b) (those (invalidAt a) es)) x (stored 0 d n)
+  turned-here : (d : List ℕ) (n : ℕ) → Says es x (stored 2 d n) → Says (map (writtenPart a b) (chosen (invalidAt a) es)) x (stored 0 d n)
   unfolding meaningOf
   turned-here d n s = chosen-holds (Gives x (stored 0 d n)) (invalidAt a) (writtenPart a b) es (some-all each es ke s)
     where
@@ -201,14 +207,14 @@ module _ (rs : List Range) (es : List Extent) (a b x : ℕ) (at-a : a ≤ x) (be
           (rw (eq-eqb (e .state) 2 q) l, record { over = record { from = at-a; below = omega arith }; means = rw (dq, k) })
 
   -- all others
-  kept-there : (m : Meaning) → Says (map (part a b) (those (otherAt a) es) ++ map (part a b) (those (invalidAt a) es)) x m → Says es x m
-  kept-there m s = by (some-append (Gives x m) (map (part a b) (those (otherAt a) es)) (map (part a b) (those (invalidAt a) es)) s)
+  kept-there : (m : Meaning) → Says (map (part a b) (chosen (otherAt a) es) ++ map (part a b) (chosen (invalidAt a) es)) x m → Says es x m
+  kept-there m s = by (some-append (Gives x m) (map (part a b) (chosen (otherAt a) es)) (map (part a b) (chosen (invalidAt a) es)) s)
     where
-      by : Says (map (part a b) (those (otherAt a) es)) x m ⊎ Says (map (part a b) (those (invalidAt a) es)) x m → Says es x m
+      by : Says (map (part a b) (chosen (otherAt a) es)) x m ⊎ Says (map (part a b) (chosen (invalidAt a) es)) x m → Says es x m
       by (inl h) = some-all (λ e f k. part-here a b x at-a below-b m e f (and-both (not (eqb (e .state) 2)) (lies a e) (k .0) .1) (k .1)) es ke (chosen-said (Gives x m) (otherAt a) (part a b) es h)
       by (inr h) = some-all (λ e f k. part-here a b x at-a below-b m e f (and-both (eqb (e .state) 2) (lies a e) (k .0) .1) (k .1)) es ke (chosen-said (Gives x m) (invalidAt a) (part a b) es h)
 
-  kept-here : (m : Meaning) → Says es x m → Says (map (part a b) (those (otherAt a) es) ++ map (part a b) (those (invalidAt a) es)) x m
+  kept-here : (m : Meaning) → Says es x m → Says (map (part a b) (chosen (otherAt a) es) ++ map (part a b) (chosen (invalidAt a) es)) x m
   kept-here m s =
       by (some-either each es (some-all (λ e f g. part-there a b x at-a below-b m e f g) es ke s))
     where
@@ -220,16 +226,16 @@ module _ (rs : List Range) (es : List Extent) (a b x : ℕ) (at-a : a ≤ x) (be
           at false q = inl (l, g)
 
       by : Some (λ e. (otherAt a e ≡ true) × Gives x m (part a b e)) es ⊎ Some (λ e. (invalidAt a e ≡ true) × Gives x m (part a b e)) es
-          → Says (map (part a b) (those (otherAt a) es) ++ map (part a b) (those (invalidAt a) es)) x m
-      by (inl h) = some-left (Gives x m) (map (part a b) (those (otherAt a) es)) (map (part a b) (those (invalidAt a) es)) (chosen-holds (Gives x m) (otherAt a) (part a b) es h)
-      by (inr h) = some-right (Gives x m) (map (part a b) (those (otherAt a) es)) (map (part a b) (those (invalidAt a) es)) (chosen-holds (Gives x m) (invalidAt a) (part a b) es h)
+          → Says (map (part a b) (chosen (otherAt a) es) ++ map (part a b) (chosen (invalidAt a) es)) x m
+      by (inl h) = some-left (Gives x m) (map (part a b) (chosen (otherAt a) es)) (map (part a b) (chosen (invalidAt a) es)) (chosen-holds (Gives x m) (otherAt a) (part a b) es h)
+      by (inr h) = some-right (Gives x m) (map (part a b) (chosen (otherAt a) es)) (map (part a b) (chosen (invalidAt a) es)) (chosen-holds (Gives x m) (invalidAt a) (part a b) es h)
 
   between-says : (m : Meaning) → Says (between rs es a b) x m ↔ AfterCommit rs es x m
   unfolding between
   between-says m = by (isCommitted rs a && anyOf (invalidAt a) es) refl
     where
       by : (t : Bool) → (isCommitted rs a && anyOf (invalidAt a) es) ≡ t
-          → Says (cond t (map (writtenPart a b) (those (invalidAt a) es)) (map (part a b) (those (otherAt a) es) ++ map (part a b) (those (invalidAt a) es))) x m ↔ AfterCommit rs es x m
+          → Says (cond t (map (writtenPart a b) (chosen (invalidAt a) es)) (map (part a b) (chosen (otherAt a) es) ++ map (part a b) (chosen (invalidAt a) es))) x m ↔ AfterCommit rs es x m
       by true q = (turned-there (both .0) m, back)
         where
           both : (isCommitted rs a ≡ true) × (anyOf (invalidAt a) es ≡ true)
@@ -245,12 +251,12 @@ module _ (rs : List Range) (es : List Extent) (a b x : ℕ) (at-a : a ≤ x) (be
                   n (e .device) (e .storage + (x - e .offset))
                   (record { in-range = committed-said a b x at-a below-b rs kr (both .0); was-invalid = rw (invalid-means e x (eqb-true (e .state) 2 s)) at (o x (lies-here a b x at-a below-b e f l)) })
 
-          back : AfterCommit rs es x m → Says (map (writtenPart a b) (those (invalidAt a) es)) x m
+          back : AfterCommit rs es x m → Says (map (writtenPart a b) (chosen (invalidAt a) es)) x m
           back (turned d n t e) = rw e (turned-here d n (t .was-invalid))
           back (kept n s) = absurd (some-invalid n)
       by false q = (λ s. kept (λ d n t. false≢true (sym q ∙ turns-holds d n t)) (kept-there m s), back)
         where
-          back : AfterCommit rs es x m → Says (map (part a b) (those (otherAt a) es) ++ map (part a b) (those (invalidAt a) es)) x m
+          back : AfterCommit rs es x m → Says (map (part a b) (chosen (otherAt a) es) ++ map (part a b) (chosen (invalidAt a) es)) x m
           back (turned d n t e) = absurd (false≢true (sym q ∙ turns-holds d n t))
           back (kept n s) = kept-here m s
 
@@ -258,12 +264,12 @@ module _ (rs : List Range) (es : List Extent) (a b x : ℕ) (at-a : a ≤ x) (be
 chosen-valid : {C : Extent → Type 0} (p : Extent → Bool) (g : Extent → Extent)
     → ((e : Extent) → C e → p e ≡ true → Sound e → Sound (g e))
     → ((e c : Extent) → p e ≡ true → p c ≡ true → Before e c → Before (g e) (g c))
-    → (es : List Extent) → Valid es → All C es → Valid (map g (those p es))
-unfolding those
+    → (es : List Extent) → Valid es → All C es → Valid (map g (chosen p es))
+unfolding chosen
 chosen-valid p g s b [] v c = tt
 chosen-valid p g s b (e ∷ es) v c = by (p e) refl (chosen-valid p g s b es (v .2) (c .1))
   where
-    by : (t : Bool) → p e ≡ t → Valid (map g (those p es)) → Valid (map g (cond t (e ∷ those p es) (those p es)))
+    by : (t : Bool) → p e ≡ t → Valid (map g (chosen p es)) → Valid (map g (cond t (e ∷ chosen p es) (chosen p es)))
     by true q ih = (s e (c .0) q (v .0), chosen-all (Before (g e)) p g (λ d h r. b e d q r h) es (v .1), ih)
     by false q ih = ih
 
@@ -333,17 +339,17 @@ module _ (a b : ℕ) (less : a < b) where
   unfolding between
   between-valid rs es v k = by (isCommitted rs a && anyOf (invalidAt a) es)
     where
-      invalids : Valid (map (part a b) (those (invalidAt a) es))
+      invalids : Valid (map (part a b) (chosen (invalidAt a) es))
       invalids =
           chosen-valid (invalidAt a) (part a b) (λ e f t s. part-sound e (e .state) (s .known) (λ z. z) f (and-both (eqb (e .state) 2) (lies a e) t .1) s)
           (λ e c s t h. absurd (one-invalid a e c s t h)) es v k
 
-      others : Valid (map (part a b) (those (otherAt a) es))
+      others : Valid (map (part a b) (chosen (otherAt a) es))
       others =
           chosen-valid (otherAt a) (part a b) (λ e f t s. part-sound e (e .state) (s .known) (λ z. z) f (and-both (not (eqb (e .state) 2)) (lies a e) t .1) s)
           (λ e c s t h. absurd (one-other a e c s t h)) es v k
 
-      writtens : Valid (map (writtenPart a b) (those (invalidAt a) es))
+      writtens : Valid (map (writtenPart a b) (chosen (invalidAt a) es))
       writtens =
           chosen-valid (invalidAt a) (writtenPart a b)
           (λ e f t s.
@@ -358,11 +364,11 @@ module _ (a b : ℕ) (less : a < b) where
           let two : c .state ≡ 2 = eqb-true (c .state) 2 q in
           read-first (h (covered a e l) (covered a c r) (eqb-false (e .state) 2 (not-true (eqb (e .state) 2) p)) two) two (omega arith)
 
-      by : (t : Bool) → Valid (cond t (map (writtenPart a b) (those (invalidAt a) es)) (map (part a b) (those (otherAt a) es) ++ map (part a b) (those (invalidAt a) es)))
+      by : (t : Bool) → Valid (cond t (map (writtenPart a b) (chosen (invalidAt a) es)) (map (part a b) (chosen (otherAt a) es) ++ map (part a b) (chosen (invalidAt a) es)))
       by true = writtens
       by false =
-          valid-append (map (part a b) (those (otherAt a) es)) (map (part a b) (those (invalidAt a) es)) others invalids
-          (chosen-all (λ e. All (Before e) (map (part a b) (those (invalidAt a) es))) (otherAt a) (part a b)
+          valid-append (map (part a b) (chosen (otherAt a) es)) (map (part a b) (chosen (invalidAt a) es)) others invalids
+          (chosen-all (λ e. All (Before e) (map (part a b) (chosen (invalidAt a) es))) (otherAt a) (part a b)
           (λ e h s. chosen-all (Before (part a b e)) (invalidAt a) (part a b) (λ c r t. cross e c r s t) es h)
           es (pairs a es v))
 
@@ -371,10 +377,10 @@ module _ (a b : ℕ) (less : a < b) where
   unfolding between
   between-lies rs es k = by (isCommitted rs a && anyOf (invalidAt a) es)
     where
-      by : (t : Bool) → All (Spans a b) (cond t (map (writtenPart a b) (those (invalidAt a) es)) (map (part a b) (those (otherAt a) es) ++ map (part a b) (those (invalidAt a) es)))
+      by : (t : Bool) → All (Spans a b) (cond t (map (writtenPart a b) (chosen (invalidAt a) es)) (map (part a b) (chosen (otherAt a) es) ++ map (part a b) (chosen (invalidAt a) es)))
       by true = chosen-all (Spans a b) (invalidAt a) (writtenPart a b) (λ e f t. (refl, omega arith)) es k
       by false =
-          all-append (Spans a b) (map (part a b) (those (otherAt a) es)) (map (part a b) (those (invalidAt a) es))
+          all-append (Spans a b) (map (part a b) (chosen (otherAt a) es)) (map (part a b) (chosen (invalidAt a) es))
           (chosen-all (Spans a b) (otherAt a) (part a b) (λ e f t. (refl, omega arith)) es k)
           (chosen-all (Spans a b) (invalidAt a) (part a b) (λ e f t. (refl, omega arith)) es k)
 

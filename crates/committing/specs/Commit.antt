@@ -8,6 +8,7 @@ use lib.Dec.{leb, ltb, eqb}
 use Rattle.extents.specs.Extents.{anyOf}
 use Rattle.extents.specs.declared.Extent.{Extent}
 use Rattle.merging.specs.Merged.{merged}
+use Rattle.places.specs.Lists.{chosen}
 use Rattle.committing.specs.Ranges.{Range}
 
 -- the byte x lies in the range, and in one of them
@@ -38,16 +39,12 @@ part a b e = partAs (e .state) a b e
 abbrev pub writtenPart : ℕ → ℕ → Extent → Extent
 writtenPart a b e = partAs 0 a b e
 
-unfoldable pub those : (Extent → Bool) → List Extent → List Extent
-those p [] = []
-those p (e ∷ es) = cond (p e) (e ∷ those p es) (those p es)
-
 -- from a up to b, between which nothing begins or ends: committed and invalid is read-write, and nothing else; all other bytes stay, read before invalid
 unfoldable pub between : List Range → List Extent → ℕ → ℕ → List Extent
 between rs es a b =
     cond (isCommitted rs a && anyOf (invalidAt a) es)
-    (map (writtenPart a b) (those (invalidAt a) es))
-    (map (part a b) (those (otherAt a) es) ++ map (part a b) (those (invalidAt a) es))
+    (map (writtenPart a b) (chosen (invalidAt a) es))
+    (map (part a b) (chosen (otherAt a) es) ++ map (part a b) (chosen (invalidAt a) es))
 
 unfoldable pub sweepFrom : List Range → List Extent → ℕ → List ℕ → List Extent
 sweepFrom rs es a [] = []
