@@ -5,6 +5,7 @@ use crate::spot::Turn;
 use joining::joiner;
 use joining::joiner::Piece;
 use joining::joiner::Run;
+use layouts::placing;
 ghost use mathlib.Core.Path.{_≡_};
 ghost use mathlib.Core.Bool.{true, cond};
 ghost use Prim.Native.Nat.{_+_, _-_, _*_, _^_, _<_, _≤_};
@@ -50,7 +51,7 @@ fn put_longer(d: &mut [u8], o: Run, write: bool)
     ensures { λ _. ⌜ now (d .exit) ≡ cond write (storedLonger o (now (d .entry))) (now (d .entry)) ⌝ }
 {
     if write {
-        joiner::put_longer(d, o);
+        placing::put_length(d, o.slot, o.end - o.offset);
     }
 }
 

@@ -1,6 +1,6 @@
 -- All of a list that is valid: the joiner's runs are those of `merged`. In this order: devices of 16 bytes; the runs never get fewer; where the joiner stands;
 -- one more piece, and its bytes; all pieces: how many runs, their bytes, what each piece asks; the extents of columns.
-use Prim.Native.Nat.{ℕ, zero, suc, _+_, _-_, _*_, _^_, _<_, _≤_}
+use Prim.Native.Nat.{ℕ, zero, suc, _+_, _-_, _*_, _%_, _^_, _<_, _≤_}
 use mathlib.Core.Path.{_≡_, refl, sym, ap, _∙_}
 use mathlib.Core.List.{List, [], _∷_, _++_, map}
 use mathlib.Core.Logic.{_⊎_, inl, inr}
@@ -109,11 +109,11 @@ module _ (devs : List ℕ) (r : Runs) (runs : List Extent) (p : Piece) (ps : Lis
       by : Stepped devs r runs p (g .valid) (g .to-come .0) (g .later .0) (g .tracks) → wrote devs r had p ≡ sets d 4 (bytesOf (place e runs))
       by (longer-run b h f q) =
           let x = plain-shape (pieceIn devs p) in
-          let l : p .offset + p .len - o .offset ≡ at runs (o .slot) .len + e .len = omega (arith, h .begins, h .ends, f .in-file, x .offsets, x .lens) in
+          let l : (p .offset + p .len) % 2 ^ 64 - o .offset ≡ at runs (o .slot) .len + e .len = omega (arith, h .begins, h .ends, f .in-file, x .offsets, x .lens) in
           let z : 4 + 44 * o .slot + 24 ≡ 4 + (44 * o .slot + 24) = omega arith in
           let inside : 4 + 44 * o .slot + 44 ≤ length had = omega (arith, room, h .inside, ap length q, length-set runs (o .slot) (grown (at runs (o .slot)) e), length-sets d 4 (bytesOf runs)) in
           rw (b, q)
-          (roomy-length had (o .slot) (p .offset + p .len - o .offset) inside
+          (roomy-length had (o .slot) ((p .offset + p .len) % 2 ^ 64 - o .offset) inside
           ∙ rw (l, z) (store-length d runs (o .slot) (at runs (o .slot) .len + e .len) (h .inside) (g .whole)))
       by (fresh-run b q) =
           let inside : 4 + 44 * r .count + 44 ≤ length had = omega (arith, room, g .tracks .counted, ap length q, length-append runs (e ∷ []), length-sets d 4 (bytesOf runs)) in
@@ -144,8 +144,8 @@ set-either P (a ∷ l) (suc i) zero x d p q = q
 set-either P (a ∷ l) (suc i) (suc j) x d p q = set-either P l i j x d p q
 
 module _ (devs : List ℕ) (r : Runs) (p : Piece) where
-  pub next-held : There devs p → Held devs r → HeldRun devs (nextRun (runOf r (p .state)) p (r .count) (joins devs r p))
-  next-held t h = by (joins devs r p) refl
+  pub next-held : There devs p → p .offset + p .len < 2 ^ 64 → Held devs r → HeldRun devs (nextRun (runOf r (p .state)) p (r .count) (joins devs r p))
+  next-held t f h = by (joins devs r p) refl
     where
       by : (b : Bool) → joins devs r p ≡ b → HeldRun devs (nextRun (runOf r (p .state)) p (r .count) b)
       by true q =
@@ -153,10 +153,10 @@ module _ (devs : List ℕ) (r : Runs) (p : Piece) where
           record { row-there = had .row-there; forward = omega (arith, had .forward, joined-end devs (runOf r (p .state)) p q) }
       by false q = record { row-there = omega arith; forward = omega arith }
 
-  pub fed-held : There devs p → Held devs r → Held devs (fed devs r p)
+  pub fed-held : There devs p → p .offset + p .len < 2 ^ 64 → Held devs r → Held devs (fed devs r p)
   unfolding fed
-  fed-held t h k =
-      set-either (HeldRun devs) (r .latest) (placeOf (p .state)) k (nextRun (runOf r (p .state)) p (r .count) (joins devs r p)) zeroRun (next-held t h) (h k)
+  fed-held t f h k =
+      set-either (HeldRun devs) (r .latest) (placeOf (p .state)) k (nextRun (runOf r (p .state)) p (r .count) (joins devs r p)) zeroRun (next-held t f h) (h k)
 
   pub fed-few : fed devs r p .count ≤ r .count + 1
   unfolding fed
@@ -177,7 +177,7 @@ pub feeds-all : (devs : List ℕ) (r : Runs) (runs : List Extent) (ps : List Pie
 feeds-all devs r runs [] g h n = tt
 feeds-all devs r runs (p ∷ ps) g h n = (
   record { device-there = g .there .0; in-file = in-file; few = omega arith; held = h },
-  feeds-all devs (fed devs r p) (place (plain (pieceIn devs p)) runs) ps (goes-on devs r runs p ps g) (fed-held devs r p (g .there .0) h) (omega (arith, fed-few devs r p)),
+  feeds-all devs (fed devs r p) (place (plain (pieceIn devs p)) runs) ps (goes-on devs r runs p ps g) (fed-held devs r p (g .there .0) in-file h) (omega (arith, fed-few devs r p)),
 )
   where
     in-file : p .offset + p .len < 2 ^ 64

@@ -16,6 +16,7 @@ use Rattle.extents.specs.declared.Scan.{Scan}
 use Rattle.extents.specs.declared.Verdict.{Verdict}
 use Rattle.extents.specs.declared.Verdict.the-variants.{Accepted, Refused}
 use Rattle.extents.proofs.Turns as turns
+use Rattle.extents.proofs.OnePass.{accepted-end}
 use Rattle.merging.specs.Meaning.{All}
 use Rattle.merging.specs.Merged.{merged}
 use Rattle.merging.proofs.Rules.{Valid, passes-valid}
@@ -81,7 +82,7 @@ module _ (devs offs lens stos sts : List ℕ) (n : ℕ) where
     count-goes-on l h p e m q z next b more c =
         record {
           scanning = rw (b, e) (turns.goes-on (k .scanning) l reads m (rw e at q) z);
-          held = rw (c, e) (fed-held devs r (g i) (omega arith) (k .held));
+          held = rw (c, e) (fed-held devs r (g i) (omega arith) (rw e at (accepted-end passed (p .offset) (p .len) (p .storage) (p .state) (sym q ∙ z))) (k .held));
           few = rw c (omega (arith, k .few, fed-few devs r p));
           left = rw (c, e) (ap (fedAll devs r) (sym (pieces-next g n i l)) ∙ k .left);
         }

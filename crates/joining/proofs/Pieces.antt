@@ -1,6 +1,6 @@
 -- What the code has in hand of a piece, as the model says it. In this order: bytes as a number; the device of two rows; the tests of a piece after a run; one
 -- more piece.
-use Prim.Native.Nat.{ℕ, zero, suc, _+_, _-_, _*_, _^_, _<_, _≤_}
+use Prim.Native.Nat.{ℕ, zero, suc, _+_, _-_, _*_, _%_, _^_, _<_, _≤_}
 use mathlib.Core.Path.{_≡_, refl, sym, ap, _∙_}
 use mathlib.Core.List.{List, [], _∷_, _++_}
 use mathlib.Core.Bool.{Bool, true, false, cond, _&&_, _||_}
@@ -135,8 +135,8 @@ module _ (devs : List ℕ) (r : Runs) (p : Piece) (k : ℕ) (q : k ≡ placeOf (
     run-device = omega (arith, h .device-there, h .held k .row-there)
 
     -- a run that it lengthens does not end before it begins
-    pub longer-forward : joinsRun devs o p ≡ true → o .offset ≤ p .offset + p .len
-    longer-forward m = omega (arith, h .held k .forward, joined-end devs o p m)
+    pub longer-forward : joinsRun devs o p ≡ true → o .offset ≤ (p .offset + p .len) % 2 ^ 64
+    longer-forward m = omega (arith, h .in-file, h .held k .forward, joined-end devs o p m)
 
   module _ (m : joinsRun devs o p ≡ true) (next : Run) (e : next ≡ longerRun o p) where
     pub fed-longer : record { count = r .count; latest = set (r .latest) k next } ≡ fed devs r p

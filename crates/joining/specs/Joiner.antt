@@ -38,12 +38,12 @@ leNumber (a ∷ s) = a + 256 * leNumber s
 abbrev pub noRun : Run
 noRun = record { slot = 0; row = 0; offset = 0; end = 18446744073709551615; until = 0 }
 
--- the run that a piece starts at a place, and the run and the piece that follows it, as one
+-- the run that a piece starts at a place, and the run and the piece that follows it, as one; both ends as numbers of 64 bits
 abbrev pub startedRun : ℕ → Piece → Run
-startedRun n p = record { slot = n; row = p .row; offset = p .offset; end = p .offset + p .len; until = (p .storage + p .len) % 2 ^ 64 }
+startedRun n p = record { slot = n; row = p .row; offset = p .offset; end = (p .offset + p .len) % 2 ^ 64; until = (p .storage + p .len) % 2 ^ 64 }
 
 abbrev pub longerRun : Run → Piece → Run
-longerRun o p = record { slot = o .slot; row = o .row; offset = o .offset; end = p .offset + p .len; until = (p .storage + p .len) % 2 ^ 64 }
+longerRun o p = record { slot = o .slot; row = o .row; offset = o .offset; end = (p .offset + p .len) % 2 ^ 64; until = (p .storage + p .len) % 2 ^ 64 }
 
 -- how many runs there are, and the latest of each state, in its place
 pub record Runs : Type 0 where

@@ -1,14 +1,14 @@
 // The joiner: extents are fed to it in their order, and it joins those that belong together (Ticket 9). A loop that feeds it holds the latest run of each
 // state in an array, and how many runs there are: at each turn it asks whether the piece follows the latest run of its state (`joins`), and puts the run with
 // it (`longer`), or the run that it starts (`started`), in that place.
-// In this order: a piece, a run, no run; the place of a state; the same device; whether a piece follows a run; the run then; its stores.
+// In this order: a piece, a run, no run; the place of a state; the same device; whether a piece follows a run; the run then; the store of one that starts.
 // Both tests return a flag as soon as it is known: with `||` and `&&` merging takes a tenth more instructions.
 use layouts::placing;
 ghost use mathlib.Core.Path.{_≡_};
-ghost use Prim.Native.Nat.{_+_, _*_, _^_, _<_, _≤_};
+ghost use Prim.Native.Nat.{_+_, _*_, _<_, _≤_};
 ghost use lib.ListN.{length, take, drop};
 ghost use Rattle.xdr.specs.Reader.{sameBytes};
-ghost use Rattle.joining.specs.Joiner.{noRun, placeOf, leNumber, joinsRun, longerRun, startedRun, storedLonger, storedStart};
+ghost use Rattle.joining.specs.Joiner.{noRun, placeOf, leNumber, joinsRun, longerRun, startedRun, storedStart};
 
 // An extent, or a part of one, whose device stays where it lies: 16 bytes in row `row` of a column of devices.
 pub struct Piece {
@@ -107,40 +107,30 @@ pub fn joins(devs: &[u8], o: Run, p: Piece) -> bool
     same_device(devs, o.row, p.row)
 }
 
-// The run with p. A hole's place in storage may pass 2^64 - 1; nobody asks for it.
+// The run with p. Both sums wrap, so that it asks for nothing: a hole's place in storage may pass 2^64 - 1, and nobody asks for it.
 pub fn longer(o: Run, p: Piece) -> Run
-    requires { ⌜ p .offset + p .len < 2 ^ 64 ⌝ }
     ensures { λ x. ⌜ x ≡ longerRun o p ⌝ }
 {
     Run {
         slot: o.slot,
         row: o.row,
         offset: o.offset,
-        end: p.offset + p.len,
+        end: std::num::wrapping_add_u64(p.offset, p.len),
         until: std::num::wrapping_add_u64(p.storage, p.len),
     }
 }
 
 // The run that p starts, in place n.
 pub fn started(p: Piece, n: usize) -> Run
-    requires { ⌜ p .offset + p .len < 2 ^ 64 ⌝ }
     ensures { λ x. ⌜ x ≡ startedRun n p ⌝ }
 {
     Run {
         slot: n,
         row: p.row,
         offset: p.offset,
-        end: p.offset + p.len,
+        end: std::num::wrapping_add_u64(p.offset, p.len),
         until: std::num::wrapping_add_u64(p.storage, p.len),
     }
-}
-
-// Stores the length of a run.
-pub fn put_longer(d: &mut [u8], o: Run)
-    requires { ⌜ o .offset ≤ o .end ⌝ }
-    ensures { λ _. ⌜ now (d .exit) ≡ storedLonger o (now (d .entry)) ⌝ }
-{
-    placing::put_length(d, o.slot, o.end - o.offset);
 }
 
 // Stores the run that p starts in place n, a hole without device and storage.

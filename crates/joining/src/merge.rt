@@ -1,9 +1,11 @@
 // Merging a list of extents that is lent as columns into a layout body (Ticket 9): uneven columns get 1 before all else; 2 above 4,096 extents; then rules 3 to 7;
-// 28 where more than 1,024 are left; last 8. In this order: the extent of a row; one pass that checks and counts; one pass that writes; the call.
+// 28 where more than 1,024 are left; last 8. In this order: the extent of a row; one pass that checks and counts; a store; one pass that writes; the call.
 use crate::joiner;
 use crate::joiner::Piece;
+use crate::joiner::Run;
 use extents::Verdict;
 use layouts::kinds::Kind;
+use layouts::placing;
 ghost use mathlib.Core.Path.{_≡_};
 ghost use mathlib.Core.List.{[]};
 ghost use Prim.Native.Nat.{_+_, _*_, _<_, _≤_};
@@ -14,7 +16,7 @@ ghost use Rattle.extents.specs.declared.Verdict.the-variants.{Accepted};
 ghost use Rattle.layouts.specs.declared.kinds.Kind.the-variants.{Scsi};
 ghost use Rattle.layouts.specs.Columns.{Even};
 ghost use Rattle.merging.specs.Merged.{merged};
-ghost use Rattle.joining.specs.Joiner.{bytesOf, rowPiece};
+ghost use Rattle.joining.specs.Joiner.{bytesOf, rowPiece, storedLonger};
 ghost use Rattle.joining.specs.Merge.{columnsOf, columnList, comesTo, mergeColumns, mergedBy};
 
 // The extent of row i.
@@ -62,6 +64,14 @@ fn count(devs: &[u8], offs: &[u64], lens: &[u64], stos: &[u64], sts: &[u32]) -> 
     Verdict::Accepted(count)
 }
 
+// Stores the length of a run.
+fn put_longer(d: &mut [u8], o: Run)
+    requires { ⌜ o .offset ≤ o .end ⌝ }
+    ensures { λ _. ⌜ now (d .exit) ≡ storedLonger o (now (d .entry)) ⌝ }
+{
+    placing::put_length(d, o.slot, o.end - o.offset);
+}
+
 // Stores the merged list, after the count: each run when it starts, and its length when a piece lengthens it.
 fn fill(d: &mut [u8], devs: &[u8], offs: &[u64], lens: &[u64], stos: &[u64], sts: &[u32])
     requires { ⌜ 4 + 44 * length (merged (columnList (now devs) (now offs) (now lens) (now stos) (now sts))) ≤ length (now d) ⌝ }
@@ -80,7 +90,7 @@ fn fill(d: &mut [u8], devs: &[u8], offs: &[u64], lens: &[u64], stos: &[u64], sts
         let o = runs[at];
         if joiner::joins(devs, o, p) {
             let next = joiner::longer(o, p);
-            joiner::put_longer(d, next);
+            put_longer(d, next);
             runs[at] = next;
         } else {
             joiner::put_started(d, count, devs, p);

@@ -76,16 +76,7 @@ joins-requires c κs =
     (run-device (a .devs .now) r u (c .before .state-place .result) (c .before .state-place .ensures .0) f, f .device-there)
 
 longer-requires : tie.Need-longer-requires Inv-loop μ-loop
-longer-requires c κs =
-    let a = c .before .before .before .before .before .before .before .before .before .before .before .before .before .before .before .before .before .before .before .before .args in
-    let A = c .before .before .before .before .before .before .before .before .before .before .before .before .before .before .before .before .before .before .before .before .pre .0 in
-    let l = c .before .before .before .before .before .before .before .before .before .before .loop in
-    let t = c .before .before .before .before .before .before .before .next-turn .result in
-    let et = c .before .before .before .before .before .before .before .next-turn .ensures in
-    let r : Runs = record { count = l .count; latest = l .runs } in
-    let u = c .before .before .before .before .piece .result in
-    let f = piece-feeds (a .s .now) (a .m) (a .devs .now) (a .offs .now) (a .lens .now) (a .stos .now) (a .sts .now) A (l .inv) (c .before .before .before .before .before .before .before .before .if1 .taken) t et (c .before .before .before .before .before .if2 .taken) u (c .before .before .before .before .piece .ensures) in
-    f .in-file
+longer-requires c κs = search needs
 
 put-longer-requires : tie.Need-put-longer-requires Inv-loop μ-loop
 put-longer-requires c κs =
@@ -109,16 +100,7 @@ put-started-requires : tie.Need-put-started-requires Inv-loop μ-loop
 put-started-requires c κs = search needs
 
 started-requires : tie.Need-started-requires Inv-loop μ-loop
-started-requires c κs =
-    let a = c .before .before .before .before .before .before .before .before .before .before .before .before .before .before .before .before .before .before .before .before .before .before .before .before .args in
-    let A = c .before .before .before .before .before .before .before .before .before .before .before .before .before .before .before .before .before .before .before .before .before .before .before .before .pre .0 in
-    let l = c .before .before .before .before .before .before .before .before .before .before .before .before .before .before .loop in
-    let t = c .before .before .before .before .before .before .before .before .before .before .before .next-turn .result in
-    let et = c .before .before .before .before .before .before .before .before .before .before .before .next-turn .ensures in
-    let r : Runs = record { count = l .count; latest = l .runs } in
-    let u = c .before .before .before .before .before .before .before .before .piece .result in
-    let f = piece-feeds (a .s .now) (a .m) (a .devs .now) (a .offs .now) (a .lens .now) (a .stos .now) (a .sts .now) A (l .inv) (c .before .before .before .before .before .before .before .before .before .before .before .before .if1 .taken) t et (c .before .before .before .before .before .before .before .before .before .if2 .taken) u (c .before .before .before .before .before .before .before .before .piece .ensures) in
-    f .in-file
+started-requires c κs = search needs
 
 mul-runs-2 : tie.Need-mul-runs-2 Inv-loop μ-loop
 mul-runs-2 c = omega arith

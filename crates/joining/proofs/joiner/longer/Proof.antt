@@ -1,16 +1,16 @@
--- longer: a sum in the file, and one that may wrap in storage.
+-- longer: both sums may wrap.
 use borrow.Author.Needs.{needs}
 use Rattle.joining.proofs.joiner.longer.Statement.{statement}
 use Rattle.joining.proofs.joiner.longer.Tie as tie
 
-add-t3 : tie.Need-add-t3
-add-t3 c = search needs
-
 wrapping-add-u64-requires : tie.Need-wrapping-add-u64-requires
 wrapping-add-u64-requires c κs = search needs
 
+wrapping-add-u64-requires-2 : tie.Need-wrapping-add-u64-requires-2
+wrapping-add-u64-requires-2 c κs = search needs
+
 returns : tie.Need-returns
-returns c = rw (c .wrapping-add-u64 .ensures)
+returns c = rw (c .before .wrapping-add-u64 .ensures, c .wrapping-add-u642 .ensures)
 
 pub longer-spec : {M : Type 1} → statement M
-longer-spec = tie.close (tie.spec add-t3 wrapping-add-u64-requires returns)
+longer-spec = tie.close (tie.spec wrapping-add-u64-requires wrapping-add-u64-requires-2 returns)

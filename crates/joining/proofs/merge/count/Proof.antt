@@ -71,10 +71,7 @@ joins-requires c κs =
     (run-device (a .devs .now) r p (c .before .state-place .result) (c .before .state-place .ensures .0) h, h .device-there)
 
 longer-requires : tie.Need-longer-requires Inv-loop μ-loop
-longer-requires c κs =
-    let m = c .before .before .before .before .before .before .before .before .before .before .loop in
-    let p = c .before .before .before .before .before .before .before .before .row .result in
-    accepted-end (m .passed) (p .offset) (p .len) (p .storage) (p .state) (sym (c .before .before .before .before .before .before .before .refuse .ensures) ∙ c .before .before .before .before .before .before .if1 .left)
+longer-requires c κs = search needs
 
 mul-runs : tie.Need-mul-runs Inv-loop μ-loop
 mul-runs c = omega arith
@@ -83,10 +80,7 @@ array-set-from-runs : tie.Need-array-set-from-runs Inv-loop μ-loop
 array-set-from-runs c = omega arith
 
 started-requires : tie.Need-started-requires Inv-loop μ-loop
-started-requires c κs =
-    let m = c .before .before .before .before .before .before .before .before .before .before .loop in
-    let p = c .before .before .before .before .before .before .before .before .row .result in
-    accepted-end (m .passed) (p .offset) (p .len) (p .storage) (p .state) (sym (c .before .before .before .before .before .before .before .refuse .ensures) ∙ c .before .before .before .before .before .before .if1 .left)
+started-requires c κs = search needs
 
 mul-runs-2 : tie.Need-mul-runs-2 Inv-loop μ-loop
 mul-runs-2 c = omega arith

@@ -52,13 +52,7 @@ joins-requires c κs =
     (run-device (a .devs .now) r p (c .before .state-place .result) (c .before .state-place .ensures .0) f, f .device-there)
 
 longer-requires : tie.Need-longer-requires Inv-loop μ-loop
-longer-requires c κs =
-    let a = c .before .before .before .before .before .before .before .before .before .before .before .before .before .before .args in
-    let m = c .before .before .before .before .before .before .loop in
-    let r : Runs = record { count = m .count; latest = m .runs } in
-    let p = c .before .before .before .before .row .result in
-    let f = fill-ready (a .devs .now) (a .offs .now) (a .lens .now) (a .stos .now) (a .sts .now) (length (a .offs .now)) (m .inv) (omega (arith, c .before .before .before .before .before)) p (c .before .before .before .before .row .ensures) in
-    f .in-file
+longer-requires c κs = search needs
 
 put-longer-requires : tie.Need-put-longer-requires Inv-loop μ-loop
 put-longer-requires c κs =
@@ -79,13 +73,7 @@ put-started-requires : tie.Need-put-started-requires Inv-loop μ-loop
 put-started-requires c κs = search needs
 
 started-requires : tie.Need-started-requires Inv-loop μ-loop
-started-requires c κs =
-    let a = c .before .before .before .before .before .before .before .before .before .before .before .before .before .before .before .before .before .before .args in
-    let m = c .before .before .before .before .before .before .before .before .before .before .loop in
-    let r : Runs = record { count = m .count; latest = m .runs } in
-    let p = c .before .before .before .before .before .before .before .before .row .result in
-    let f = fill-ready (a .devs .now) (a .offs .now) (a .lens .now) (a .stos .now) (a .sts .now) (length (a .offs .now)) (m .inv) (omega (arith, c .before .before .before .before .before .before .before .before .before)) p (c .before .before .before .before .before .before .before .before .row .ensures) in
-    f .in-file
+started-requires c κs = search needs
 
 mul-runs-2 : tie.Need-mul-runs-2 Inv-loop μ-loop
 mul-runs-2 c = omega arith
