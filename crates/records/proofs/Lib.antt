@@ -19,6 +19,7 @@
 --     Within           the call of a function that is handed the record where it lies
 --     Shown            what is shown of the arguments to a function before they are handed on: numbers, `&[uW]`, and lengths
 --     Again            a slice that is lent again for a call, and comes back
+--     Rounds           a loop by its turns
 --     Lists            a field that is an array as a list; tests that are known
 pub mod Again
 pub mod Alone
@@ -33,6 +34,7 @@ pub mod Passed
 pub mod Placed
 pub mod Pulled
 pub mod Raised
+pub mod Rounds
 pub mod Shown
 pub mod Tallied
 pub mod Within
