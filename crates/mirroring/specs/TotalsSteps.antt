@@ -3,7 +3,8 @@
 use mathlib.Core.List.{List, [], _∷_, map}
 use mathlib.Core.Bool.{cond}
 use Prim.Native.Nat.{ℕ, _+_, _-_}
-use lib.Dec.{ltb, eqb}
+use lib.ListN.{getD, set}
+use lib.Dec.{ltb}
 use Rattle.reports.specs.Statistics.{Statistic}
 use Rattle.reports.specs.Report.{Report, Whole, Malformed}
 use Rattle.mirroring.specs.Mirrors.{isAt}
@@ -21,29 +22,32 @@ unfoldable pub mirrorTotals : List Mirror → Report → Totals
 mirrorTotals ms (Whole xs ys) = totalsBy (λ g. map (sumAt g ys) ms)
 mirrorTotals ms Malformed = noTotals
 
--- ---- one record more: what it adds to each mirror's sum
-unfoldable pub sharesOf : List Mirror → ℕ → ℕ → ℕ → List ℕ
-sharesOf ms h l n = map (λ m. cond (isAt h l m) n 0) ms
-
+-- ---- one record more of n bytes: a mirror's sum and its flag; the sums with it at place i; those of all places whose mirror it names
 abbrev pub grownBy : ℕ → ℕ → ℕ
-grownBy e b = cond (ltb (most - b) e) most (b + e)
+grownBy n b = cond (ltb (most - b) n) most (b + n)
 
 abbrev pub passedBy : ℕ → ℕ → ℕ → ℕ
-passedBy e b up = cond (eqb up 1) 1 (cond (ltb (most - b) e) 1 0)
+passedBy n b up = cond (ltb (most - b) n) 1 up
 
-unfoldable pub grownIn : List ℕ → List ℕ → List ℕ
-grownIn es [] = []
-grownIn [] (b ∷ bs) = b ∷ bs
-grownIn (e ∷ es) (b ∷ bs) = grownBy e b ∷ grownIn es bs
+abbrev pub countedAt : ℕ → ℕ → Sums → Sums
+countedAt i n t = record { bytes = set (t .bytes) i (grownBy n (getD (t .bytes) i 0)); over = set (t .over) i (passedBy n (getD (t .bytes) i 0) (getD (t .over) i 0)) }
 
-unfoldable pub passedIn : List ℕ → List ℕ → List ℕ → List ℕ
-passedIn es bs [] = []
-passedIn [] bs (up ∷ ups) = up ∷ ups
-passedIn (e ∷ es) [] (up ∷ ups) = up ∷ ups
-passedIn (e ∷ es) (b ∷ bs) (up ∷ ups) = passedBy e b up ∷ passedIn es bs ups
+abbrev pub countedTotals : ℕ → ℕ → ℕ → Totals → Totals
+countedTotals i r w t = record { read = countedAt i r (t .read); written = countedAt i w (t .written) }
 
-abbrev pub addedSums : List ℕ → Sums → Sums
-addedSums es t = record { bytes = grownIn es (t .bytes); over = passedIn es (t .bytes) (t .over) }
+unfoldable pub grownIn : List Mirror → ℕ → ℕ → ℕ → List ℕ → List ℕ
+grownIn [] h l n bs = bs
+grownIn (m ∷ ms) h l n [] = []
+grownIn (m ∷ ms) h l n (b ∷ bs) = cond (isAt h l m) (grownBy n b) b ∷ grownIn ms h l n bs
+
+unfoldable pub passedIn : List Mirror → ℕ → ℕ → ℕ → List ℕ → List ℕ → List ℕ
+passedIn [] h l n bs ups = ups
+passedIn (m ∷ ms) h l n bs [] = []
+passedIn (m ∷ ms) h l n [] (up ∷ ups) = up ∷ ups
+passedIn (m ∷ ms) h l n (b ∷ bs) (up ∷ ups) = cond (isAt h l m) (passedBy n b up) up ∷ passedIn ms h l n bs ups
+
+abbrev pub addedSums : List Mirror → ℕ → ℕ → ℕ → Sums → Sums
+addedSums ms h l n t = record { bytes = grownIn ms h l n (t .bytes); over = passedIn ms h l n (t .bytes) (t .over) }
 
 abbrev pub addedTotals : List Mirror → ℕ → ℕ → ℕ → ℕ → Totals → Totals
-addedTotals ms h l r w t = record { read = addedSums (sharesOf ms h l r) (t .read); written = addedSums (sharesOf ms h l w) (t .written) }
+addedTotals ms h l r w t = record { read = addedSums ms h l r (t .read); written = addedSums ms h l w (t .written) }

@@ -3,8 +3,9 @@ use crate::mirrors::Mirror;
 use crate::mirrors::PLACES;
 ghost use mathlib.Core.Path.{_≡_};
 ghost use Rattle.mirroring.specs.Totals.{cutSums, noSums, noTotals};
-ghost use Rattle.mirroring.specs.TotalsSteps.{sharesOf, grownBy, passedBy, grownIn, passedIn, addedSums, addedTotals};
+ghost use Rattle.mirroring.specs.TotalsSteps.{grownBy, passedBy, countedAt, countedTotals, addedTotals};
 ghost use mathlib.Core.Bool.{cond};
+ghost use Prim.Native.Nat.{_<_};
 
 // The largest sum.
 const MOST: u64 = 18446744073709551615;
@@ -24,13 +25,6 @@ pub struct Totals {
     pub written: Sums,
 }
 
-// What a record of `n` bytes adds to a mirror's sum.
-fn share(mine: bool, n: u64) -> u64
-    ensures { λ r. ⌜ r ≡ cond mine n 0 ⌝ }
-{
-    if mine { n } else { 0 }
-}
-
 // A sum with `more` bytes.
 fn grown_by(more: u64, sum: u64) -> u64
     ensures { λ r. ⌜ r ≡ grownBy more sum ⌝ }
@@ -45,53 +39,7 @@ fn grown_by(more: u64, sum: u64) -> u64
 fn passed_by(more: u64, sum: u64, over: u64) -> u64
     ensures { λ r. ⌜ r ≡ passedBy more sum over ⌝ }
 {
-    if over == 1 {
-        return 1;
-    }
-    if MOST - sum < more { 1 } else { 0 }
-}
-
-// What a record of `n` bytes adds to each mirror's sum. Here and below each place is written by its own number, which the compiler can keep in registers.
-fn shares(mirrors: [Mirror; PLACES], high: u64, low: u64, n: u64) -> [u64; PLACES]
-    ensures { λ r. ⌜ r ≡ sharesOf mirrors high low n ⌝ }
-{
-    let mut es = [0u64; PLACES];
-    let mut i: usize = 0;
-    while i < PLACES {
-        let m = mirrors[i];
-        let e = share(m.is(high, low), n);
-        es[i] = e;
-        i += 1;
-    }
-    es
-}
-
-// Each sum with what is added to it.
-fn grown(extra: [u64; PLACES], sums: [u64; PLACES]) -> [u64; PLACES]
-    ensures { λ r. ⌜ r ≡ grownIn extra sums ⌝ }
-{
-    let mut bs = sums;
-    let mut i: usize = 0;
-    while i < PLACES {
-        let b = grown_by(extra[i], bs[i]);
-        bs[i] = b;
-        i += 1;
-    }
-    bs
-}
-
-// And each sum's flag.
-fn passed(extra: [u64; PLACES], sums: [u64; PLACES], flags: [u64; PLACES]) -> [u64; PLACES]
-    ensures { λ r. ⌜ r ≡ passedIn extra sums flags ⌝ }
-{
-    let mut fs = flags;
-    let mut i: usize = 0;
-    while i < PLACES {
-        let f = passed_by(extra[i], sums[i], fs[i]);
-        fs[i] = f;
-        i += 1;
-    }
-    fs
+    if MOST - sum < more { 1 } else { over }
 }
 
 impl Sums {
@@ -106,18 +54,18 @@ impl Sums {
         }
     }
 
-    // One record more.
-    pub(crate) fn add(self, extra: [u64; PLACES]) -> Sums
-        ensures { λ r. ⌜ r ≡ addedSums extra self ⌝ }
+    // One record more of the mirror at a place.
+    fn with(mut self, at: usize, n: u64) -> Sums
+        requires { ⌜ at < 5 ⌝ }
+        ensures { λ r. ⌜ r ≡ countedAt at n self ⌝ }
     {
-        let sums = self.bytes;
-        let flags = self.over;
-        let fs = passed(extra, sums, flags);
-        let bs = grown(extra, sums);
-        Sums {
-            bytes: bs,
-            over: fs,
-        }
+        let sum = self.bytes[at];
+        let over = self.over[at];
+        let f = passed_by(n, sum, over);
+        let b = grown_by(n, sum);
+        self.over[at] = f;
+        self.bytes[at] = b;
+        self
     }
 }
 
@@ -133,7 +81,25 @@ impl Totals {
         }
     }
 
-    // One record more.
+    // One record more of the mirror at a place, if it is its.
+    fn with(self, mine: bool, at: usize, read: u64, written: u64) -> Totals
+        requires { ⌜ at < 5 ⌝ }
+        ensures { λ r. ⌜ r ≡ cond mine (countedTotals at read written self) self ⌝ }
+    {
+        if mine {
+            let r = self.read;
+            let w = self.written;
+            let rs = r.with(at, read);
+            let ws = w.with(at, written);
+            return Totals {
+                read: rs,
+                written: ws,
+            };
+        }
+        self
+    }
+
+    // One record more. A place that is not its mirror's is left alone by a branch: where each place got 0 bytes more, the sums did not fit into registers.
     pub(crate) fn add(
         self,
         mirrors: [Mirror; PLACES],
@@ -144,13 +110,13 @@ impl Totals {
     ) -> Totals
         ensures { λ r. ⌜ r ≡ addedTotals mirrors high low read written self ⌝ }
     {
-        let r = self.read;
-        let w = self.written;
-        let rs = r.add(shares(mirrors, high, low, read));
-        let ws = w.add(shares(mirrors, high, low, written));
-        Totals {
-            read: rs,
-            written: ws,
+        let mut t = self;
+        let mut i: usize = 0;
+        while i < PLACES {
+            let m = mirrors[i];
+            t = t.with(m.is(high, low), i, read, written);
+            i += 1;
         }
+        t
     }
 }
