@@ -1,21 +1,25 @@
 -- What the laws of this crate share: the type of a struct in the MIR, tests that are known, and a field that is an array, of which `Element.antt` of crate walks knows where it lies.
---     ty               a struct in the MIR
+--     ty, mutRef       a struct in the MIR, and a `&mut` of it that is a parameter
 --     holds, fails, no-less, not-less      a test that is known
 --     Lists El         the list of a record with another list there is that list, and the last list that is put there stays
 -- Assumes nothing.
 use mathlib.Core.Path.{_≡_, refl}
 use mathlib.Core.Bool.{Bool, true, false, not}
 use mathlib.Core.List.{List}
-use Prim.Native.Nat.{ℕ, _<_, _≤_}
+use Prim.Native.Nat.{ℕ, _≤_}
 use native.Mathlib.Omega.{arith}
 use lib.Dec.{T as Tᵇ, ltb, ltb→lt}
-use mir.Syntax.{Ty}
+use mir.Syntax.{Ty, named, mut, tyRef}
+use denote.Memory.{pointee}
 use denote.Struct.Struct.{layout}
-use denote.Struct.Declared.{Declared, shape}
+use denote.Struct.Declared.{Declared, shape, row}
 use Rattle.walks.proofs.Element.{Elements}
 
 abbrev pub ty : Declared → Ty
 ty T = layout (shape T)
+
+abbrev pub mutRef : Declared → Ty
+mutRef T = tyRef (named 0) mut (pointee (row T .written))
 
 pub holds : (t : Bool) → Tᵇ t → t ≡ true
 holds true _ = refl

@@ -30,7 +30,7 @@ use types.Part.{whole, sub, look-in}
 use types.Mut.{open-ref, close-ref}
 use types.SemTy.{Body}
 use sound.WpLaws.{FmC, fmOf, WpFn-mono}
-use denote.RattleType.{RattleType, Denots, Valss, owns, flat}
+use denote.RattleType.{Denots, Valss, owns, flat}
 use denote.Laws.{Typed, Is, Are, Ises, shows}
 use denote.Memory.{mem, partAt, pointee}
 use denote.Plain.{UInt, uint-vals, uint-tells, uint-makes, uint-lawful}
@@ -38,9 +38,8 @@ use denote.Builtin.{u32, RefMutOf}
 use denote.Ref.{RefT, MutRef, ptr-vals, mut-tells, now}
 use denote.Signature.{plain, typesAt}
 use denote.Steps.{only, owned, facts, heard}
-use denote.Struct.Struct.{layout}
 use denote.Struct.Field.{rows as field-rows, bool-field, u32-field, usize-field}
-use denote.Struct.Declared.{Declared, shape, row}
+use denote.Struct.Declared.{Declared, row}
 use denote.Struct.Laws as LL
 use denote.Triple.Call.{calls-at}
 use denote.Triple.Entry.{onEntry}
@@ -58,7 +57,7 @@ use Rattle.walks.proofs.Changed.{Parts}
 use Rattle.walks.proofs.Called as g
 use Rattle.walks.proofs.Cited as cited
 use Rattle.walks.proofs.Cited.{Callee, Each, Known}
-use Rattle.records.proofs.Lists.{holds, fails}
+use Rattle.records.proofs.Lists.{ty, mutRef, holds, fails}
 use Rattle.records.proofs.Shown as s
 use Rattle.records.proofs.Shown.{Show, args, shown, sights, lens, lengths, measure, shown-operands}
 
@@ -152,26 +151,8 @@ module _ {T : Declared} (O : Parts T) (S : Parting) (ss : List Show) (wk : Width
   abbrev SL : LL.Laws PT
   SL = parting-laws S
 
-  abbrev R : RattleType
-  R = row T
-
-  abbrev SR : RattleType
-  SR = row PT
-
-  abbrev τ : Ty
-  τ = layout (shape T)
-
-  abbrev σ : Ty
-  σ = layout (shape PT)
-
-  abbrev ψ : Ty
-  ψ = layout (shape Hd)
-
-  abbrev ρ : Ty
-  ρ = tyRef (named 0) mut (pointee (R .written))
-
   abbrev ρ′ : Ty
-  ρ′ = tyRef erased mut (pointee (R .written))
+  ρ′ = tyRef erased mut (pointee ((row T) .written))
 
   abbrev sval : D → Val
   sval d = LL.val PT SL d
@@ -196,7 +177,7 @@ module _ {T : Declared} (O : Parts T) (S : Parting) (ss : List Show) (wk : Width
   Is-parting l i d = d ≡ G (l .0) i
 
   abbrev Beginner : Callee
-  Beginner M 𝓤 H A = s.Callee bs-leads SR ss Is-parting 𝓤 H A
+  Beginner M 𝓤 H A = s.Callee bs-leads (row PT) ss Is-parting 𝓤 H A
 
   abbrev Wanted : Callee
   Wanted M 𝓤 H A = tripleOf 𝓤 H A (h-ended .signature) (closing 𝓤 H A h-ended (h-clauses M 𝓤))
@@ -208,7 +189,7 @@ module _ {T : Declared} (O : Parts T) (S : Parting) (ss : List Show) (wk : Width
   Unwanted M 𝓤 H A = g.Callee es-leads u32 ps g.always N 𝓤 H A
 
   abbrev stayed : Stays (ended .signature .params) (ended .kept)
-  stayed = (gave-ref (0 ∷ []) tt (plain (λ _. R)), (stay-none (λ _. UInt wk) yes, stays ps z))
+  stayed = (gave-ref (0 ∷ []) tt (plain (λ _. (row T))), (stay-none (λ _. UInt wk) yes, stays ps z))
 
   -- what b answers
   abbrev parted : T .D → Ins ps → D
@@ -221,13 +202,13 @@ module _ {T : Declared} (O : Parts T) (S : Parting) (ss : List Show) (wk : Width
 
   -- the locals
   abbrev heads : List Ty
-  heads = tyInt w32 ∷ ρ ∷ tyInt wk ∷ []
+  heads = tyInt w32 ∷ (mutRef T) ∷ tyInt wk ∷ []
 
   abbrev θ : List Ty
   θ = locals 1 ps
 
   abbrev mids : List Ty
-  mids = σ ∷ ψ ∷ []
+  mids = (ty PT) ∷ (ty Hd) ∷ []
 
   abbrev tests : List Ty
   tests = tyBool ∷ ρ′ ∷ []
@@ -245,11 +226,11 @@ module _ {T : Declared} (O : Parts T) (S : Parting) (ss : List Show) (wk : Width
     outlives = [];
     params = suc (suc (past θ 0));
     locals = frame heads (frame θ (frame mids (frame (lens ss) (frame tests (frame (temps ps) (frame (temps ps) []))))));
-    body = seq (assign (place (k-at ss) []) (rvOpd (copy (place 1 (deref τ ∷ fieldStep (B .k) ∷ []))))) (
+    body = seq (assign (place (k-at ss) []) (rvOpd (copy (place 1 (deref (ty T) ∷ fieldStep (B .k) ∷ []))))) (
         measure 3 (l-at ss) ss (seq (call (ks .0) (copy (place (k-at ss) []) ∷ shown-operands 3 (l-at ss) ss) (place (d-at ss) [])) (
         seq (assign (place (c-at ss) []) (rvOpd (copy (place (d-at ss) (fieldStep 0 ∷ []))))) (
         seq (cond (copy (place (c-at ss) []))
-        (seq (assign (place (v-at ss) []) (addrOf (place 1 (deref τ ∷ [])))) (
+        (seq (assign (place (v-at ss) []) (addrOf (place 1 (deref (ty T) ∷ [])))) (
         g.to-call ps (ks .1 .0) (λ xs. copy (place (v-at ss) []) ∷ copy (place 2 []) ∷ copy (place (d-at ss) (fieldStep 2 ∷ [])) ∷ xs) 3 (t-at ss) (place 0 []) return))
         skip) (
         rest ks)))));
@@ -341,7 +322,7 @@ module _ {T : Declared} (O : Parts T) (S : Parting) (ss : List Show) (wk : Width
 
     -- the end of a walk: the tokens, what says the record's last value, and the arguments'
     abbrev Last : T .D → Fin → List (Item 𝓤)
-    Last h′ ws = ‵ (flft (κs .0) q) ∷ raw (toks 𝓤 A (refs ps) (κs .1) qs) ∷ ‵ (fres (x .name) (R .coded .code h′)) ∷ ‵ (Had ws) ∷ []
+    Last h′ ws = ‵ (flft (κs .0) q) ∷ raw (toks 𝓤 A (refs ps) (κs .1) qs) ∷ ‵ (fres (x .name) ((row T) .coded .code h′)) ∷ ‵ (Had ws) ∷ []
 
     exits : (y : ℕ) (h′ : T .D) (ws : Fin) → y < 2 ^ 32 → Q h k at-entry y h′ (at-exit ws) → ent 𝓤 (⋆ 𝓤 H A (Last h′ ws)) (Post (vint w32 y))
     exits y h′ ws fit p =
@@ -352,7 +333,7 @@ module _ {T : Declared} (O : Parts T) (S : Parting) (ss : List Show) (wk : Width
 
     -- what h asks for, but for the numbers
     abbrev Lent : List (Item 𝓤)
-    Lent = ‵ (fobs (x .name) (R .coded .code h)) ∷ ‵ (fbor (κs .0) (Body (mem R) b o (x .name))) ∷ ‵ (flft (κs .0) q) ∷ raw (toks 𝓤 A (refs ps) (κs .1) qs) ∷ ‵ Owned ∷ []
+    Lent = ‵ (fobs (x .name) ((row T) .coded .code h)) ∷ ‵ (fbor (κs .0) (Body (mem (row T)) b o (x .name))) ∷ ‵ (flft (κs .0) q) ∷ raw (toks 𝓤 A (refs ps) (κs .1) qs) ∷ ‵ Owned ∷ []
 
     -- h's contract
     module _ (m : ℕ) (m-fits : m < 2 ^ 64) where
@@ -392,7 +373,7 @@ module _ {T : Declared} (O : Parts T) (S : Parting) (ss : List Show) (wk : Width
 
         -- once h or e has answered y: what the end of the walk goes by, the arguments, lengths and what was lent again, and the locals, the last first, of which the result is full
         abbrev At : List Val → List Val → ℕ → T .D → Fin → List (Item 𝓤)
-        At us us′ y h′ ws = ‵ (flft (κs .0) q) ∷ raw (toks 𝓤 A (refs ps) (κs .1) qs) ∷ ‵ (fres (x .name) (R .coded .code h′)) ∷ ‵ (Had ws) ∷ ‵ (cells θ bs vs) ∷ ‵ (cells (lens ss) ns (lengths ss den)) ∷ ‵ (cells (temps ps) cs us) ∷ ‵ (cells (temps ps) es us′) ∷ ‵ (froom ρ′ l₆ 0) ∷ ‵ (fdies ρ′ l₆) ∷ ‵ (froom tyBool l₅ 0) ∷ ‵ (fdies tyBool l₅) ∷ ‵ (froom ψ l₄ 0) ∷ ‵ (fdies ψ l₄) ∷ ‵ (froom σ l₃ 0) ∷ ‵ (fdies σ l₃) ∷ ‵ (froom (tyInt wk) l₂ 0) ∷ ‵ (fdies (tyInt wk) l₂) ∷ ‵ (froom ρ l₁ 0) ∷ ‵ (fdies ρ l₁) ∷ ‵ (fat fullShare (tyInt w32) l₀ 0 (vint w32 y)) ∷ ‵ (fdies (tyInt w32) l₀) ∷ []
+        At us us′ y h′ ws = ‵ (flft (κs .0) q) ∷ raw (toks 𝓤 A (refs ps) (κs .1) qs) ∷ ‵ (fres (x .name) ((row T) .coded .code h′)) ∷ ‵ (Had ws) ∷ ‵ (cells θ bs vs) ∷ ‵ (cells (lens ss) ns (lengths ss den)) ∷ ‵ (cells (temps ps) cs us) ∷ ‵ (cells (temps ps) es us′) ∷ ‵ (froom ρ′ l₆ 0) ∷ ‵ (fdies ρ′ l₆) ∷ ‵ (froom tyBool l₅ 0) ∷ ‵ (fdies tyBool l₅) ∷ ‵ (froom (ty Hd) l₄ 0) ∷ ‵ (fdies (ty Hd) l₄) ∷ ‵ (froom (ty PT) l₃ 0) ∷ ‵ (fdies (ty PT) l₃) ∷ ‵ (froom (tyInt wk) l₂ 0) ∷ ‵ (fdies (tyInt wk) l₂) ∷ ‵ (froom (mutRef T) l₁ 0) ∷ ‵ (fdies (mutRef T) l₁) ∷ ‵ (fat fullShare (tyInt w32) l₀ 0 (vint w32 y)) ∷ ‵ (fdies (tyInt w32) l₀) ∷ []
 
         finishes : (us us′ : List Val) (y : ℕ) (h′ : T .D) (ws : Fin) → y < 2 ^ 32 → Q h k at-entry y h′ (at-exit ws) → {p : Posted 𝓤 H} → post 𝓤 H p returnsᴼ ≡ atReturn 𝓤 H En Post returnsᴼ → Seq (Go {0}) W (At us us′ y h′ ws) (runs C Λ En return p)
         finishes us us′ y h′ ws fit so e =
@@ -404,22 +385,22 @@ module _ {T : Declared} (O : Parts T) (S : Parting) (ss : List Show) (wk : Width
 
       walk : Typed θ vs → Are (rows κs ps z) (Ises (rows κs ps z)) a (spelled κs ps z a) → ent 𝓤 (onEntry 𝓤 H A (ended .signature) κs (q, qs) (x, (k, a)) (ptr-vals x, (vint wk k ∷ [], spelled κs ps z a))) (WpFn 𝓤 H C Λ (code ks) (vptr b o ∷ vint wk k ∷ vs) Post)
       walk ok are =
-          qed W ((‵ (flft (κs .0) q) ⊛ raw (toks 𝓤 A (refs ps) (κs .1) qs)) ∷ ‵ (owns (MutRef (named 0) (κs .0) R ∷ UInt wk ∷ rows κs ps z) (x, (k, a)) (ptr-vals x, (vint wk k ∷ [], spelled κs ps z a))) ∷ []) ∵ enter ! C Λ (code ks) (vptr b o ∷ vint wk k ∷ vs) _ $
+          qed W ((‵ (flft (κs .0) q) ⊛ raw (toks 𝓤 A (refs ps) (κs .1) qs)) ∷ ‵ (owns (MutRef (named 0) (κs .0) (row T) ∷ UInt wk ∷ rows κs ps z) (x, (k, a)) (ptr-vals x, (vint wk k ∷ [], spelled κs ps z a))) ∷ []) ∵ enter ! C Λ (code ks) (vptr b o ∷ vint wk k ∷ vs) _ $
           alloc1 ! (λ l₀. alloc1 ! (λ l₁. alloc1 ! (λ l₂. alloc-row ! θ (λ bs. alloc1 ! (λ l₃. alloc1 ! (λ l₄. alloc-row ! (lens ss) (λ ns. alloc1 ! (λ l₅. alloc1 ! (λ l₆. alloc-row ! (temps ps) (λ cs. alloc-row ! (temps ps) (λ es.
           let hs : Blocks heads = (l₀, (l₁, (l₂, tt))) in let ms : Blocks mids = (l₃, (l₄, tt)) in let ts : Blocks tests = (l₅, (l₆, tt)) in let mid : Lies (E hs bs ms ns ts cs es) (d-at ss) mids ms = middle hs bs ms ns ts cs es in let tes : Lies (E hs bs ms ns ts cs es) (c-at ss) tests ts = tested hs bs ms ns ts cs es in
           alloc0 ! $ params1 ! $ pass1 ! (init ! 14 refl (tt, tt)) $ pass1 ! (init ! 12 refl (uint-lawful 𝓤 H A W wk .typed k _ (refl, k-fits) .0)) $ move ! (11 ∷ []) $ pass-row ! θ bs vs ok (E₁ hs bs ms ns ts cs es) $
           -- the borrow is opened for the head to be read
-          move ! (19 ∷ []) $ fsplit ! $ fsplit3 ! $ drop ! $ move ! (2 ∷ []) $ fsplit ! $ drop ! $ move ! (21 ∷ []) $ split ! $ move ! (3 ∷ 4 ∷ 0 ∷ []) $ open-ref ! tt (mem R) {x = h} {b = b} {o = o} $
+          move ! (19 ∷ []) $ fsplit ! $ fsplit3 ! $ drop ! $ move ! (2 ∷ []) $ fsplit ! $ drop ! $ move ! (21 ∷ []) $ split ! $ move ! (3 ∷ 4 ∷ 0 ∷ []) $ open-ref ! tt (mem (row T)) {x = h} {b = b} {o = o} $
           -- [the record; the open borrow; obs; auth; the tokens; what the arguments own; the arguments; what is lent again for e, and for h; the locals, the last first: the lent record from 9, the test, the lengths at 13, the head, what b answers, n from 18, r, the result]
-          use1 W (given (Is (row Hd) (B .get h) (LL.val Hd HL (B .get h) ∷ [])) (‵ (partAt R fullShare h b o))) (fact-use 𝓤 (Is (row Hd) (B .get h) (LL.val Hd HL (B .get h) ∷ [])) (field-is B refl (LL.val Hd HL) (LL.tells Hd HL) 𝓤 H A W fullShare h b o) (λ pf. guardI 𝓤 (Is (row Hd) (B .get h) (LL.val Hd HL (B .get h) ∷ [])) (sem 𝓤 H A (partAt R fullShare h b o)) pf)) $ learn ! (λ beside.
+          use1 W (given (Is (row Hd) (B .get h) (LL.val Hd HL (B .get h) ∷ [])) (‵ (partAt (row T) fullShare h b o))) (fact-use 𝓤 (Is (row Hd) (B .get h) (LL.val Hd HL (B .get h) ∷ [])) (field-is B refl (LL.val Hd HL) (LL.tells Hd HL) 𝓤 H A W fullShare h b o) (λ pf. guardI 𝓤 (Is (row Hd) (B .get h) (LL.val Hd HL (B .get h) ∷ [])) (sem 𝓤 H A (partAt (row T) fullShare h b o)) pf)) $ learn ! (λ beside.
           assigns ! (of-opd ! (load ! (at ! (hop ! (look ! 20 refl) (fld ! (B .found) (stop !)))) (look-field B refl (LL.val Hd HL) (LL.tells Hd HL) 𝓤 H A W fullShare h b o ! 0 refl))) (found ! (mid .1 .0) (stop !)) (init ! 14 refl (LL.lawful Hd HL 𝓤 H A W .typed (B .get h) _ beside .0)) $
-          close-ref ! tt (mem R) h {b = b} {o = o} $
+          close-ref ! tt (mem (row T)) h {b = b} {o = o} $
           -- [obs; the borrow; the token; the other tokens; what the arguments own; the arguments; …]
           move ! (5 ∷ 12 ∷ 3 ∷ 4 ∷ []) $
-          s.calls-shown bs-leads SR ss Is-parting κs (B .get h, tt) a 𝓤 H A W qs (ks .0) C fm (known .0) (E hs bs ms ns ts cs es) (λ xs. copy (place (k-at ss) []) ∷ xs) 3 (l-at ss) bs ns ok are (beside, tt) (arguments hs bs ms ns ts cs es) (measured hs bs ms ns ts cs es)
+          s.calls-shown bs-leads (row PT) ss Is-parting κs (B .get h, tt) a 𝓤 H A W qs (ks .0) C fm (known .0) (E hs bs ms ns ts cs es) (λ xs. copy (place (k-at ss) []) ∷ xs) 3 (l-at ss) bs ns ok are (beside, tt) (arguments hs bs ms ns ts cs es) (measured hs bs ms ns ts cs es)
           (λ _ _ _ os. and-then ! (load ! (found ! (mid .1 .0) (stop !)) (look ! 14 refl)) os) (λ v r r-so is. drop ! $
           -- [the arguments; the lengths; the tokens; what the arguments own; obs; the borrow; the token; what is lent again for e, and for h; the lent record from 9, the test, the head, what b answers, n, r, the result]
-          land ! (found ! (mid .0) (stop !)) (init ! 15 refl (LL.lawful PT SL 𝓤 H A W .typed r _ is .0)) $ rewrite ! 15 (λ (u : Val). ‵ (fat fullShare σ l₃ 0 u)) (ap only (LL.tells PT SL r _ is)) refl $
+          land ! (found ! (mid .0) (stop !)) (init ! 15 refl (LL.lawful PT SL 𝓤 H A W .typed r _ is .0)) $ rewrite ! 15 (λ (u : Val). ‵ (fat fullShare (ty PT) l₃ 0 u)) (ap only (LL.tells PT SL r _ is)) refl $
           assigns ! (of-opd ! (load ! (found ! (mid .0) (fld ! refl (stop !))) (look-in ! 15 (sub ! 0 refl (whole !))))) (found ! (tes .0) (stop !)) (init ! 11 refl (tt, tt)) $
           first ! $ branches ! (load ! (found ! (tes .0) (stop !)) (look ! 11 refl))
           (λ hit.
@@ -445,15 +426,15 @@ module _ {T : Declared} (O : Parts T) (S : Parting) (ss : List Show) (wk : Width
           -- [the tokens; the arguments' last values; the arguments; what is lent again for e; the lengths; obs; the borrow; the token; what is lent again for h; the locals]
           land ! (at ! (stop !)) (init ! 21 refl (uint-lawful 𝓤 H A W w32 .typed y _ y-is .0)) $ rewrite ! 21 (λ (w : Val). ‵ (fat fullShare (tyInt w32) l₀ 0 w)) (ap only (y-is .0)) refl $
           forget ! 11 refl $ forget ! 13 refl $ forget ! 15 refl $ forget ! 17 refl $ forget ! 19 refl $
-          move ! (5 ∷ []) $ use1 W (‵ (fres (x .name) (R .coded .code h))) (W .names .obs-res (x .name) (R .coded .code h)) $ move ! (6 ∷ []) $ drop ! $
+          move ! (5 ∷ []) $ use1 W (‵ (fres (x .name) ((row T) .coded .code h))) (W .names .obs-res (x .name) ((row T) .coded .code h)) $ move ! (6 ∷ []) $ drop ! $
           -- [what says the record's last value; the tokens; the arguments' last values; the arguments; what is lent again for e; the lengths; the token; what is lent again for h; the locals]
           move ! (6 ∷ 1 ∷ 0 ∷ 2 ∷ 3 ∷ 5 ∷ 7 ∷ 4 ∷ []) $
           finishes l₀ l₁ l₂ bs l₃ l₄ ns l₅ l₆ cs es [] (lent ps den) y h (carry κs (κs .1) ps z (g.in-g ps) a ws) (y-is .1) (unwanted-so r r-so miss y (carry κs (κs .1) ps z (g.in-g ps) a ws) e-says) refl)))))))))))))))
 
   meets : Gives → {M : Type 1} → cited.Walked ended clauses callees code M
   meets gives {M} 𝓤 H A W 𝓣 ks known =
-      walk-meets 𝓤 H A ended stayed W (goes-gave-ref 𝓤 H A W (suc (refs ps)) 0 tt (plain (λ _. R)), (goes-none 𝓤 H A W (suc (refs ps)) (λ _. UInt wk) yes (λ κs x f. refl), gone 𝓤 H A W ps z)) (clauses M 𝓤) (WpFn 𝓤 H (𝓣 .C) (𝓣 .Λ) (code ks)) (WpFn-mono 𝓤 H (W .laws) 𝓣 (code ks))
-      (walked 𝓤 H A ended stayed (clauses M 𝓤) (WpFn 𝓤 H (𝓣 .C) (𝓣 .Λ) (code ks)) (λ κs. (ptr-vals, (uint-vals wk, spell κs ps z))) (λ κs. (mut-tells (named 0) (κs .0) R, (uint-tells wk, tell κs ps z)))
+      walk-meets 𝓤 H A ended stayed W (goes-gave-ref 𝓤 H A W (suc (refs ps)) 0 tt (plain (λ _. (row T))), (goes-none 𝓤 H A W (suc (refs ps)) (λ _. UInt wk) yes (λ κs x f. refl), gone 𝓤 H A W ps z)) (clauses M 𝓤) (WpFn 𝓤 H (𝓣 .C) (𝓣 .Λ) (code ks)) (WpFn-mono 𝓤 H (W .laws) 𝓣 (code ks))
+      (walked 𝓤 H A ended stayed (clauses M 𝓤) (WpFn 𝓤 H (𝓣 .C) (𝓣 .Λ) (code ks)) (λ κs. (ptr-vals, (uint-vals wk, spell κs ps z))) (λ κs. (mut-tells (named 0) (κs .0) (row T), (uint-tells wk, tell κs ps z)))
       (λ κs qs bounds a _ are. via 𝓤 _ (fst∗ 𝓤 _ (emp 𝓤)) (subst (λ (us : List Val). ent 𝓤 (onEntry 𝓤 H A (ended .signature) κs qs a (ptr-vals (a .0), (vint wk (a .1 .0) ∷ [], spelled κs ps z (a .1 .1)))) (WpFn 𝓤 H (𝓣 .C) (𝓣 .Λ) (code ks) (vptr (a .0 .ptr .0) (a .0 .ptr .1) ∷ vint wk (a .1 .0) ∷ us) (Post gives 𝓤 H A W κs (qs .0) (qs .1) (a .0) (a .1 .0) (a .1 .1) (are .1 .0 .1))))
       (sym (flat-is κs ps z (a .1 .1))) (walk gives 𝓤 H A W κs (qs .0) (qs .1) (a .0) (a .1 .0) (a .1 .1) (are .1 .0 .1) (𝓣 .C) (𝓣 .Λ) (fmOf 𝓤 H (W .laws) 𝓣) ks known (typed-row κs ps z (a .1 .1) (are .1 .1)) (are .1 .1)))))
 
