@@ -64,6 +64,15 @@ told-marks x f e = by (x .unknown) (x .failed) e
     by false true q = ap (λ l. standing l (firstTaken (f .intents))) (only-used (f .used))
     by false false q = true-false (sym q)
 
+-- one that is on the lists already stays where it is
+pub told-listed : (x : Change) (f : File) (h : Head) → cond (x .unknown) true (x .failed) ≡ true → isListed f ≡ true → movedHead f (changedFile x f) h ≡ h
+told-listed x f h e l = ap (λ s. movedBy (standingOf f) s h) (told-marks x f e) ∙ by (f .used) (f .marked) l
+  where
+    by : (u m : Bool) → cond u m false ≡ true → movedBy (standing (cond u m false) (firstTaken (f .intents))) (standing u (firstTaken (f .intents))) h ≡ h
+    by true true q = stands true (firstTaken (f .intents)) h
+    by true false q = true-false (sym q)
+    by false m q = true-false (sym q)
+
 pub told-leaves : (x : Change) (f : File) → cond (x .unknown) true (x .failed) ≡ false → changedFile x f ≡ f
 unfolding changedFile
 told-leaves x f e = by (x .unknown) (x .failed) e

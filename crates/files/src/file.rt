@@ -279,11 +279,14 @@ impl File {
         self
     }
 
-    // What stands beside the files then: a report that marks a file enters it on the lists.
+    // What stands beside the files then: a report that marks a file enters it on the lists, unless it is there.
     pub fn told(self, head: Head, change: Change) -> Head
         ensures { λ r. ⌜ r ≡ toldHead change head self ⌝ }
     {
         if marks(change) {
+            if self.listed() {
+                return head;
+            }
             let was = self.standing();
             let xs = self.intents;
             let is = Standing::of(self.used, intents::busy(xs));
