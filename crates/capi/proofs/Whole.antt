@@ -1,16 +1,18 @@
 -- What a call that changes more than one file does is what the definitions of crate recovery say of it, in this order: a fresh record; restart and the end of grace; register; forget.
 use mathlib.Core.Path.{_≡_, refl, sym, ap, _∙_, subst}
-use mathlib.Core.List.{List, [], _∷_, map, append-nil}
+use mathlib.Core.List.{List, [], _∷_, _++_, map, append-nil}
 use mathlib.Core.Bool.{Bool, true, false, cond}
 use Prim.Native.Nat.{ℕ, zero, suc, _+_, _-_, _<_, _≤_}
 use native.Mathlib.Omega.{arith}
-use lib.ListN.{getD, set, length, replicate, drop-of-length-le}
-use lib.Seq.{take-all}
+use lib.ListN.{getD, set, length, replicate, take, drop, length-append, length-drop, drop-of-length-le}
+use lib.Seq.{take-all, length-take-le, append-snoc, getD-at, set-append-seam, drop-cons}
 use lib.Dec.{eqb, ltb, leb}
 use borrow.Author.Tests.{lt-ltb, ltb-true, ltb-false, eqb-true}
 use Rattle.records.proofs.Headed.{if-called}
-use Rattle.records.proofs.Pulled.{pulls}
+use Rattle.records.proofs.Drawn.{draws}
 use Rattle.records.proofs.Raised.{raises}
+use Rattle.records.proofs.Reached.{reach, reach-past}
+use Rattle.records.proofs.Slid.{slides}
 use Rattle.records.proofs.Tallied.{tallied as tallies}
 use Rattle.places.specs.Places.{first, bump, placeOr}
 use Rattle.places.specs.declared.Found.{Found}
@@ -27,10 +29,9 @@ use Rattle.recovery.specs.Record.{freshAs, withFiles, withHead, placeIn, fileAt
 use Rattle.recovery.specs.declared.record.Record.{Record}
 use Rattle.recovery.specs.declared.record.Answered.{Answered}
 use Rattle.recovery.proofs.Tallying.{ended-counts}
-use Rattle.recovery.proofs.Moving.{Lowering, lowered-here, lowering-on, lowered-last}
 use Rattle.capi.specs.Place.{soughtIn}
 use Rattle.capi.specs.declared.Verdict.{Verdict}
-use Rattle.capi.specs.Whole.{endVerdict, forgetVerdict, emptiedFile, eachFile, endedEach, admittedOf, roomSought, isBelow, enteredFiles, pulledFiles}
+use Rattle.capi.specs.Whole.{endVerdict, forgetVerdict, emptiedFile, eachFile, endedEach, admittedOf, roomSought, isBelow, enteredFiles, slid, lastIn, lastSought, pulledFiles}
 use Rattle.capi.proofs.Fields.{files}
 use Rattle.capi.proofs.Places.{sought, sought-place}
 
@@ -146,33 +147,115 @@ registered-so n m r h = rw (sought-place n r h) (by-phase (r .head .grace) refl)
     by-phase false g = by-list (enrolledOf m .good) refl g
 
 -- ---- forget
-module _ (w : List File) where
-  pulls-so : (t i : ℕ) (r : Record) → i + t ≡ 63 → Lowering w (r .files) i → pulls files noFile blankFile isVacant t i r ≡ withFiles w r
-  unfolding files
-  pulls-so zero i r e s =
-      let q : i ≡ 63 = omega (arith, e) in
-      subst (λ (j : ℕ). if-called (ltb j 64) (withFiles (set (r .files) j blankFile) r) r ≡ withFiles w r) (sym q) (ap (λ fs. withFiles fs r) (lowered-last s q blankFile refl))
-  pulls-so (suc t) i r e s = by (isVacant (getD (r .files) (i + 1) noFile)) refl (λ s′. pulls-so t (i + 1) (withFiles (set (r .files) i (getD (r .files) (i + 1) noFile)) r) (omega (arith, e)) s′)
-    where
-      in-list : i < 63
-      in-list = omega (arith, e)
+-- what the turns of `slide` make, those before it being done
+slides-after : (p : List File) (x : File) (ys : List File) → slides noFile (length ys) (length p) (p ++ x ∷ ys) ≡ p ++ slid (x ∷ ys)
+unfolding slid
+slides-after p x [] = refl
+slides-after p x (y ∷ ys) =
+    ap (λ (zs : List File). slides noFile (length ys) (suc (length p)) zs) (ap (λ (z : File). set (p ++ x ∷ y ∷ ys) (length p) z) next ∙ set-append-seam p x (y ∷ ys) y)
+    ∙ ap (λ (n : ℕ). slides noFile (length ys) n (p ++ y ∷ y ∷ ys)) (sym (one-more y))
+    ∙ ap (λ (zs : List File). slides noFile (length ys) (length (p ++ (y ∷ []))) zs) (sym (append-snoc p y (y ∷ ys)))
+    ∙ slides-after (p ++ (y ∷ [])) y ys ∙ append-snoc p y (slid (y ∷ ys))
+  where
+    one-more : (z : File) → length (p ++ (z ∷ [])) ≡ suc (length p)
+    one-more z = let e : length (p ++ (z ∷ [])) ≡ length p + 1 = length-append p (z ∷ []) in omega (arith, e)
 
-      by : (b : Bool) → b ≡ isVacant (getD (r .files) (i + 1) noFile) → (Lowering w (set (r .files) i (getD (r .files) (i + 1) noFile)) (i + 1) → pulls files noFile blankFile isVacant t (i + 1) (withFiles (set (r .files) i (getD (r .files) (i + 1) noFile)) r) ≡ withFiles w (withFiles (set (r .files) i (getD (r .files) (i + 1) noFile)) r))
-          → if-called b (if-called (ltb i 64) (withFiles (set (r .files) i blankFile) r) r) (pulls files noFile blankFile isVacant t (i + 1) (withFiles (set (r .files) i (getD (r .files) (i + 1) noFile)) r)) ≡ withFiles w r
-      by true q next = rw (lt-ltb i 64 (omega (arith, e))) (ap (λ fs. withFiles fs r) (lowered-here s in-list (getD (r .files) (i + 1) noFile) refl true q refl blankFile refl))
-      by false q next = next (lowering-on s in-list (getD (r .files) (i + 1) noFile) refl false q refl)
+    next : getD (p ++ x ∷ y ∷ ys) (suc (length p)) noFile ≡ y
+    next = ap (λ (zs : List File). getD zs (suc (length p)) noFile) (sym (append-snoc p x (y ∷ ys))) ∙ getD-at (p ++ (x ∷ [])) y ys noFile (suc (length p)) (one-more x)
 
-pub pulled-so : (r : Record) (at : ℕ) (v : Verdict) → length (r .files) ≡ 64 → pulls files noFile blankFile isVacant (63 - at) at r ≡ pulledFiles r at v
-unfolding files pulledFiles pulled
+pub slid-so : (fs : List File) → slides noFile (length fs - 1) 0 fs ≡ slid fs
+unfolding slid
+slid-so [] = refl
+slid-so (f ∷ fs) = let e : suc (length fs) - 1 ≡ length fs = omega arith in rw e (slides-after [] f fs)
+
+pub slid-long : (fs : List File) → length (slid fs) ≡ length fs
+unfolding slid
+slid-long [] = refl
+slid-long (x ∷ []) = refl
+slid-long (x ∷ y ∷ ys) = ap suc (slid-long (y ∷ ys))
+
+-- how many files follow the first before a free place
+abbrev run : List File → ℕ
+run [] = 0
+run (x ∷ []) = 0
+run (x ∷ y ∷ ys) = cond (isVacant y) 0 (suc (run (y ∷ ys)))
+
+run-below : (x : File) (ys : List File) → run (x ∷ ys) < length (x ∷ ys)
+run-below x [] = omega arith
+run-below x (y ∷ ys) = by (isVacant y) (run-below y ys)
+  where
+    by : (b : Bool) → run (y ∷ ys) < suc (length ys) → cond b 0 (suc (run (y ∷ ys))) < suc (suc (length ys))
+    by true l = omega arith
+    by false l = omega (arith, l)
+
+-- the run slid down, with its last place emptied
+run-pulled : (x : File) (ys : List File) → set (slid (take (suc (run (x ∷ ys))) (x ∷ ys)) ++ drop (suc (run (x ∷ ys))) (x ∷ ys)) (run (x ∷ ys)) blankFile ≡ pulled (x ∷ ys)
+unfolding slid pulled
+run-pulled x [] = refl
+run-pulled x (y ∷ ys) = by (isVacant y) (run-pulled y ys)
+  where
+    at : Bool → ℕ
+    at b = cond b 0 (suc (run (y ∷ ys)))
+
+    by : (b : Bool) → set (slid (take (suc (run (y ∷ ys))) (y ∷ ys)) ++ drop (suc (run (y ∷ ys))) (y ∷ ys)) (run (y ∷ ys)) blankFile ≡ pulled (y ∷ ys)
+        → set (slid (take (suc (at b)) (x ∷ y ∷ ys)) ++ drop (suc (at b)) (x ∷ y ∷ ys)) (at b) blankFile ≡ cond b (blankFile ∷ y ∷ ys) (y ∷ pulled (y ∷ ys))
+    by true e = refl
+    by false e = ap (_∷_ y) e
+
+pub last-is : (fs : List File) (t i : ℕ) → reach noFile isVacant fs t i ≡ lastIn fs t i
+unfolding lastIn
+last-is fs zero i = refl
+last-is fs (suc t) i = ap (cond (isVacant (getD fs (i + 1) noFile)) i) (last-is fs t (i + 1))
+
+pub last-past : (r : Record) (at : ℕ) → at ≤ lastSought r at
+unfolding lastSought
+last-past r at = subst (λ (i : ℕ). at ≤ i) (last-is (r .files) (63 - at) at) (reach-past noFile isVacant (r .files) (63 - at) at)
+
+last-run : (fs : List File) (t i : ℕ) → i + suc t ≡ length fs → lastIn fs t i ≡ i + run (drop i fs)
+unfolding lastIn
+last-run fs zero i e =
+    let none-left : length fs ≤ suc i = omega (arith, e) in
+    rw (drop-cons fs i noFile (omega (arith, e)), drop-of-length-le fs none-left) (omega arith)
+last-run fs (suc t) i e =
+    let n : i + 1 ≡ suc i = omega arith in
+    rw (n, last-run fs t (suc i) (omega (arith, e)), drop-cons fs i noFile (omega (arith, e)), drop-cons fs (suc i) noFile (omega (arith, e))) (by (isVacant (getD fs (suc i) noFile)) (run (getD fs (suc i) noFile ∷ drop (suc (suc i)) fs)))
+  where
+    by : (b : Bool) (m : ℕ) → cond b i (suc i + m) ≡ i + cond b 0 (suc m)
+    by true m = omega arith
+    by false m = omega arith
+
+set-past : (p zs : List File) (n : ℕ) → set (p ++ zs) (length p + n) blankFile ≡ p ++ set zs n blankFile
+set-past [] zs n = let e : 0 + n ≡ n = omega arith in rw e refl
+set-past (x ∷ p) zs n = let e : suc (length p) + n ≡ suc (length p + n) = omega arith in rw e (ap (_∷_ x) (set-past p zs n))
+
+pub pulled-so : (r : Record) (at : ℕ) (v : Verdict) → length (r .files) ≡ 64 → draws files blankFile slid r at (lastSought r at) ≡ pulledFiles r at v
+unfolding files lastSought pulledFiles pulled lastIn
 pulled-so r at v long = by (ltb at 64) refl
   where
-    by : (b : Bool) → ltb at 64 ≡ b → pulls files noFile blankFile isVacant (63 - at) at r ≡ withFiles (withoutFile at (r .files)) r
-    by true e = let l : at < 64 = ltb-true at 64 e in pulls-so (withoutFile at (r .files)) (63 - at) at r (omega (arith, l)) (record { rest = refl; long = long })
+    fs : List File
+    fs = r .files
+
+    inside : at < 64 → draws files blankFile slid r at (lastIn fs (63 - at) at) ≡ withFiles (withoutFile at fs) r
+    inside l =
+        let here : drop at fs ≡ getD fs at noFile ∷ drop (suc at) fs = drop-cons fs at noFile (omega (arith, l, long)) in
+        let m : ℕ = run (drop at fs) in
+        let far : lastIn fs (63 - at) at ≡ at + m = last-run fs (63 - at) at (omega (arith, l, long)) in
+        let few : m < length (drop at fs) = subst (λ (zs : List File). run zs < length zs) (sym here) (run-below (getD fs at noFile) (drop (suc at) fs)) in
+        let left : length (drop at fs) ≡ length fs - at = length-drop at fs in
+        let k : at + m + 1 - at ≡ suc m = omega arith in
+        let front : length (take at fs) ≡ at = length-take-le at fs (omega (arith, l, long)) in
+        rw (far, lt-ltb (at + m) 64 (omega (arith, few, left, long, l)), k)
+        (ap (λ zs. withFiles zs r) (ap (λ (n : ℕ). set (take at fs ++ (slid (take (suc m) (drop at fs)) ++ drop (suc m) (drop at fs))) (n + m) blankFile) (sym front)
+        ∙ set-past (take at fs) (slid (take (suc m) (drop at fs)) ++ drop (suc m) (drop at fs)) m
+        ∙ ap (λ zs. take at fs ++ zs) (subst (λ (zs : List File). set (slid (take (suc (run zs)) zs) ++ drop (suc (run zs)) zs) (run zs) blankFile ≡ pulled zs) (sym here) (run-pulled (getD fs at noFile) (drop (suc at) fs)))))
+
+    by : (b : Bool) → ltb at 64 ≡ b → draws files blankFile slid r at (lastIn fs (63 - at) at) ≡ withFiles (withoutFile at fs) r
+    by true e = inside (ltb-true at 64 e)
     by false e =
         let l : 64 ≤ at = ltb-false at 64 e in
         let z : 63 - at ≡ 0 = omega (arith, l) in
-        let k : length (r .files) ≤ at = omega (arith, long, l) in
-        rw (z, e, take-all at (r .files) k, drop-of-length-le (r .files) k, append-nil)
+        let k : length fs ≤ at = omega (arith, long, l) in
+        rw (z, e, take-all at fs k, drop-of-length-le fs k, append-nil)
 
 -- the record once a call has been answered v
 abbrev pub after-pulling : Record → ℕ → Verdict → Record

@@ -1,9 +1,10 @@
 -- MODEL. Calls that change more than one file, as the code in place makes them: what such a call answers, and what becomes of the files. In this order: restart,
 -- the end of grace and a fresh record; register; forget. proofs/Whole.antt proves them equal to the definitions of crate recovery.
-use mathlib.Core.List.{List, map}
+use mathlib.Core.List.{List, [], _∷_, map}
 use mathlib.Core.Bool.{Bool, true, false, not, cond}
-use Prim.Native.Nat.{ℕ}
+use Prim.Native.Nat.{ℕ, zero, suc, _+_, _-_}
 use lib.Dec.{leb}
+use lib.ListN.{getD}
 use Rattle.statuses.specs.Names.{Bytes, Status, FileNumber}
 use Rattle.walks.specs.Seek.{seek}
 use Rattle.mirroring.specs.Mirrors.{enrolledOf}
@@ -70,6 +71,20 @@ enteredFiles r at s = withFiles (enter (s .file) (r .files)) r
 -- ---- forget
 abbrev pub forgetVerdict : ℕ → Head → File → Verdict
 forgetVerdict n h f = verdict (forgettable n h f) h
+
+-- each file over the one before it
+unfoldable pub slid : List File → List File
+slid [] = []
+slid (x ∷ []) = x ∷ []
+slid (x ∷ y ∷ ys) = y ∷ slid (y ∷ ys)
+
+-- the last place before a free one, from i on, in at most t steps
+unfoldable pub lastIn : List File → ℕ → ℕ → ℕ
+lastIn fs zero i = i
+lastIn fs (suc t) i = cond (isVacant (getD fs (i + 1) noFile)) i (lastIn fs t (i + 1))
+
+unfoldable pub lastSought : Record → ℕ → ℕ
+lastSought r at = lastIn (r .files) (63 - at) at
 
 unfoldable pub pulledFiles : Record → ℕ → Verdict → Record
 pulledFiles r at s = withFiles (withoutFile at (r .files)) r

@@ -36,7 +36,7 @@ ghost use Rattle.capi.specs.Place.{isNumbered, soughtIn};
 ghost use Rattle.capi.specs.Asked.{listingBy};
 ghost use Rattle.capi.specs.Lent.{columnOf, maskOf};
 ghost use Rattle.capi.specs.LayoutReturn.{begunOf, returnedIn};
-ghost use Rattle.capi.specs.Whole.{restartVerdict, endVerdict, forgetVerdict, emptiedFile, eachFile, endedEach, refusedWith, admittedOf, isVacantPlace, roomSought, isBelow, enteredFiles, pulledFiles};
+ghost use Rattle.capi.specs.Whole.{restartVerdict, endVerdict, forgetVerdict, emptiedFile, eachFile, endedEach, refusedWith, admittedOf, isVacantPlace, roomSought, isBelow, enteredFiles, pulledFiles, slid, lastSought};
 
 // ---- The place of a file.
 // Whether a place with this flag and number is the file's.
@@ -345,19 +345,46 @@ fn forgetting(f: File, number: u64, head: Head) -> Verdict
     Verdict { status, head }
 }
 
-// The files without that at `at`: those after it, up to the first free place, move down one place.
-fn pull(r: &mut Record, at: usize, s: Verdict)
-    ensures { λ _. ⌜ now (r .exit) ≡ pulledFiles (now (r .entry)) at s ⌝ }
+// The files of a slice, each moved down over the one before it: the first goes, and the last stays where it is too.
+fn slide(fs: &mut [File])
+    ensures { λ _. ⌜ now (fs .exit) ≡ slid (now (fs .entry)) ⌝ }
+{
+    let mut i: usize = 1;
+    while i < fs.len() {
+        fs[i - 1] = fs[i];
+        i += 1;
+    }
+}
+
+// The same: where the compiler works on the loop a second time, with the slice as its one base, it makes one move of the copies.
+fn slide_whole(fs: &mut [File])
+    ensures { λ _. ⌜ now (fs .exit) ≡ slid (now (fs .entry)) ⌝ }
+{
+    slide(fs)
+}
+
+// The place of the last file before the first free place after `at`.
+fn last(r: &Record, at: usize) -> usize
+    ensures { λ i. ⌜ i ≡ lastSought (now (r .entry)) at ⌝ }
 {
     let mut i = at;
     while i < 63 {
         if free(r.files[i + 1].used) {
             break;
         }
-        r.files[i] = r.files[i + 1];
         i += 1;
     }
+    i
+}
+
+// The files without that at `at`: those after it, up to the first free place, move down one place.
+fn pull(r: &mut Record, at: usize, s: Verdict)
+    ensures { λ _. ⌜ now (r .exit) ≡ pulledFiles (now (r .entry)) at s ⌝ }
+{
+    let i = last(r, at);
     if i < 64 {
+        let end = i + 1;
+        slide_whole(&mut r.files[at..end]);
         r.files[i] = File::blank();
     }
 }

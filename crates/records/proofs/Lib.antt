@@ -3,9 +3,13 @@
 -- Loops over the array:
 --     Each             f(r: &mut T)  { for each i:  r.list[i] = g(r.list[i]) }
 --     Tallied          f(r: &mut T)  { for each i:  r.list[i] = g(r.list[i]);  r.head = e(r.list[i], r.head) }
---     Pulled           f(r: &mut T, at, s)  { what stands after a place is pulled down over it, up to a place that a test says }
+--     Reached          f(r: &T, at) -> usize  { how far the array goes from a place on, before a place that a test says }
 --     Listed           f(r: &T, a, b, count) -> u32  { for each i, several times over:  c = g(r.list[i % N], i, c, a, b), with two slices that are lent again at each turn }
 --     Raised           f(r: &mut T, at, s)  { those before a free place that a test says move up one place, and s.rec is entered }
+-- A part of the array that is lent as a slice:
+--     Drawn            f(r: &mut T, at, s)  { let i = p(r, at);  if i < N { g(&mut r.list[at..i + 1]);  r.list[i] = e(); } }
+--     Slid             f(s: &mut [F])  { each element moves down over the one before it }
+--     Onward           f(s: &mut [F])  { g(s) }
 -- Calls that lend the record to such a function:
 --     Headed           f(r: &mut T) -> u32  { let s = g(r.head);  r.head = s.head;  if s.status == 0 { h(r); }  s.status }
 --     Passed           a CHANGE of crate walks' `Changed`:  if s.status == 0 { h(r, i, s); }
@@ -16,6 +20,7 @@
 -- What these rest on, beside crate walks:
 --     Alone            a function whose one parameter is the record: its contract, and how its walk ends
 --     Placed           a function that is handed the record, a place and a struct: the same
+--     Sliced           a function that is lent a slice of structs: the same; an element of the slice; a part of an array in a record; the call of such a function
 --     Within           the call of a function that is handed the record where it lies
 --     Shown            what is shown of the arguments to a function before they are handed on: numbers, `&[uW]`, and lengths
 --     Again            a slice that is lent again for a call, and comes back
@@ -25,16 +30,20 @@ pub mod Again
 pub mod Alone
 pub mod Beside
 pub mod Cleared
+pub mod Drawn
 pub mod Each
 pub mod Headed
 pub mod Listed
 pub mod Lists
+pub mod Onward
 pub mod Parted
 pub mod Passed
 pub mod Placed
-pub mod Pulled
 pub mod Raised
+pub mod Reached
 pub mod Rounds
 pub mod Shown
+pub mod Sliced
+pub mod Slid
 pub mod Tallied
 pub mod Within

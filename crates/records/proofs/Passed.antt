@@ -1,7 +1,7 @@
 -- A CHANGE of crate walks' `Changed.antt`: a function is handed the record where it lies, and may change all of it, where g's status is 0,
 --     { let i = p(r, n);  let s = g(r.list[i], n, r.head, args..);  if s.status == 0 { h(r, i, s); }  r.head = s.head;  s.status }
 --     fn h(r: &mut T, i: usize, s: S)      ensures { λ _. ⌜ now (r .exit) ≡ Y (now (r .entry)) i s ⌝ }
--- of which h may be one of `Pulled.antt`'s or `Raised.antt`'s. In this order: the contract of h, and
+-- of which h may be one of `Drawn.antt`'s or `Raised.antt`'s. In this order: the contract of h, and
 --     passed       the CHANGE: its code, and what it does
 -- Assumes nothing.
 use mathlib.Core.Path.{_≡_, refl, sym, _∙_, ap}

@@ -1,4 +1,4 @@
--- A function that is handed a record behind a reference, a place and a struct of plain data, as `Pulled.antt`'s and `Raised.antt`'s are:
+-- A function that is handed a record behind a reference, a place and a struct of plain data, as `Drawn.antt`'s and `Raised.antt`'s are:
 --     fn f(r: &mut T, at: usize, s: S)   ensures { λ _. ⌜ now (r .exit) ≡ Y (now (r .entry)) at s ⌝ }
 -- In this order: its contract; where a walk of it starts and ends;
 --     exits        the end of a walk: the record is closed

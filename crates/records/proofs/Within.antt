@@ -1,6 +1,6 @@
 -- A step of a walk: the record lies in memory, behind an open borrow, and is lent to a function that changes it where it lies,
 --     fn p(r: &mut T, leads..) -> V   ensures { λ v. ⌜ P (now (r .entry)) l (now (r .exit)) v ⌝ }
--- with values of plain data after it (`Leads.antt` of crate walks). Those of `Each.antt`, `Pulled.antt` and `Raised.antt` are such functions.
+-- with values of plain data after it (`Leads.antt` of crate walks). Those of `Each.antt`, `Drawn.antt` and `Raised.antt` are such functions.
 --     Callee       the contract of p
 --     calls-in     the call, as the last statement of its part: afterwards the record is one of which P holds
 -- Assumes `Given`.

@@ -1,15 +1,16 @@
--- `pull` meets its contract, by the law of an array that is pulled down over a place, over `free` and `File::blank`.
-use mathlib.Core.Bool.{not}
+-- `pull` meets its contract, by the law of an array of which a part is lent and moves down, over `last`, `slide_whole` and `File::blank`.
 use native.Mathlib.Omega.{arith}
-use Rattle.records.proofs.Pulled as pulled
+use Rattle.records.proofs.Drawn as drawn
 use Rattle.files.specs.File.{noFile, blankFile}
-use Rattle.capi.specs.Whole.{pulledFiles}
+use Rattle.capi.specs.Whole.{slid, lastSought, pulledFiles}
 use Rattle.capi.proofs.Verdict.Laws as J′
 use Rattle.capi.proofs.Types.{file, heading, verdict}
-use Rattle.capi.proofs.Fields.{files, used}
-use Rattle.capi.proofs.Whole.{pulled-so}
-use Rattle.capi.proofs.free.Symbol as q
-use Rattle.capi.proofs.free.Met as q-thm
+use Rattle.capi.proofs.Fields.{files}
+use Rattle.capi.proofs.Whole.{slid-long, last-past, pulled-so}
+use Rattle.capi.proofs.last.Symbol as p
+use Rattle.capi.proofs.last.Met as p-thm
+use Rattle.capi.proofs.slide_whole.Symbol as g
+use Rattle.capi.proofs.slide_whole.Met as g-thm
 use Rattle.files.proofs.file.File.blank.Symbol as e
 use Rattle.files.proofs.file.File.blank.Met as e-thm
 use Rattle.capi.proofs.pull.Key.{name as #f}
@@ -17,8 +18,8 @@ use Rattle.capi.proofs.pull.Statement as stated
 use Rattle.capi.proofs.pull.Code as code
 
 pub pull-spec : {M : Type 1} → stated.statement M
-unfolding code.routine files used
+unfolding code.routine files
 pull-spec 𝓤 H 𝓜 𝓖 𝓡 =
-    pulled.spec file heading files verdict J′.the-copy tt tt 63 tt (omega arith) noFile blankFile used not pulledFiles (λ r at v long. pulled-so r at v long)
-    𝓤 H 𝓜 𝓖 𝓡 code.env #f (q.name, (e.name, tt)) (q.routine, (e.routine, tt)) (code.calls-capi·free, (code.calls-files·file·File·blank, tt)) (code.unfolded 𝓤 H 𝓜 𝓡)
-    (q-thm.met 𝓤 H 𝓜 𝓖 𝓡, (e-thm.met 𝓤 H 𝓜 𝓖 𝓡, tt))
+    drawn.spec file heading files verdict J′.the-copy tt tt (omega arith) (omega arith) noFile blankFile lastSought last-past slid slid-long pulledFiles pulled-so
+    𝓤 H 𝓜 𝓖 𝓡 code.env #f (p.name, (g.name, (e.name, tt))) (p.routine, (g.routine, (e.routine, tt))) (code.calls-capi·last, (code.calls-capi·slide-whole, (code.calls-files·file·File·blank, tt))) (code.unfolded 𝓤 H 𝓜 𝓡)
+    (p-thm.met 𝓤 H 𝓜 𝓖 𝓡, (g-thm.met 𝓤 H 𝓜 𝓖 𝓡, (e-thm.met 𝓤 H 𝓜 𝓖 𝓡, tt)))
