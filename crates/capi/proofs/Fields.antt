@@ -36,13 +36,13 @@ files = record {
 unfoldable pub head : Inner T.the-type B.the-type
 head = record {
   k = 1;
-  d = 16896;
+  d = 25088;
   get = λ r. r .head;
   over = λ r h. withHead h r;
   keeps = λ r. refl;
   found = refl;
-  cut = λ M 𝓤 H A W q r h a. cut-record 𝓤 H A q (row T.the-type) B.the-type 16896 r (withHead h r) (r .head) h a
-      (put-at 𝓤 H A W q T.the-type T′.the-laws 1 16896 refl refl a r (withHead h r) (T.struct .as-values r) h refl refl);
+  cut = λ M 𝓤 H A W q r h a. cut-record 𝓤 H A q (row T.the-type) B.the-type 25088 r (withHead h r) (r .head) h a
+      (put-at 𝓤 H A W q T.the-type T′.the-laws 1 25088 refl refl a r (withHead h r) (T.struct .as-values r) h refl refl);
 }
 
 pub filed : Lists files
@@ -57,7 +57,7 @@ abbrev pub parts : Parts T.the-type
 parts = record { F = file; list = files; small = tt; none = noFile; H = heading; head = head }
 
 unfoldable pub used : Kept F.the-type bool
-used = record { k = 3; d = 256; get = λ f. f .used; found = refl; cut = λ M 𝓤 H A W q f a. look-at 𝓤 H A W q F.the-type F′.the-laws 3 256 refl refl a f (F.struct .as-values f) refl }
+used = record { k = 3; d = 384; get = λ f. f .used; found = refl; cut = λ M 𝓤 H A W q f a. look-at 𝓤 H A W q F.the-type F′.the-laws 3 384 refl refl a f (F.struct .as-values f) refl }
 
 unfoldable pub number : Kept F.the-type u64
 number = record { k = 0; d = 0; get = λ f. f .number; found = refl; cut = λ M 𝓤 H A W q f a. look-at 𝓤 H A W q F.the-type F′.the-laws 0 0 refl refl a f (F.struct .as-values f) refl }

@@ -1,7 +1,7 @@
--- The record, its head, a file, what a call on a record or a file answers, and what a listing carries, as the laws of `walks` and `records` take them.
+-- The record, its head, a file, a stateid, what a call on a record or a file answers, and what a listing carries, as the laws of `walks` and `records` take them.
 use denote.Enum.Declared.{field as enum-field}
 use denote.Struct.Declared.{field}
-use denote.Struct.Field.{usize-field, bool-field}
+use denote.Struct.Field.{u64-field, usize-field, bool-field}
 use denote.Struct.Laws as LL
 use mathlib.Core.List.{[], _∷_}
 use Rattle.walks.proofs.Types.{Rec, Headed, Stored, stored-as}
@@ -11,6 +11,8 @@ use Rattle.mirroring.proofs.blame.Change as C
 use Rattle.mirroring.proofs.blame.Change.Laws as C′
 use Rattle.mirroring.proofs.totals.Totals as U
 use Rattle.mirroring.proofs.totals.Totals.Laws as U′
+use Rattle.wire.proofs.stateid.Stateid as S
+use Rattle.wire.proofs.stateid.Stateid.Laws as S′
 use Rattle.layoutreturn.specs.declared.Outcome.{Outcome}
 use Rattle.layoutreturn.proofs.Outcome as O
 use Rattle.files.specs.declared.file.FileAnswered.{FileAnswered}
@@ -40,6 +42,9 @@ heading = record { T = B.the-type; laws = B′.the-laws; plain = B′.the-plain;
 abbrev pub file : Rec
 file = record { T = F.the-type; laws = F′.the-laws; plain = F′.the-plain; lowers = F′.lowers }
 
+abbrev pub stateid : Rec
+stateid = record { T = S.the-type; laws = S′.the-laws; plain = S′.the-plain; lowers = S′.lowers }
+
 abbrev pub file-answered : Stored heading file
 file-answered = record { name = A.the-type .name; D = FileAnswered; status = λ s. s .status; head = λ s. s .head; rec = λ s. s .file; one = A.the-type .to-one }
 
@@ -47,13 +52,13 @@ abbrev pub outcome : Headed heading
 outcome = record {
   name = O.the-type .name;
   D = Outcome;
-  others = field C.the-type ∷ field U.the-type ∷ [];
+  others = field C.the-type ∷ field U.the-type ∷ u64-field ∷ field S.the-type ∷ [];
   status = λ o. o .status;
   head = λ o. o .head;
-  rest = λ o. (C.the-type .to (o .change), (U.the-type .to (o .totals), tt));
+  rest = λ o. (C.the-type .to (o .change), (U.the-type .to (o .totals), (o .client, (S.the-type .to (o .stateid), tt))));
   one = O.the-type .to-one;
-  laws = (LL.field-laws C.the-type C′.the-laws C′.lowers, (LL.field-laws U.the-type U′.the-laws U′.lowers, tt));
-  plain = (LL.field-plain C.the-type C′.the-plain, (LL.field-plain U.the-type U′.the-plain, tt));
+  laws = (LL.field-laws C.the-type C′.the-laws C′.lowers, (LL.field-laws U.the-type U′.the-laws U′.lowers, (LL.u64-laws, (LL.field-laws S.the-type S′.the-laws S′.lowers, tt))));
+  plain = (LL.field-plain C.the-type C′.the-plain, (LL.field-plain U.the-type U′.the-plain, (LL.u64-plain, (LL.field-plain S.the-type S′.the-plain, tt))));
 }
 
 abbrev pub begun : Parting

@@ -1,11 +1,12 @@
 -- MODEL. A file's place, as a loop over the record where it lies finds it: the test of one place, and the first of the 63 places that passes, or the last
--- place. proofs/Places.antt proves it equal to `placeIn` of crate recovery.
+-- place. proofs/Places.antt proves it equal to `placeIn` of crate recovery. Then the first of the 64 places whose file uses a stateid's `other`, or 64.
 use mathlib.Core.Bool.{Bool, false, cond}
 use Prim.Native.Nat.{ℕ}
 use lib.Dec.{eqb}
 use Rattle.statuses.specs.Names.{FileNumber}
 use Rattle.walks.specs.Seek.{seek}
-use Rattle.files.specs.File.{noFile, isFile}
+use Rattle.wire.specs.declared.stateid.Stateid.{Stateid}
+use Rattle.files.specs.File.{noFile, isFile, usesStateid}
 use Rattle.recovery.specs.declared.record.Record.{Record}
 
 abbrev pub isNumbered : Bool → FileNumber → FileNumber → Bool
@@ -13,3 +14,6 @@ isNumbered used number file = cond used (eqb number file) false
 
 unfoldable pub soughtIn : FileNumber → Record → ℕ
 soughtIn n r = seek (isFile n) noFile (r .files) 63 0
+
+unfoldable pub userIn : Stateid → Record → ℕ
+userIn t r = seek (usesStateid t) noFile (r .files) 64 0

@@ -1,7 +1,7 @@
 // What a C server calls on a recovery record that it owns (paper 01, "The recovery record"): each call of the record, on the record where it
 // lies, with the promise of the method by value. A call on one file reads that file and what stands beside the files, and
 // changes both in their place, and LAYOUTRETURN looks one up only where it is wanted; fresh, register, forget, restart and the end of grace move or change the files where they lie;
-// the two lists read each file where it lies.
+// the two lists, and the set-up of a stateid before its own file, read each file where it lies.
 // A function that takes a reference has the form that the law of `walks` or `records` which proves it is stated for: each test is a function of values,
 // a loop is left by `break`, and a field is reached anew each time. First a file's place, then the functions by value that `recovery` and `files` lack,
 // then what changes more than one file, and the calls in the paper's order.
@@ -17,25 +17,27 @@ use layoutreturn::Decision;
 use layoutreturn::Outcome;
 use mirroring::totals::Totals;
 use recovery::record::Record;
+use wire::stateid::Stateid;
 ghost use mathlib.Core.Path.{_≡_};
 ghost use mathlib.Core.Bool.{not};
 ghost use Rattle.recovery.specs.Calls.{listed};
 ghost use Rattle.recovery.specs.Counts.{counts, countsOf};
-ghost use Rattle.recovery.specs.Record.{freshAs, fresh, registerOf, openOf, reclaimOf, closeOf, repairedOf, addProxyOf, removeProxyOf, forgetOf, endOf, restartOf};
+ghost use Rattle.recovery.specs.Record.{freshAs, fresh, registerOf, openOf, reclaimOf, closeOf, repairedOf, addProxyOf, removeProxyOf, setUpOf, forgetOf, endOf, restartOf};
 ghost use Rattle.recovery.specs.LayoutReturn.{layoutreturnOf, replyAfter};
 ghost use Rattle.recovery.specs.declared.listing.Listing.the-variants.{Resilver, Offered};
 ghost use Rattle.layoutreturn.specs.LayoutReturn.{decisionOf, outcomeBy, replyBy};
-ghost use Rattle.layoutreturn.specs.declared.Decision.the-variants.{ReadBody};
+ghost use Rattle.wire.specs.Stateid.{noStateid};
 ghost use Rattle.mirroring.specs.Totals.{noTotals};
 ghost use Prim.Native.Nat.{_<_};
 ghost use lib.ListN.{length};
 ghost use Rattle.files.specs.declared.head.Edition.the-variants.{Current, Old};
 ghost use Rattle.files.specs.File.{restartedFile};
 ghost use Rattle.files.specs.Head.{freshHead};
-ghost use Rattle.capi.specs.Place.{isNumbered, soughtIn};
+ghost use Rattle.capi.specs.Place.{isNumbered, soughtIn, userIn};
+ghost use Rattle.capi.specs.SetUp.{barredBy, setUpFile, setUpWith};
 ghost use Rattle.capi.specs.Asked.{listingBy};
 ghost use Rattle.capi.specs.Lent.{columnOf, maskOf};
-ghost use Rattle.capi.specs.LayoutReturn.{begunOf, returnedIn};
+ghost use Rattle.capi.specs.LayoutReturn.{begunOf, bodyRead, returnedIn, stateidFor};
 ghost use Rattle.capi.specs.Whole.{restartVerdict, endVerdict, forgetVerdict, emptiedFile, eachFile, endedEach, refusedWith, admittedOf, isVacantPlace, roomSought, isBelow, enteredFiles, pulledFiles, slid, lastSought};
 
 // ---- The place of a file.
@@ -53,6 +55,20 @@ fn position(r: &Record, file: u64) -> usize
     let mut i: usize = 0;
     while i < 63 {
         if is(r.files[i].used, r.files[i].number, file) {
+            break;
+        }
+        i += 1;
+    }
+    i
+}
+
+// The place of the first file that uses the `other` of `t`, or 64: the record is read where it lies.
+fn user(r: &Record, t: Stateid) -> usize
+    ensures { λ i. ⌜ i ≡ userIn t (now (r .entry)) ⌝ }
+{
+    let mut i: usize = 0;
+    while i < 64 {
+        if File::uses(r.files[i], t) {
             break;
         }
         i += 1;
@@ -88,7 +104,22 @@ fn begin(head: Head, request: &[u8], room: usize) -> Begun
             status: 0,
             len,
         },
+        Decision::ReturnBody(len) => Begun {
+            wanted: true,
+            status: 0,
+            len,
+        },
     }
+}
+
+// What was decided where a file is wanted: a body is read in grace, and an ordinary return is one out of it.
+fn to_read(head: Head, len: usize) -> Decision
+    ensures { λ d. ⌜ d ≡ bodyRead head len ⌝ }
+{
+    if head.grace {
+        return Decision::ReadBody(len);
+    }
+    Decision::ReturnBody(len)
 }
 
 // A LAYOUTRETURN for which no file is wanted: its reply, and no totals. It gets the arguments that the call on a file gets.
@@ -103,13 +134,13 @@ fn without_file(
     written_over: &mut u32,
 ) -> u32
     ensures { λ s. ⌜ (s ≡ status)
-        × (now (reply .exit) ≡ replyBy status (now (reply .entry)))
+        × (now (reply .exit) ≡ replyBy status noStateid (now (reply .entry)))
         × (now (read .exit) ≡ columnOf (noTotals .read .bytes) (now (read .entry)))
         × (now (written .exit) ≡ columnOf (noTotals .written .bytes) (now (written .entry)))
         × (now («read_over» .exit) ≡ maskOf (noTotals .read .over))
         × (now («written_over» .exit) ≡ maskOf (noTotals .written .over)) ⌝ }
 {
-    layoutreturn::reply(status, reply);
+    layoutreturn::reply(status, Stateid::none(), reply);
     let t = Totals::none();
     let none = t.read;
     *read_over = totals::hand_out(none, read);
@@ -117,7 +148,7 @@ fn without_file(
     status
 }
 
-// LAYOUTRETURN on one file, but for the change, with its reply and its totals handed out: steps 5 to 7.
+// LAYOUTRETURN on one file, but for the change, with its reply and its totals handed out: steps 5 to 7, or an ordinary return.
 fn answered(
     f: File,
     number: u64,
@@ -131,14 +162,14 @@ fn answered(
     read_over: &mut u32,
     written_over: &mut u32,
 ) -> Outcome
-    ensures { λ o. ⌜ (o ≡ outcomeBy number head client (now (request .entry)) f (ReadBody len))
-        × (now (reply .exit) ≡ replyBy (o .status) (now (reply .entry)))
+    ensures { λ o. ⌜ (o ≡ outcomeBy number head client (now (request .entry)) f (bodyRead head len))
+        × (now (reply .exit) ≡ replyBy (o .status) (o .stateid) (now (reply .entry)))
         × (now (read .exit) ≡ columnOf (o .totals .read .bytes) (now (read .entry)))
         × (now (written .exit) ≡ columnOf (o .totals .written .bytes) (now (written .entry)))
         × (now («read_over» .exit) ≡ maskOf (o .totals .read .over))
         × (now («written_over» .exit) ≡ maskOf (o .totals .written .over)) ⌝ }
 {
-    let d = Decision::ReadBody(len);
+    let d = to_read(head, len);
     let o = layoutreturn::answer(d, f, number, head, client, request, reply);
     let t = o.totals;
     let r = t.read;
@@ -146,6 +177,25 @@ fn answered(
     *read_over = totals::hand_out(r, read);
     *written_over = totals::hand_out(w, written);
     o
+}
+
+// Whether an `other` may not be a new stateid's; a file uses it where `at` is a place.
+fn barred(other: &[u8], at: usize) -> bool
+    ensures { λ z. ⌜ z ≡ barredBy (now (other .entry)) at ⌝ }
+{
+    if wire::stateid::bad_other(other) {
+        return true;
+    }
+    at < 64
+}
+
+// The set-up of a stateid on one file.
+fn set_up(f: File, number: u64, head: Head, at: usize, client: u64, other: &[u8]) -> FileAnswered
+    ensures { λ s. ⌜ s ≡ setUpFile number head at client (now (other .entry)) f ⌝ }
+{
+    let bars = barred(other, at);
+    let t = wire::stateid::begun(other);
+    f.set_up_stateid(number, head, client, t, bars)
 }
 
 // ---- A call that changes more than one file.
@@ -488,6 +538,32 @@ pub extern "C" fn sc_record_remove_proxy(r: &mut Record, file: u64) -> u32
     s.status
 }
 
+// The set-up of a client's stateid, where a file that uses its `other` has been looked for.
+fn set_up_on_file(r: &mut Record, file: u64, at: usize, client: u64, other: &[u8]) -> u32
+    ensures { λ s. ⌜ (s ≡ setUpWith file at client (now (other .entry)) (now (r .entry)) .status) × (now (r .exit) ≡ setUpWith file at client (now (other .entry)) (now (r .entry)) .after) ⌝ }
+{
+    let i = position(r, file);
+    let s = set_up(r.files[i], file, r.head, at, client, other);
+    r.files[i] = s.file;
+    r.head = s.head;
+    s.status
+}
+
+// A client's stateid (02, Ticket 13).
+#[no_mangle]
+pub extern "C" fn sc_record_set_up_stateid(
+    r: &mut Record,
+    file: u64,
+    client: u64,
+    other: &[u8],
+) -> u32
+    ensures { λ s. ⌜ (s ≡ setUpOf file client (now (other .entry)) (now (r .entry)) .status) × (now (r .exit) ≡ setUpOf file client (now (other .entry)) (now (r .entry)) .after) ⌝ }
+{
+    let t = wire::stateid::begun(other);
+    let at = user(r, t);
+    set_up_on_file(r, file, at, client, other)
+}
+
 #[no_mangle]
 pub extern "C" fn sc_record_forget(r: &mut Record, file: u64) -> u32
     ensures { λ s. ⌜ (s ≡ forgetOf file (now (r .entry)) .status) × (now (r .exit) ≡ forgetOf file (now (r .entry)) .after) ⌝ }
@@ -525,7 +601,7 @@ pub extern "C" fn sc_record_restart(r: &mut Record) -> u32
     s.status
 }
 
-// LAYOUTRETURN for which a file is wanted, on that file's place: steps 5 to 7.
+// LAYOUTRETURN for which a file is wanted, on that file's place: steps 5 to 7, or an ordinary return.
 fn with_file(
     r: &mut Record,
     file: u64,
@@ -540,7 +616,7 @@ fn with_file(
 ) -> u32
     ensures { λ s. ⌜ (s ≡ returnedIn file len client (now (request .entry)) (now (r .entry)) .status)
         × (now (r .exit) ≡ returnedIn file len client (now (request .entry)) (now (r .entry)) .after)
-        × (now (reply .exit) ≡ replyBy s (now (reply .entry)))
+        × (now (reply .exit) ≡ replyBy s (stateidFor file len client (now (request .entry)) (now (r .entry))) (now (reply .entry)))
         × (now (read .exit) ≡ columnOf (returnedIn file len client (now (request .entry)) (now (r .entry)) .totals .read .bytes) (now (read .entry)))
         × (now (written .exit) ≡ columnOf (returnedIn file len client (now (request .entry)) (now (r .entry)) .totals .written .bytes) (now (written .entry)))
         × (now («read_over» .exit) ≡ maskOf (returnedIn file len client (now (request .entry)) (now (r .entry)) .totals .read .over))

@@ -1,5 +1,5 @@
--- The counts, in this order: a file that stays; one that gets an intent, or reclaims one; one that a report marks; all of a list, which are as many as are on
--- either list.
+-- The counts, in this order: a file that stays; one that gets an intent, reclaims one, or gets a stateid; one that a report marks; all of a list, which are as
+-- many as are on either list.
 use mathlib.Core.Path.{_≡_, refl, sym, ap, ap₂, _∙_}
 use mathlib.Core.List.{List, [], _∷_, _++_, map}
 use mathlib.Core.Bool.{Bool, true, false, not, cond}
@@ -14,10 +14,11 @@ use Rattle.places.specs.declared.Found.the-variants.{At, Nothing}
 use Rattle.places.proofs.Sets.{true-false}
 use Rattle.mirroring.specs.Mirrors.{blamedAt}
 use Rattle.mirroring.specs.declared.blame.Change.{Change}
-use Rattle.intents.specs.Intents.{noIntent, intentOf, isFree, firstTaken, reclaimedIf}
+use Rattle.wire.specs.declared.stateid.Stateid.{Stateid}
+use Rattle.intents.specs.Intents.{noIntent, intentOf, isFree, firstTaken, reclaimedIf, isStated, statedIf}
 use Rattle.intents.specs.declared.Intent.{Intent}
 use Rattle.files.specs.Counts.{standing, recounted, withCounts, movedBy}
-use Rattle.files.specs.File.{isFile, withMark, withMirrors, withIntents, isListed, isReady, standingOf, movedHead, countedHead, tallied, changedFile}
+use Rattle.files.specs.File.{isFile, withMark, withMirrors, withIntents, isListed, isReady, standingOf, movedHead, countedHead, tallied, changedFile, raisedFile}
 use Rattle.files.specs.declared.counts.Standing.{Standing}
 use Rattle.files.specs.declared.file.File.{File}
 use Rattle.files.specs.declared.head.Head.{Head}
@@ -42,13 +43,28 @@ some-taken c (x ∷ xs) i e = by (x .taken) refl (first isFree xs) e
     by true t (At j) q = let z : suc j ≡ i = cc in rw (← z) t
     by true t Nothing q = let z : _≡_ {A = ℕ} 0 1 = cc in absurd (omega arith)
 
--- one that reclaims is where it was
-reclaimed-taken : (c : ℕ) (xs : List Intent) → firstTaken (map (reclaimedIf c) xs) ≡ firstTaken xs
-reclaimed-taken c [] = refl
-reclaimed-taken c (x ∷ xs) = refl
+-- one whose intents change, but none that is taken or free, is where it was
+pub same-taken : (g : Intent → Intent) → ((x : Intent) → g x .taken ≡ x .taken) → (xs : List Intent) → firstTaken (map g xs) ≡ firstTaken xs
+same-taken g e [] = refl
+same-taken g e (x ∷ xs) = e x
+
+moved-intents : (g : Intent → Intent) → ((x : Intent) → g x .taken ≡ x .taken) → (f : File) (h : Head) → movedHead f (withIntents (map g (f .intents)) f) h ≡ h
+moved-intents g e f h = ap (λ b. movedBy (standingOf f) (standing (isListed f) b) h) (same-taken g e (f .intents)) ∙ moved-same f h
 
 pub moved-reclaimed : (c : ℕ) (f : File) (h : Head) → movedHead f (withIntents (map (reclaimedIf c) (f .intents)) f) h ≡ h
-moved-reclaimed c f h = ap (λ b. movedBy (standingOf f) (standing (isListed f) b) h) (reclaimed-taken c (f .intents)) ∙ moved-same f h
+moved-reclaimed c f h = moved-intents (reclaimedIf c) (λ x. refl) f h
+
+-- a stateid moves no count
+pub moved-stated : (c : ℕ) (t : Stateid) (f : File) (h : Head) → movedHead f (withIntents (map (statedIf c t) (f .intents)) f) h ≡ h
+moved-stated c t f h = moved-intents (statedIf c t) (λ x. refl) f h
+
+pub raised-stands : (c : ℕ) (t : Stateid) (f : File) → standingOf (raisedFile c t f) ≡ standingOf f
+unfolding raisedFile
+raised-stands c t f = by (isStated t)
+  where
+    by : (b : Bool) → standingOf (cond b (withIntents (map (statedIf c t) (f .intents)) f) f) ≡ standingOf f
+    by true = ap (standing (isListed f)) (same-taken (statedIf c t) (λ x. refl) (f .intents))
+    by false = refl
 
 -- ---- a file that a report marks, and one that it does not
 only-used : (u : Bool) → cond u true false ≡ u

@@ -12,7 +12,8 @@ use Rattle.places.specs.Places.{first, leftOut}
 use Rattle.mirroring.specs.Mirrors.{noMirrors, isDevice, unblamed, blamedAt, hasProxy, withProxy, withoutProxy}
 use Rattle.mirroring.specs.Source.{sourceIn}
 use Rattle.mirroring.specs.declared.source.Direction.{Direction}
-use Rattle.intents.specs.Intents.{noIntent, noIntents, intentOf, isIntent, isFree, isKept, isLost, firstTaken, reclaimedIf, unreclaimedIntent}
+use Rattle.wire.specs.declared.stateid.Stateid.{Stateid}
+use Rattle.intents.specs.Intents.{noIntent, noIntents, intentOf, isIntent, isFree, isKept, isLost, firstTaken, reclaimedIf, unreclaimedIntent, stayedIntent, isStated, usesOther, stateidAt, statedIf}
 use Rattle.mirroring.specs.declared.mirrors.Mirror.{Mirror}
 use Rattle.intents.specs.declared.Intent.{Intent}
 use Rattle.mirroring.specs.declared.blame.Change.{Change}
@@ -146,13 +147,32 @@ proxyRemovedFile n h f =
     (cond (not (hasProxy (f .mirrors))) (fileAnswered 2 h f)
     (fileAnswered 0 h (withMirrors (withoutProxy (f .mirrors)) f))))
 
+-- a client's stateid is set up (Rules 4.12) as t; `barred` where its `other` may not be a new one's
+abbrev pub states : Client → Stateid → Bool → Head → File → Found → FileAnswered
+states c t barred h f Nothing = fileAnswered 10025 h f
+states c t barred h f (At i) =
+    cond (isStated (stateidAt (f .intents) (At i))) (fileAnswered 17 h f)
+    (cond barred (fileAnswered 22 h f)
+    (fileAnswered 0 h (withIntents (map (statedIf c t) (f .intents)) f)))
+
+unfoldable pub statedFile : FileNumber → Head → Client → Stateid → Bool → File → FileAnswered
+statedFile n h c t barred f = cond (h .grace) (fileAnswered 10013 h f) (ofFile n h f (states c t barred h f (first (isIntent c) (f .intents))))
+
+-- whether one of the file's clients has the `other` of t
+unfoldable pub usesStateid : Stateid → File → Bool
+usesStateid t f = cond (f .used) (any (usesOther t) (f .intents)) false
+
 -- ---- a report (LAYOUTRETURN, step 7): one that names an unknown device only marks
 unfoldable pub changedFile : Change → File → File
 changedFile x f = cond (x .unknown) (withMark true f) (cond (x .failed) (withMark true (withMirrors (blamedAt (x .blamed) (f .mirrors)) f)) f)
 
+-- the seqid of a return's client rises (02, Ticket 13): it has the stateid t then; no return raises one to 0, which is none
+unfoldable pub raisedFile : Client → Stateid → File → File
+raisedFile c t f = cond (isStated t) (withIntents (map (statedIf c t) (f .intents)) f) f
+
 -- what stands beside the files then
-unfoldable pub toldHead : Change → Head → File → Head
-toldHead x h f = movedHead f (changedFile x f) h
+unfoldable pub headAfter : Change → Head → File → Head
+headAfter x h f = movedHead f (changedFile x f) h
 
 -- ---- restart and the end of grace
 unfoldable pub restartedFile : File → File
@@ -161,7 +181,7 @@ restartedFile f = withIntents (map unreclaimedIntent (f .intents)) f
 unfoldable pub endedFile : File → File
 endedFile f =
     withMark (cond (any isLost (f .intents)) true (f .marked))
-    (withIntents (fill (chosen isKept (f .intents)) noIntents) f)
+    (withIntents (fill (map stayedIntent (chosen isKept (f .intents))) noIntents) f)
 
 -- ---- the lists
 unfoldable pub sourceOf : Direction → File → ℕ

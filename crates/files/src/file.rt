@@ -1,4 +1,4 @@
-// One file of the record (paper 01, "The recovery record"; 02, Ticket 7): what it holds, and the calls on one file. A call tests for itself whether this is
+// One file of the record (paper 01, "The recovery record"; 02, Tickets 7 and 13): what it holds, and the calls on one file. A call tests for itself whether this is
 // the file of the number that it is given, gets what stands beside the files, and answers the status and both afterwards. Then what a report, a
 // restart and the end of grace do to a file, and what the lists ask of one.
 use crate::counts::Standing;
@@ -9,9 +9,10 @@ use mirroring::mirrors::Mirror;
 use mirroring::mirrors::PLACES;
 use mirroring::source::Direction;
 use places::Found;
+use wire::stateid::Stateid;
 ghost use mathlib.Core.Path.{_≡_};
 ghost use mathlib.Core.Bool.{true, cond};
-ghost use Rattle.files.specs.File.{noFile, blankFile, fileOf, isFile, isVacant, fileAnswered, openedFile, reclaimedFile, closedFile, repairedFile, forgettable, proxyAddedFile, proxyRemovedFile, restartedFile, endedFile, isListed, isReady, sourceOf, changedFile, standingOf, countedHead, toldHead};
+ghost use Rattle.files.specs.File.{noFile, blankFile, fileOf, isFile, isVacant, fileAnswered, openedFile, reclaimedFile, closedFile, repairedFile, forgettable, proxyAddedFile, proxyRemovedFile, statedFile, usesStateid, raisedFile, restartedFile, endedFile, isListed, isReady, sourceOf, changedFile, standingOf, countedHead, headAfter};
 
 // The wide fields stand first. A place of the record is a file's if `used`.
 #[repr(C)]
@@ -261,6 +262,59 @@ impl File {
         self.answered(0, head)
     }
 
+    // Set up a client's stateid: 10013 in grace; 70; 10025 no intent; 17 it has one; 22 its `other` may not be a new one's.
+    pub fn set_up_stateid(
+        mut self,
+        number: u64,
+        head: Head,
+        client: u64,
+        t: Stateid,
+        barred: bool,
+    ) -> FileAnswered
+        ensures { λ r. ⌜ r ≡ statedFile number head client t barred self ⌝ }
+    {
+        if head.grace {
+            return self.answered(statuses::GRACE, head);
+        }
+        if !self.is(number) {
+            return self.answered(statuses::STALE, head);
+        }
+        let old = self.intents;
+        let Found::At(_) = intents::holding(old, client) else {
+            return self.answered(statuses::BAD_STATEID, head);
+        };
+        if intents::stated(intents::stateid_of(old, client)) {
+            return self.answered(statuses::EXIST, head);
+        }
+        if barred {
+            return self.answered(statuses::INVAL, head);
+        }
+        let xs = intents::with_stateid(old, client, t);
+        self.intents = xs;
+        self.answered(0, head)
+    }
+
+    // Whether one of the file's clients has the `other` of `t`.
+    pub fn uses(self, t: Stateid) -> bool
+        ensures { λ r. ⌜ r ≡ usesStateid t self ⌝ }
+    {
+        let xs = self.intents;
+        self.used && intents::uses(xs, t)
+    }
+
+    // The file once a return has raised the client's stateid to `t`; none is raised where it is none.
+    pub fn raised(mut self, client: u64, t: Stateid) -> File
+        ensures { λ r. ⌜ r ≡ raisedFile client t self ⌝ }
+    {
+        if intents::stated(t) {
+            let old = self.intents;
+            let xs = intents::with_stateid(old, client, t);
+            self.intents = xs;
+            return self;
+        }
+        self
+    }
+
     // The file once a report has changed it: step 7 of a LAYOUTRETURN.
     pub fn apply(mut self, change: Change) -> File
         ensures { λ r. ⌜ r ≡ changedFile change self ⌝ }
@@ -280,8 +334,8 @@ impl File {
     }
 
     // What stands beside the files then: a report that marks a file enters it on the lists, unless it is there.
-    pub fn told(self, head: Head, change: Change) -> Head
-        ensures { λ r. ⌜ r ≡ toldHead change head self ⌝ }
+    pub fn head_after(self, head: Head, change: Change) -> Head
+        ensures { λ r. ⌜ r ≡ headAfter change head self ⌝ }
     {
         if marks(change) {
             if self.listed() {

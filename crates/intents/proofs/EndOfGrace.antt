@@ -2,7 +2,7 @@
 -- client written to the front whether its intent stays or not; the intents made of them.
 use mathlib.Core.Path.{_≡_, refl, ap, sym, subst, _∙_}
 use mathlib.Core.List.{List, [], _∷_, map}
-use mathlib.Core.Bool.{Bool, true, false, not, cond, false≢true}
+use mathlib.Core.Bool.{Bool, true, false, not, cond}
 use Prim.Native.Nat.{ℕ, zero, suc, _+_, _<_, _≤_}
 use native.Mathlib.Omega.{arith}
 use lib.ListN.{getD, set, length, take, replicate, length-map}
@@ -11,7 +11,7 @@ use lib.Seq.{set-set, set-getD}
 use borrow.Author.Tests.{lt-ltb}
 use Rattle.places.specs.Lists.{any, chosen, fill}
 use Rattle.places.proofs.Loops.{mapAt, Counting, counting-skip, counting-more, Filling, filling-skip, filling-more}
-use Rattle.intents.specs.Intents.{noIntent, isKept, isLost, clientOf, stayedOf}
+use Rattle.intents.specs.Intents.{noIntent, isKept, isLost, clientOf, stayedOf, stayedIntent}
 use Rattle.intents.specs.declared.Intent.{Intent}
 
 -- ---- a count is raised by n: by one or by none
@@ -95,33 +95,19 @@ made-none (suc m) e =
     (mapAt-same (λ k. made (replicate (suc (suc m)) 0) 0 (suc k)) (made (replicate (suc m) 0) 0) (λ k y. ap (stayedOf (getD (replicate (suc m) 0) k 0)) (leb·suc-zero (suc k) ∙ sym (leb·suc-zero k))) (replicate m e)
     ∙ made-none m e)
 
-abbrev intentBy : ℕ → Bool → Bool → Intent
-intentBy c b r = record { client = c; taken = b; reclaimed = r }
-
-kept-by : (c : ℕ) (b r : Bool) → cond b r false ≡ true → stayedOf c true ≡ intentBy c b r
-kept-by c true r h = ap {B = Intent} (λ z. intentBy c true z) (sym h)
-kept-by c false r h = absurd (false≢true h)
-
-made-item : (x e : Intent) (ys : List Intent) (b : Bool) → isKept x ≡ b
-    → ((m : ℕ) → mapAt (made (fill (map clientOf ys) (replicate (suc m) 0)) (length ys)) (replicate m e) ≡ fill ys (replicate m noIntent)) → (m : ℕ)
-    → mapAt (made (fill (map clientOf (cond b (x ∷ ys) ys)) (replicate (suc m) 0)) (length (cond b (x ∷ ys) ys))) (replicate m e) ≡ fill (cond b (x ∷ ys) ys) (replicate m noIntent)
+made-all : (ys : List Intent) (m : ℕ) (e : Intent)
+    → mapAt (made (fill (map clientOf ys) (replicate (suc m) 0)) (length ys)) (replicate m e) ≡ fill (map stayedIntent ys) (replicate m noIntent)
 unfolding fill mapAt
-made-item x e ys false q k m = k m
-made-item x e ys true q k zero = refl
-made-item x e ys true q k (suc m) =
+made-all [] m e = made-none m e
+made-all (x ∷ ys) zero e = refl
+made-all (x ∷ ys) (suc m) e =
     let cs = fill (map clientOf ys) (replicate (suc m) 0) in
     let n = length ys in
-    let head : stayedOf (x .client) (ltb 0 (suc n)) ≡ x = ap (stayedOf (x .client)) (lt-ltb 0 (suc n) (omega arith)) ∙ kept-by (x .client) (x .taken) (x .reclaimed) q in
-    let tail : mapAt (λ j. made (x .client ∷ cs) (suc n) (suc j)) (replicate m e) ≡ fill ys (replicate m noIntent) =
-    mapAt-same (λ j. made (x .client ∷ cs) (suc n) (suc j)) (made cs n) (λ j y. ap (stayedOf (getD cs j 0)) (leb·suc-suc (suc j) n)) (replicate m e) ∙ k m in
-    ap {B = List Intent} (λ z. z ∷ mapAt (λ j. made (x .client ∷ cs) (suc n) (suc j)) (replicate m e)) head ∙ ap {B = List Intent} (λ z. x ∷ z) tail
-
-made-all : (l : List Intent) (m : ℕ) (e : Intent)
-    → mapAt (made (fill (map clientOf (chosen isKept l)) (replicate (suc m) 0)) (length (chosen isKept l))) (replicate m e) ≡ fill (chosen isKept l) (replicate m noIntent)
-unfolding chosen fill
-made-all [] m e = made-none m e
-made-all (x ∷ xs) m e = made-item x e (chosen isKept xs) (isKept x) refl (λ k. made-all xs k e) m
+    let head : stayedOf (x .client) (ltb 0 (suc n)) ≡ stayedIntent x = ap (stayedOf (x .client)) (lt-ltb 0 (suc n) (omega arith)) in
+    let tail : mapAt (λ j. made (x .client ∷ cs) (suc n) (suc j)) (replicate m e) ≡ fill (map stayedIntent ys) (replicate m noIntent) =
+    mapAt-same (λ j. made (x .client ∷ cs) (suc n) (suc j)) (made cs n) (λ j y. ap (stayedOf (getD cs j 0)) (leb·suc-suc (suc j) n)) (replicate m e) ∙ made-all ys m e in
+    ap {B = List Intent} (λ z. z ∷ mapAt (λ j. made (x .client ∷ cs) (suc n) (suc j)) (replicate m e)) head ∙ ap {B = List Intent} (λ z. stayedIntent x ∷ z) tail
 
 pub stayed : (l : List Intent) (cs : List ℕ) (n : ℕ) (e : Intent) → cs ≡ fill (map clientOf (chosen isKept l)) (replicate 9 0) → n ≡ length (chosen isKept l)
-    → mapAt (made cs n) (replicate 8 e) ≡ fill (chosen isKept l) (replicate 8 noIntent)
-stayed l cs n e a b = rw (a, b) (made-all l 8 e)
+    → mapAt (made cs n) (replicate 8 e) ≡ fill (map stayedIntent (chosen isKept l)) (replicate 8 noIntent)
+stayed l cs n e a b = rw (a, b) (made-all (chosen isKept l) 8 e)

@@ -1,1 +1,2 @@
 pub mod EndOfGrace
+pub mod Anew

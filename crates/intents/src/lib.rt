@@ -1,5 +1,7 @@
-// A file's write intents (paper 01, "The recovery record"): one a client, at most 8, and the free places last. First one place, then the eight.
+// A file's write intents (paper 01, "The recovery record"): one a client, at most 8, and the free places last; with each the client's layout stateid, if it
+// has one (02, Ticket 13). First one place, then the eight.
 use places::Found;
+use wire::stateid::Stateid;
 ghost use mathlib.Core.Path.{_≡_};
 ghost use mathlib.Core.List.{map};
 ghost use Prim.Native.Nat.{_<_};
@@ -7,12 +9,14 @@ ghost use mathlib.Core.Bool.{cond};
 ghost use lib.ListN.{getD, set, replicate, length};
 ghost use Rattle.places.specs.Lists.{any, chosen, fill};
 ghost use Rattle.places.specs.Places.{first, isFound, leftOut};
-ghost use Rattle.intents.specs.Intents.{noIntent, intentOf, isIntent, isFree, isKept, isLost, clientOf, stayedOf, reclaimedIf, unreclaimedIntent, firstTaken};
+ghost use Rattle.intents.specs.Intents.{noIntent, intentOf, isIntent, isFree, isKept, isLost, clientOf, stayedOf, stayedIntent, reclaimedIf, unreclaimedIntent, firstTaken, isStated, usesOther, stateidAt, statedIf};
 
-// A place for an intent: its client, whether the place is taken, and whether the client has reclaimed since the latest restart.
+// A place for an intent: its client, the client's stateid, which is none where its seqid is 0, whether the place is taken, and whether the client has reclaimed
+// since the latest restart.
 #[repr(C)]
 pub struct Intent {
     pub client: u64,
+    pub stateid: Stateid,
     pub taken: bool,
     pub reclaimed: bool,
 }
@@ -22,8 +26,10 @@ impl Intent {
     pub fn none() -> Intent
         ensures { λ r. ⌜ r ≡ noIntent ⌝ }
     {
+        let none = Stateid::none();
         Intent {
             client: 0,
+            stateid: none,
             taken: false,
             reclaimed: false,
         }
@@ -33,26 +39,42 @@ impl Intent {
     pub fn new(client: u64) -> Intent
         ensures { λ r. ⌜ r ≡ intentOf client ⌝ }
     {
+        let none = Stateid::none();
         Intent {
             client,
+            stateid: none,
             taken: true,
             reclaimed: false,
         }
     }
 
-    // The first of two places, or the second; by its fields, so that the compiler copies no padding.
+    // The first of two places, or the second; by its fields and its stateid's, so that the compiler copies no padding and nothing through memory.
     fn chosen(test: bool, x: Intent, y: Intent) -> Intent
         ensures { λ r. ⌜ r ≡ cond test x y ⌝ }
     {
         if test {
+            let t = x.stateid;
+            let own = Stateid {
+                high: t.high,
+                low: t.low,
+                seqid: t.seqid,
+            };
             Intent {
                 client: x.client,
+                stateid: own,
                 taken: x.taken,
                 reclaimed: x.reclaimed,
             }
         } else {
+            let t = y.stateid;
+            let own = Stateid {
+                high: t.high,
+                low: t.low,
+                seqid: t.seqid,
+            };
             Intent {
                 client: y.client,
+                stateid: own,
                 taken: y.taken,
                 reclaimed: y.reclaimed,
             }
@@ -88,8 +110,10 @@ impl Intent {
     fn stayed(client: u64, there: bool) -> Intent
         ensures { λ r. ⌜ r ≡ stayedOf client there ⌝ }
     {
+        let none = Stateid::none();
         Intent {
             client,
+            stateid: none,
             taken: there,
             reclaimed: there,
         }
@@ -106,16 +130,47 @@ impl Intent {
         self
     }
 
-    // The place after a restart; by its fields, so that the compiler stores one flag alone.
+    // The place after a restart, which ends the stateid too; by its fields, so that the compiler stores no more than what changes.
     pub(crate) fn forget_reclaim(self) -> Intent
         ensures { λ r. ⌜ r ≡ unreclaimedIntent self ⌝ }
     {
+        let none = Stateid::none();
         Intent {
             client: self.client,
+            stateid: none,
             taken: self.taken,
             reclaimed: false,
         }
     }
+
+    // Whether the place has the `other` of `t`.
+    pub(crate) fn uses(self, t: Stateid) -> bool
+        ensures { λ r. ⌜ r ≡ usesOther t self ⌝ }
+    {
+        if !self.taken {
+            return false;
+        }
+        let own = self.stateid;
+        stated(own) && own.has_other(t)
+    }
+
+    // The place once the client has the stateid `t`.
+    pub(crate) fn state(mut self, client: u64, t: Stateid) -> Intent
+        ensures { λ r. ⌜ r ≡ statedIf client t self ⌝ }
+    {
+        if self.is(client) {
+            self.stateid = t;
+            return self;
+        }
+        self
+    }
+}
+
+// Whether it is a stateid, and not none.
+pub fn stated(t: Stateid) -> bool
+    ensures { λ r. ⌜ r ≡ isStated t ⌝ }
+{
+    t.seqid != 0
 }
 
 // The place of the client's intent.
@@ -270,7 +325,7 @@ fn kept_clients(intents: [Intent; 8]) -> Kept
 
 // The intents that stay at the end of grace, in their order, from the first place on.
 pub fn staying(intents: [Intent; 8]) -> [Intent; 8]
-    ensures { λ r. ⌜ r ≡ fill (chosen isKept intents) (replicate 8 noIntent) ⌝ }
+    ensures { λ r. ⌜ r ≡ fill (map stayedIntent (chosen isKept intents)) (replicate 8 noIntent) ⌝ }
 {
     let kept = kept_clients(intents);
     let clients = kept.clients;
@@ -301,15 +356,62 @@ pub fn reclaimed(intents: [Intent; 8], client: u64) -> [Intent; 8]
     xs
 }
 
-// The intents after a restart.
+// The intents after a restart; in an array made anew, so that the compiler stores no more than what changes.
 pub fn unreclaimed(intents: [Intent; 8]) -> [Intent; 8]
     ensures { λ r. ⌜ r ≡ map unreclaimedIntent intents ⌝ }
 {
-    let mut xs = intents;
+    let none = Intent::none();
+    let mut xs = [none; 8];
     let mut i: usize = 0;
     while i < 8 {
-        let x = xs[i];
+        let x = intents[i];
         let y = x.forget_reclaim();
+        xs[i] = y;
+        i += 1;
+    }
+    xs
+}
+
+// The client's stateid, or none.
+pub fn stateid_of(intents: [Intent; 8], client: u64) -> Stateid
+    ensures { λ r. ⌜ r ≡ stateidAt intents (first (isIntent client) intents) ⌝ }
+{
+    let mut i: usize = 0;
+    while i < 8 {
+        let x = intents[i];
+        if x.is(client) {
+            return x.stateid;
+        }
+        i += 1;
+    }
+    Stateid::none()
+}
+
+// Whether one of the intents has the `other` of `t`.
+pub fn uses(intents: [Intent; 8], t: Stateid) -> bool
+    ensures { λ r. ⌜ r ≡ any (usesOther t) intents ⌝ }
+{
+    let mut i: usize = 0;
+    while i < 8 {
+        let x = intents[i];
+        if x.uses(t) {
+            return true;
+        }
+        i += 1;
+    }
+    false
+}
+
+// The intents once the client has the stateid `t`; in an array made anew, as after a restart.
+pub fn with_stateid(intents: [Intent; 8], client: u64, t: Stateid) -> [Intent; 8]
+    ensures { λ r. ⌜ r ≡ map (statedIf client t) intents ⌝ }
+{
+    let none = Intent::none();
+    let mut xs = [none; 8];
+    let mut i: usize = 0;
+    while i < 8 {
+        let x = intents[i];
+        let y = x.state(client, t);
         xs[i] = y;
         i += 1;
     }

@@ -14,13 +14,14 @@ use Rattle.wire.proofs.Requests.{body-part}
 use Rattle.files.specs.declared.head.Head.{Head}
 use Rattle.layoutreturn.specs.LayoutReturn.{phaseOf, decided, decisionOf}
 use Rattle.layoutreturn.specs.declared.Decision.{Decision}
-use Rattle.layoutreturn.specs.declared.Decision.the-variants.{Answered, HandedOn, ReadBody}
+use Rattle.layoutreturn.specs.declared.Decision.the-variants.{Answered, HandedOn, ReadBody, ReturnBody}
 
 -- the length that a decision reads, if it reads one
 abbrev Reads : Bytes → Decision → Type 0
 Reads s (Answered k) = Unit {0}
 Reads s HandedOn = Unit {0}
 Reads s (ReadBody len) = partOf len s ≡ bodyOf s
+Reads s (ReturnBody len) = partOf len s ≡ bodyOf s
 
 phase-reads : (s : Bytes) (len : ℕ) → partOf len s ≡ bodyOf s → (h : Head) (k : Kind) (o g : Bool) → Reads s (phaseOf k (record { waiting = h .waiting; offered = h .offered; grace = g; old = o }) len)
 phase-reads s len e h Anonymous true g = tt
@@ -33,7 +34,7 @@ phase-reads s len e h Invalid o false = tt
 phase-reads s len e h Current o true = tt
 phase-reads s len e h Current o false = tt
 phase-reads s len e h Ordinary o true = tt
-phase-reads s len e h Ordinary o false = tt
+phase-reads s len e h Ordinary o false = e
 
 request-reads : (s : Bytes) (h : Head) (q : Request) → requestOf s ≡ q → Reads s (decided h q)
 request-reads s h (request.Refused k) e = tt
@@ -50,3 +51,6 @@ reads s h room = by (ltb room 24)
 
 pub body-decided : (s : Bytes) (h : Head) (room : ℕ) {len : ℕ} → decisionOf h s room ≡ ReadBody len → partOf len s ≡ bodyOf s
 body-decided s h room e = rw e at (reads s h room)
+
+pub return-decided : (s : Bytes) (h : Head) (room : ℕ) {len : ℕ} → decisionOf h s room ≡ ReturnBody len → partOf len s ≡ bodyOf s
+return-decided s h room e = rw e at (reads s h room)

@@ -1,1 +1,2 @@
 pub mod LayoutReturn
+pub mod OneWalk

@@ -1,5 +1,5 @@
 -- Calls on the record: each answers what the ledger says, and leaves a record that goes with the ledger as it is fed. In this order: the file that a call
--- names; a call on one file, once for all; each such call; forget; register; the end of grace and restart; the lists.
+-- names; a call on one file, once for all; each such call; the set-up of a stateid; forget; register; the end of grace and restart; the lists.
 use mathlib.Core.Path.{_≡_, refl, ap, sym, _∙_, subst}
 use mathlib.Core.List.{List, [], _∷_, map}
 use mathlib.Core.Bool.{Bool, true, false, not, cond}
@@ -12,27 +12,29 @@ use borrow.Author.Tests.{eqb-false, le-leb, lt-leb, leb-true, leb-false, ltb-tru
 use Rattle.statuses.specs.Names.{Bytes}
 use Rattle.statuses.specs.Rules.{_⇒_, refused}
 use Rattle.reports.specs.Device.{Device}
-use Rattle.places.specs.Lists.{any, chosen, none, discard, amend, Above, Rising}
+use Rattle.places.specs.Lists.{any, none, discard, amend, Above, Rising}
 use Rattle.places.specs.Places.{first, bump, isFound, placeOr}
+use Rattle.wire.specs.Stateid.{newStateid, badOther}
 use Rattle.mirroring.specs.Devices.{mirrorsIn, badMirrors}
 use Rattle.mirroring.specs.Mirrors.{placedMirrors, enrolledOf}
-use Rattle.files.specs.File.{noFile, blankFile, isFile, isVacant, fileOf, fileAnswered, openedFile, reclaimedFile, closedFile, repairedFile, proxyAddedFile, proxyRemovedFile, forgettable, restartedFile, endedFile, isListed, isReady, sourceOf}
+use Rattle.files.specs.File.{noFile, blankFile, isFile, isVacant, fileOf, fileAnswered, openedFile, reclaimedFile, closedFile, repairedFile, proxyAddedFile, proxyRemovedFile, statedFile, usesStateid, forgettable, restartedFile, endedFile, sourceOf}
 use Rattle.places.specs.declared.Found.{Found}
 use Rattle.places.specs.declared.Found.the-variants.{At, Nothing}
 use Rattle.files.specs.declared.file.File.{File}
 use Rattle.files.specs.declared.file.FileAnswered.{FileAnswered}
 use Rattle.files.specs.declared.head.Head.{Head}
-use Rattle.places.proofs.Slots.{All, Slots, Focus, Hit, slots-map, slots-chosen, slots-at, focus, pairs-map, missing, found}
+use Rattle.places.proofs.Slots.{All, Slots, Focus, Hit, slots-map, slots-any, slots-chosen, slots-at, focus, pairs-map, missing, found}
 use Rattle.places.proofs.Sets.{true-false, first-nothing, none-at, first-no, rest-no}
 use Rattle.mirroring.proofs.Enrolling.{few-mirrors}
-use Rattle.ledger.specs.Ledger.{Row, Ledger, isRow, newRow, registered, rowOf, openRules, intentRules, closeRules, repairedRules, addProxyRules, removeProxyRules, forgetRules, isOn, rowsOn, listOf, numbers, source, opened, hasReclaimed, closed, mended, proxyAdded, proxyRemoved, restarted, ended, insert, withRows, withGrace, onRow}
-use Rattle.recovery.specs.Record.{withFiles, answered, placeIn, fileAt, putFile, onPlace, openOf, reclaimOf, closeOf, repairedOf, addProxyOf, removeProxyOf, raised, roomIn, enter, pulled, withoutFile, isFull, registerWith, registerOf, forgets, forgetOf, endOf, restartOf, isWanted, numberOf, listingOf, endedHead}
+use Rattle.ledger.specs.Ledger.{Row, Ledger, isRow, newRow, registered, rowOf, openRules, intentRules, closeRules, repairedRules, addProxyRules, removeProxyRules, uses, inUse, setUpRules, forgetRules, isOn, rowsOn, listOf, numbers, source, opened, hasReclaimed, closed, mended, proxyAdded, proxyRemoved, isSetUp, restarted, ended, insert, withRows, withGrace, onRow}
+use Rattle.recovery.specs.Record.{withFiles, answered, placeIn, fileAt, putFile, onPlace, openOf, reclaimOf, closeOf, repairedOf, addProxyOf, removeProxyOf, isBarred, setUpOf, raised, roomIn, enter, pulled, withoutFile, isFull, registerWith, registerOf, forgets, forgetOf, endOf, restartOf, isWanted, numberOf, listingOf, endedHead}
 use Rattle.mirroring.specs.declared.source.Direction.{Direction}
 use Rattle.recovery.specs.declared.listing.Listing.{Listing}
 use Rattle.recovery.specs.declared.listing.Listing.the-variants.{Resilver, Offered}
 use Rattle.recovery.specs.declared.record.Record.{Record}
 use Rattle.ledger.proofs.Relation.{FileIs, NoFile, Matches, branch, FileKept, FileAgrees, RecordAgrees}
 use Rattle.ledger.proofs.OneFile.{some-taken, file-opened, file-reclaimed, file-closed, file-repaired, file-proxy-added, file-proxy-removed, file-restarted, file-ended, file-source, file-new}
+use Rattle.ledger.proofs.Stated.{uses-file, uses-none, file-set-up}
 
 -- ---- the file that a call names
 is-file : (g : Bool) (n : ℕ) (f : File) (w : Row) → FileIs g f w → isFile n f ≡ isRow n w
@@ -163,6 +165,24 @@ module _ {r : Record} {l : Ledger} (m : Matches r l) (n : ℕ) where
 
   pub remove-proxy-agrees : RecordAgrees (removeProxyOf n r) l (onRow l n proxyRemoved) (refused (l .grace ⇒ 10013 ∷ not (registered n l) ⇒ 70 ∷ removeProxyRules (rowOf n l)))
   remove-proxy-agrees = remove-proxy-by (l .grace) refl
+
+-- ---- the set-up of a stateid: the record looks for the `other` where the ledger does
+module _ {r : Record} {l : Ledger} (m : Matches r l) (n c : ℕ) (s : Bytes) where
+  is-barred : isBarred s (r .files) ≡ cond (badOther s) true (inUse (newStateid s) l)
+  unfolding isBarred inUse
+  is-barred = ap (λ b. cond (badOther s) true b) (slots-any (usesStateid (newStateid s)) (uses (newStateid s)) (uses-file (l .grace) (newStateid s)) (uses-none (newStateid s)) (m .rows))
+
+  abbrev setsUp : File → FileAnswered
+  setsUp f = statedFile n (r .head) c (newStateid s) (isBarred s (r .files)) f
+
+  set-up-by : (b : Bool) → l .grace ≡ b → RecordAgrees (setUpOf n c s r) l (onRow l n (isSetUp c s)) (cond b 10013 (cond (not (registered n l)) 70 (refused (setUpRules l c s (rowOf n l)))))
+  unfolding setUpOf statedFile inUse
+  set-up-by true e = refused-any n setsUp 10013 refl (λ f. rw (m .grace ∙ e)) m
+  set-up-by false e = on-file n setsUp (isSetUp c s) (λ w. refused (setUpRules l c s w)) (λ w. refl)
+      (λ f w i k. rw (m .grace ∙ e, i, e) (file-set-up _ c s (rw e at k) l (isBarred s (r .files)) is-barred)) (λ f i. rw (m .grace ∙ e, i)) m
+
+  pub set-up-agrees : RecordAgrees (setUpOf n c s r) l (onRow l n (isSetUp c s)) (refused (l .grace ⇒ 10013 ∷ not (registered n l) ⇒ 70 ∷ setUpRules l c s (rowOf n l)))
+  set-up-agrees = set-up-by (l .grace) refl
 
 -- ---- forget
 is-used : (g : Bool) (f : File) (w : Row) → FileIs g f w → isVacant f ≡ false

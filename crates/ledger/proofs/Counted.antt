@@ -8,46 +8,43 @@ use native.Mathlib.Omega.{arith}
 use lib.ListN.{getD, set, length, take, drop, length-set, take-append-drop}
 use lib.Seq.{drop-cons, getD-set-other}
 use lib.Dec.{eqb, leb}
-use Rattle.statuses.specs.Names.{Bytes}
-use Rattle.reports.specs.Device.{halves}
 use Rattle.reports.specs.Report.{reportOf}
 use Rattle.wire.specs.Request.{bodyOf}
-use Rattle.places.specs.Lists.{any, chosen}
-use Rattle.places.specs.Places.{first, bump, placeOr, leftOut}
+use Rattle.wire.specs.Stateid.{newStateid, stateidIn}
+use Rattle.places.specs.Lists.{chosen}
+use Rattle.places.specs.Places.{first, bump, placeOr}
 use Rattle.places.specs.declared.Found.{Found}
 use Rattle.places.specs.declared.Found.the-variants.{At, Nothing}
 use Rattle.places.proofs.Loops.{found-below}
 use Rattle.places.proofs.Sets.{true-false}
 use Rattle.places.proofs.Slots.{chosen-length, slots-chosen, pairs-length}
-use Rattle.mirroring.specs.Mirrors.{enrolledOf, isDevice, hasProxy, withProxy, withoutProxy}
-use Rattle.mirroring.specs.declared.mirrors.Mirror.{Mirror}
-use Rattle.mirroring.specs.declared.blame.Assessment.{Assessment}
+use Rattle.mirroring.specs.Mirrors.{enrolledOf}
 use Rattle.mirroring.specs.declared.enrol.Enrolled.{Enrolled}
-use Rattle.intents.specs.Intents.{noIntent, intentOf, isIntent, isFree, firstTaken, unreclaimedIntent}
-use Rattle.intents.specs.declared.Intent.{Intent}
+use Rattle.intents.specs.Intents.{firstTaken, unreclaimedIntent}
 use Rattle.files.specs.Counts.{recounted}
-use Rattle.files.specs.File.{noFile, blankFile, fileOf, isFile, isVacant, isListed, isReady, movedHead, unreclaimedBar, fileAnswered, becomes, ofFile, takes, opens, openedFile, reclaims, reclaimedFile, leaves, closedFile, repairedFile, mendedFile, proxyAddedFile, proxyRemovedFile, forgettable, restartedFile, endedFile, toldHead, withIntents, withMirrors}
+use Rattle.files.specs.File.{noFile, blankFile, fileOf, isFile, isVacant, isListed, isReady, movedHead, openedFile, reclaimedFile, closedFile, repairedFile, proxyAddedFile, proxyRemovedFile, statedFile, forgettable, restartedFile, endedFile}
 use Rattle.files.specs.declared.file.File.{File}
 use Rattle.files.specs.declared.file.FileAnswered.{FileAnswered}
 use Rattle.files.specs.declared.head.Edition.{Edition}
 use Rattle.files.specs.declared.head.Head.{Head}
-use Rattle.files.proofs.Counting.{moved-same, moved-reclaimed}
-use Rattle.layoutreturn.specs.LayoutReturn.{decisionOf, reportOn, outcomeOn}
+use Rattle.files.proofs.Counting.{moved-same, same-taken}
+use Rattle.layoutreturn.specs.LayoutReturn.{decisionOf}
 use Rattle.layoutreturn.specs.declared.Decision.{Decision}
 use Rattle.layoutreturn.specs.declared.Decision.the-variants as decision
-use Rattle.recovery.specs.Calls.{Call, register, opening, reclaim, close, repaired, addProxy, removeProxy, forget, endGrace, restart, layoutReturn, listing}
+use Rattle.recovery.specs.Calls.{Call, register, opening, setUp, reclaim, close, repaired, addProxy, removeProxy, forget, endGrace, restart, layoutReturn, listing}
 use Rattle.recovery.specs.Counts.{counts}
-use Rattle.recovery.specs.LayoutReturn.{answeredBy, reportedOf, returnedBy, layoutreturnOf}
-use Rattle.recovery.specs.Record.{freshAs, withFiles, answered, placeIn, fileAt, onPlace, openOf, reclaimOf, closeOf, repairedOf, addProxyOf, removeProxyOf, raised, roomIn, enter, pulled, withoutFile, isFull, registerWith, registerOf, forgets, forgetOf, endedHead, endOf, restartOf, isWanted}
+use Rattle.recovery.specs.LayoutReturn.{answeredBy, reportFile, returnFile, reportedOf, ordinaryOf, returnedBy, layoutreturnOf}
+use Rattle.recovery.specs.Record.{freshAs, withFiles, answered, placeIn, fileAt, onPlace, openOf, isBarred, setUpOf, reclaimOf, closeOf, repairedOf, addProxyOf, removeProxyOf, raised, roomIn, enter, pulled, withoutFile, isFull, registerWith, registerOf, forgets, forgetOf, endedHead, endOf, restartOf, isWanted}
 use Rattle.recovery.specs.declared.counts.Counts.{Counts}
 use Rattle.recovery.specs.declared.listing.Listing.the-variants.{Resilver, Offered}
 use Rattle.recovery.specs.declared.record.Answered.{Answered}
 use Rattle.recovery.specs.declared.record.Record.{Record}
 use Rattle.ledger.specs.Counts.{CountsAgree}
-use Rattle.ledger.specs.Ledger.{Ledger, noRows, feed, isOn, rowsOn}
-use Rattle.ledger.specs.History.{step, answers, recordAfter}
+use Rattle.ledger.specs.Ledger.{Ledger, noRows, feed, isOn}
+use Rattle.ledger.specs.History.{step, recordAfter}
 use Rattle.ledger.proofs.Calls.{same-test, free-not-on}
 use Rattle.ledger.proofs.History.{step-agrees, after-all, fresh-matches}
+use Rattle.ledger.proofs.OneCall.{Does, keeps, makes, open-does, set-up-does, reclaim-does, close-does, repaired-does, add-proxy-does, remove-proxy-does, report-does, return-does}
 use Rattle.ledger.proofs.Relation.{Matches}
 
 -- ---- how many of a list pass
@@ -145,71 +142,10 @@ module _ (p : File → Bool) (fs : List File) (long : length fs ≡ 64) where
       ap (recounted (p (getD fs i noFile)) (p g)) e
       ∙ recount (p (getD fs i noFile)) (p g) (many p fs) (many p (set fs i g)) (many-set p noFile fs i g (omega (arith, l, long))) (few-set i g) few
 
--- ---- calls on one file: THE LAW of all of them, also of those that are refused
-pub record Moves (d : Head) (f : File) (a : FileAnswered) : Type 0 where
-  pub head : a .head ≡ movedHead f (a .file) d
-
-module _ (d : Head) (f : File) where
-  keeps : (s : ℕ) → Moves d f (fileAnswered s d f)
-  keeps s = record { head = sym (moved-same f d) }
-
-  makes : (g : File) → Moves d f (becomes d f g)
-  makes g = record { head = refl }
-
-  either : {a c : FileAnswered} (b : Bool) → Moves d f a → Moves d f c → Moves d f (cond b a c)
-  either true h k = h
-  either false h k = k
-
-  of-file : (n : ℕ) {a : FileAnswered} → Moves d f a → Moves d f (ofFile n d f a)
-  of-file n k = either (isFile n f) k (keeps 70)
-
-  taking : (c : ℕ) (o : Found) → Moves d f (takes c d f o)
-  taking c Nothing = keeps 28
-  taking c (At i) = makes (withIntents (set (f .intents) i (intentOf c)) f)
-
-  opening-by : (c : ℕ) (o : Found) → Moves d f (opens c d f o)
-  opening-by c (At i) = keeps 0
-  opening-by c Nothing = taking c (first isFree (f .intents))
-
-  reclaiming : (c : ℕ) (o : Found) → Moves d f (reclaims c d f o)
-  reclaiming c Nothing = keeps 10034
-  reclaiming c (At i) = record { head = sym (moved-reclaimed c f d) }
-
-  leaving : (o : Found) → Moves d f (leaves d f o)
-  leaving Nothing = keeps 10025
-  leaving (At i) = either (unreclaimedBar (d .grace) (getD (f .intents) i noIntent .reclaimed)) (keeps 10025) (makes (withIntents (leftOut noIntent i (f .intents)) f))
-
-  open-moves : (n c : ℕ) → Moves d f (openedFile n d c f)
-  unfolding openedFile
-  open-moves n c = either (d .grace) (keeps 10013) (of-file n (opening-by c (first (isIntent c) (f .intents))))
-
-  reclaim-moves : (n c : ℕ) → Moves d f (reclaimedFile n d c f)
-  unfolding reclaimedFile
-  reclaim-moves n c = either (d .grace) (of-file n (reclaiming c (first (isIntent c) (f .intents)))) (keeps 10033)
-
-  close-moves : (n c : ℕ) → Moves d f (closedFile n d c f)
-  unfolding closedFile
-  close-moves n c = of-file n (leaving (first (isIntent c) (f .intents)))
-
-  repaired-moves : (n : ℕ) → Moves d f (repairedFile n d f)
-  unfolding repairedFile
-  repaired-moves n = of-file n (either (not (f .marked)) (keeps 22) (either (firstTaken (f .intents)) (keeps 10008) (makes (mendedFile f))))
-
-  remirrors : (ms : List Mirror) → Moves d f (fileAnswered 0 d (withMirrors ms f))
-  remirrors ms = record { head = sym (moved-same f d) }
-
-  add-proxy-moves : (n : ℕ) (s : Bytes) → Moves d f (proxyAddedFile n d s f)
-  unfolding proxyAddedFile
-  add-proxy-moves n s = either (d .grace) (keeps 10013) (of-file n
-      (either (not (eqb (length s) 16)) (keeps 22) (either (any (isDevice (halves s)) (f .mirrors)) (keeps 22) (either (hasProxy (f .mirrors)) (keeps 17) (remirrors (withProxy (halves s .high) (halves s .low) (f .mirrors)))))))
-
-  remove-proxy-moves : (n : ℕ) → Moves d f (proxyRemovedFile n d f)
-  unfolding proxyRemovedFile
-  remove-proxy-moves n = either (d .grace) (keeps 10013) (of-file n (either (not (hasProxy (f .mirrors))) (keeps 2) (remirrors (withoutProxy (f .mirrors)))))
-
-  report-moves : (a : Assessment) → Moves d f (answeredBy f (outcomeOn d f a))
-  unfolding toldHead
-  report-moves a = record { head = refl }
+-- ---- calls on one file
+head-moves : {d : Head} {f : File} (a : FileAnswered) → Does d f a → a .head ≡ movedHead f (a .file) d
+head-moves {d} {f} a (keeps s) = sym (moved-same f d)
+head-moves a (makes e g k) = sym k
 
 place-inside : (n : ℕ) (r : Record) → length (r .files) ≡ 64 → placeIn n r < 64
 unfolding placeIn
@@ -219,19 +155,24 @@ place-inside n r long = by (first (isFile n) (r .files)) refl
     by (At k) e = omega (arith, long, found-below (isFile n) (r .files) k e)
     by Nothing e = omega arith
 
-on-place : (n : ℕ) (h : File → FileAnswered) (r : Record) → length (r .files) ≡ 64 → Counted r → Moves (r .head) (fileAt n r) (h (fileAt n r)) → Counted (onPlace n h r .after)
-on-place n h r long c m = record {
-  waiting = ap (λ (d : Head). d .waiting) (m .head) ∙ recount-set isListed (r .files) long (placeIn n r) (h (fileAt n r) .file) (place-inside n r long) (r .head .waiting) (c .waiting);
-  offered = ap (λ (d : Head). d .offered) (m .head) ∙ recount-set isReady (r .files) long (placeIn n r) (h (fileAt n r) .file) (place-inside n r long) (r .head .offered) (c .offered);
-}
+on-place : (n : ℕ) (h : File → FileAnswered) (r : Record) → length (r .files) ≡ 64 → Counted r → Does (r .head) (fileAt n r) (h (fileAt n r)) → Counted (onPlace n h r .after)
+on-place n h r long c k =
+    let f = h (fileAt n r) .file in
+    let m = head-moves (h (fileAt n r)) k in
+    record {
+      waiting = ap (λ (d : Head). d .waiting) m ∙ recount-set isListed (r .files) long (placeIn n r) f (place-inside n r long) (r .head .waiting) (c .waiting);
+      offered = ap (λ (d : Head). d .offered) m ∙ recount-set isReady (r .files) long (placeIn n r) f (place-inside n r long) (r .head .offered) (c .offered);
+    }
 
 -- ---- LAYOUTRETURN, by what was decided before any file was looked at
 return-by : (n c : ℕ) (s : List ℕ) (r : Record) → length (r .files) ≡ 64 → Counted r → (x : Decision) → Counted (returnedBy n c s r x .after)
-unfolding reportedOf
+unfolding reportedOf ordinaryOf
 return-by n c s r long k (decision.Answered t) = k
 return-by n c s r long k decision.HandedOn = k
 return-by n c s r long k (decision.ReadBody len) =
-    on-place n (λ f. answeredBy f (outcomeOn (r .head) f (reportOn n c (reportOf (bodyOf s)) f))) r long k (report-moves (r .head) (fileAt n r) (reportOn n c (reportOf (bodyOf s)) (fileAt n r)))
+    on-place n (λ f. answeredBy f (reportFile n c s r f)) r long k (report-does (r .head) (fileAt n r) n c (reportOf (bodyOf s)))
+return-by n c s r long k (decision.ReturnBody len) =
+    on-place n (λ f. answeredBy f (returnFile n c s r f)) r long k (return-does (r .head) (fileAt n r) n c (stateidIn s) (reportOf (bodyOf s)))
 
 -- ---- other files, of which as many are on either list
 with-files : (r : Record) (fs : List File) → Counted r → ((p : File → Bool) → ((f : File) → isListed f ≡ false → p f ≡ false) → many p fs ≡ many p (r .files)) → Counted (withFiles fs r)
@@ -302,15 +243,11 @@ forgetting n r long c = by (eqb (forgettable n (r .head) (fileAt n r)) 0) refl
     by false q = answering _ c
 
 -- ---- restart: no file leaves a list or enters one
-unreclaimed-taken : (xs : List Intent) → firstTaken (map unreclaimedIntent xs) ≡ firstTaken xs
-unreclaimed-taken [] = refl
-unreclaimed-taken (x ∷ xs) = refl
-
 restarting : (r : Record) → Counted r → Counted (restartOf r .after)
 unfolding restartOf restartedFile
 restarting r c = record {
   waiting = c .waiting ∙ sym (many-map isListed restartedFile (λ f. refl) (r .files));
-  offered = c .offered ∙ sym (many-map isReady restartedFile (λ f. ap (λ b. cond (isListed f) (not b) false) (unreclaimed-taken (f .intents))) (r .files));
+  offered = c .offered ∙ sym (many-map isReady restartedFile (λ f. ap (λ b. cond (isListed f) (not b) false) (same-taken unreclaimedIntent (λ x. refl) (f .intents))) (r .files));
 }
 
 -- ---- the end of grace counts both lists
@@ -323,14 +260,17 @@ ending r c = by-test (r .head .grace) (answering 0 (counted-anew r)) (answering 
 
 -- ---- a step
 pub counted-step : (r : Record) (x : Call) → length (r .files) ≡ 64 → Counted r → Counted (step r x .after)
-unfolding step registerOf openOf reclaimOf closeOf repairedOf addProxyOf removeProxyOf forgetOf layoutreturnOf
+unfolding step registerOf openOf setUpOf reclaimOf closeOf repairedOf addProxyOf removeProxyOf forgetOf layoutreturnOf
 counted-step r (register n s) long c = by-test (r .head .grace) (answering 10013 c) (registering n (enrolledOf s) r long c) .so
-counted-step r (opening n k) long c = on-place n (openedFile n (r .head) k) r long c (open-moves (r .head) (fileAt n r) n k)
-counted-step r (reclaim n k) long c = on-place n (reclaimedFile n (r .head) k) r long c (reclaim-moves (r .head) (fileAt n r) n k)
-counted-step r (close n k) long c = on-place n (closedFile n (r .head) k) r long c (close-moves (r .head) (fileAt n r) n k)
-counted-step r (repaired n) long c = on-place n (repairedFile n (r .head)) r long c (repaired-moves (r .head) (fileAt n r) n)
-counted-step r (addProxy n s) long c = on-place n (proxyAddedFile n (r .head) s) r long c (add-proxy-moves (r .head) (fileAt n r) n s)
-counted-step r (removeProxy n) long c = on-place n (proxyRemovedFile n (r .head)) r long c (remove-proxy-moves (r .head) (fileAt n r) n)
+counted-step r (opening n k) long c = on-place n (openedFile n (r .head) k) r long c (open-does (r .head) (fileAt n r) n k)
+counted-step r (setUp n k s) long c =
+    let b = isBarred s (r .files) in
+    on-place n (statedFile n (r .head) k (newStateid s) b) r long c (set-up-does (r .head) (fileAt n r) n k (newStateid s) b)
+counted-step r (reclaim n k) long c = on-place n (reclaimedFile n (r .head) k) r long c (reclaim-does (r .head) (fileAt n r) n k)
+counted-step r (close n k) long c = on-place n (closedFile n (r .head) k) r long c (close-does (r .head) (fileAt n r) n k)
+counted-step r (repaired n) long c = on-place n (repairedFile n (r .head)) r long c (repaired-does (r .head) (fileAt n r) n)
+counted-step r (addProxy n s) long c = on-place n (proxyAddedFile n (r .head) s) r long c (add-proxy-does (r .head) (fileAt n r) n s)
+counted-step r (removeProxy n) long c = on-place n (proxyRemovedFile n (r .head)) r long c (remove-proxy-does (r .head) (fileAt n r) n)
 counted-step r (forget n) long c = forgetting n r long c .so
 counted-step r endGrace long c = ending r c .so
 counted-step r restart long c = restarting r c

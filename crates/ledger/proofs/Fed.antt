@@ -11,7 +11,7 @@ use Rattle.places.proofs.Sets.{true-false}
 use Rattle.mirroring.specs.Devices.{mirrorsIn}
 use Rattle.files.specs.declared.head.Edition.{Edition}
 use Rattle.files.specs.Head.{isOld}
-use Rattle.recovery.specs.Calls.{Call, register, opening, reclaim, close, repaired, addProxy, removeProxy, forget, endGrace, restart, layoutReturn, listing}
+use Rattle.recovery.specs.Calls.{Call, register, opening, setUp, reclaim, close, repaired, addProxy, removeProxy, forget, endGrace, restart, layoutReturn, listing}
 use Rattle.recovery.specs.Record.{freshAs}
 use Rattle.recovery.specs.declared.record.Record.{Record}
 use Rattle.ledger.specs.Ledger.{Row, Ledger, noRows, isRow, newRow, insert, lost, proxyRemoved, restarted, ended, isFault, isStranger, blame, reported, errorsOf, withMark, withBlame, judge, apply, accepted, feed}
@@ -99,6 +99,7 @@ sound-apply : (l : Ledger) (x : Call) → All Sound (l .rows) → All Sound (app
 unfolding apply
 sound-apply l (register n s) h = all-insert (newRow n (mirrorsIn s)) (record { no-blame = λ e. refl }) h
 sound-apply l (opening n c) h = all-amend (isRow n) _ (λ w k. as-was refl refl k) h
+sound-apply l (setUp n c s) h = all-amend (isRow n) _ (λ w k. as-was refl refl k) h
 sound-apply l (reclaim n c) h = all-amend (isRow n) _ (λ w k. as-was refl refl k) h
 sound-apply l (close n c) h = all-amend (isRow n) _ (λ w k. as-was refl refl k) h
 sound-apply l (repaired n) h = all-amend (isRow n) _ (λ w k. record { no-blame = λ e. refl }) h
@@ -107,7 +108,7 @@ sound-apply l (removeProxy n) h = all-amend (isRow n) _ sound-removed h
 sound-apply l (forget n) h = all-discard (isRow n) h
 sound-apply l endGrace h = all-map ended sound-ended h
 sound-apply l restart h = all-map restarted (λ w k. as-was refl refl k) h
-sound-apply l (layoutReturn n c s d) h = all-amend (isRow n) _ (sound-reported (l .edition) (errorsOf (reportOf (bodyOf s)))) h
+sound-apply l (layoutReturn n c s d) h = all-amend (isRow n) _ (λ w k. as-was refl refl (sound-reported (l .edition) (errorsOf (reportOf (bodyOf s))) w k)) h
 sound-apply l (listing k e a b) h = h
 
 pub sound-fed : (calls : List Call) (l : Ledger) → All Sound (l .rows) → All Sound (fed l calls .rows)

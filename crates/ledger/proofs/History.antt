@@ -1,7 +1,7 @@
 -- DEMAND 3 is proved here: `history : Demand3`. In this order: a step by its status, and one that changes nothing; each call; any list of calls.
-use mathlib.Core.Path.{_≡_, refl, ap, ap₂, sym, _∙_}
+use mathlib.Core.Path.{_≡_, refl, ap, ap₂, _∙_}
 use mathlib.Core.List.{List, [], _∷_}
-use mathlib.Core.Bool.{Bool, true, false, not, cond}
+use mathlib.Core.Bool.{Bool, true, false, cond}
 use Prim.Native.Nat.{ℕ}
 use lib.Dec.{leb}
 use lib.ListN.{length}
@@ -12,16 +12,16 @@ use Rattle.files.specs.declared.head.Edition.{Edition}
 use Rattle.files.specs.declared.head.Edition.the-variants.{Current, Old}
 use Rattle.files.specs.Head.{isOld}
 use Rattle.files.specs.declared.file.File.{File}
-use Rattle.recovery.specs.Calls.{Call, register, opening, reclaim, close, repaired, addProxy, removeProxy, forget, endGrace, restart, layoutReturn, listing, Answer, said, listed, lend}
+use Rattle.recovery.specs.Calls.{Call, register, opening, setUp, reclaim, close, repaired, addProxy, removeProxy, forget, endGrace, restart, layoutReturn, listing, Answer, said, listed, lend}
 use Rattle.ledger.specs.Ledger.{Row, Ledger, noRows, judge, apply, accepted, feed, isOn}
 use Rattle.recovery.specs.Record.{freshAs}
-use Rattle.ledger.specs.History.{Step, stepOf, step, answers, verdicts, recordAfter, ledgerAfter}
-use Rattle.ledger.specs.Demand3.{ledgerOf, Holds, Demand3}
+use Rattle.ledger.specs.History.{stepOf, step, answers, verdicts, recordAfter, ledgerAfter}
+use Rattle.ledger.specs.Demand3.{ledgerOf, Demand3}
 use Rattle.recovery.specs.declared.record.Record.{Record}
 use Rattle.recovery.specs.declared.record.Answered.{Answered}
 use Rattle.ledger.proofs.Relation.{FileIs, NoFile, Matches, RecordAgrees}
 use Rattle.ledger.proofs.OneFile.{few-devices}
-use Rattle.ledger.proofs.Calls.{open-agrees, reclaim-agrees, close-agrees, repaired-agrees, add-proxy-agrees, remove-proxy-agrees, forget-agrees, register-agrees, end-agrees, restart-agrees, list-agrees}
+use Rattle.ledger.proofs.Calls.{open-agrees, set-up-agrees, reclaim-agrees, close-agrees, repaired-agrees, add-proxy-agrees, remove-proxy-agrees, forget-agrees, register-agrees, end-agrees, restart-agrees, list-agrees}
 use Rattle.ledger.proofs.Returns.{StepIs, return-agrees}
 use Rattle.ledger.proofs.Sentences.{FewMirrors, never-the-proxy, one-list}
 
@@ -52,6 +52,7 @@ pub step-agrees : (r : Record) (l : Ledger) (x : Call) → Matches r l → StepI
 unfolding step judge apply
 step-agrees r l (register n s) m = by-status _ l (register n s) _ (register-agrees m n s)
 step-agrees r l (opening n c) m = by-status _ l (opening n c) _ (open-agrees m n c)
+step-agrees r l (setUp n c s) m = by-status _ l (setUp n c s) _ (set-up-agrees m n c s)
 step-agrees r l (reclaim n c) m = by-status _ l (reclaim n c) _ (reclaim-agrees m n c)
 step-agrees r l (close n c) m = by-status _ l (close n c) _ (close-agrees m n c)
 step-agrees r l (repaired n) m = by-status _ l (repaired n) _ (repaired-agrees m n)
@@ -68,6 +69,7 @@ same-edition : (l : Ledger) (x : Call) → apply l x .edition ≡ l .edition
 unfolding apply
 same-edition l (register n s) = refl
 same-edition l (opening n c) = refl
+same-edition l (setUp n c s) = refl
 same-edition l (reclaim n c) = refl
 same-edition l (close n c) = refl
 same-edition l (repaired n) = refl

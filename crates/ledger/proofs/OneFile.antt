@@ -1,7 +1,7 @@
 -- Calls on one file: each answers what the rules of its row say, and leaves a file that goes with the row as the ledger changes it. In this order: tests of
 -- intents; open; reclaim; close; repaired; the proxy; restart; the end of grace; a report; the source; a new file.
 use mathlib.Core.Path.{_≡_, refl, ap, sym, _∙_, subst}
-use mathlib.Core.List.{List, [], _∷_}
+use mathlib.Core.List.{List, [], _∷_, _++_, map}
 use mathlib.Core.Bool.{Bool, true, false, not, cond}
 use Prim.Native.Nat.{ℕ, suc, _+_, _<_, _≤_}
 use native.Mathlib.Omega.{arith}
@@ -14,7 +14,7 @@ use Rattle.reports.specs.Device.{Device, halves}
 use Rattle.reports.specs.Statistics.{Statistic}
 use Rattle.reports.specs.Report.{DeviceError, Whole}
 use Rattle.places.specs.Lists.{any, chosen, has, with, none}
-use Rattle.places.specs.Places.{bump, first, placeOr}
+use Rattle.places.specs.Places.{first}
 use Rattle.mirroring.specs.Devices.{Proxy, noProxy, proxyAt, isThere}
 use Rattle.mirroring.specs.Mirrors.{noMirror, isDevice, hasProxy, withProxy, withoutProxy, placedMirrors}
 use Rattle.mirroring.specs.Direction.{firstBy}
@@ -22,39 +22,37 @@ use Rattle.mirroring.specs.Source.{goodFrom, sourceIn}
 use Rattle.mirroring.specs.declared.source.Direction.{Direction}
 use Rattle.mirroring.specs.Blame.{assessmentOf}
 use Rattle.mirroring.specs.declared.blame.Change.{Change}
-use Rattle.intents.specs.Intents.{noIntent, noIntents, intentOf, isIntent, isFree, isKept, isLost, firstTaken, reclaimedIf, unreclaimedIntent}
+use Rattle.intents.specs.Intents.{noIntent, noIntents, intentOf, isIntent, isFree, isKept, isLost, firstTaken, reclaimedIf, unreclaimedIntent, stayedIntent}
 use Rattle.files.specs.declared.head.Edition.the-variants.{Current}
 use Rattle.files.specs.File as file
-use Rattle.files.specs.File.{fileOf, fileAnswered, becomes, toldHead, takes, opens, reclaims, leaves, mendedFile, restartedFile, endedFile, sourceOf}
+use Rattle.files.specs.File.{fileOf, fileAnswered, becomes, headAfter, takes, opens, reclaims, leaves, mendedFile, restartedFile, endedFile, sourceOf}
 use Rattle.layoutreturn.specs.LayoutReturn.{ofClient}
 use Rattle.intents.specs.declared.Intent.{Intent}
 use Rattle.mirroring.specs.declared.mirrors.Mirror.{Mirror}
 use Rattle.files.specs.declared.file.File.{File}
 use Rattle.files.specs.declared.head.Head.{Head}
-use Rattle.places.specs.declared.Found.{Found}
-use Rattle.places.specs.declared.Found.the-variants.{At, Nothing}
-use Rattle.places.proofs.Slots.{All, Pairs, Slots, Focus, Room, slots-left, slots-fill, slots-any, slots-chosen, focus, roomFor, pairs-as, all-replicate, fill-length, chosen-length, leftOut-length, missing, found, full, room}
-use Rattle.places.proofs.Sets.{true-false, has-with, with-old, with-new}
+use Rattle.places.proofs.Slots.{All, Pairs, Slots, Focus, Room, slots-map, slots-left, slots-fill, slots-any, slots-chosen, focus, roomFor, all-replicate, fill-length, chosen-length, leftOut-length, missing, found, full, room}
+use Rattle.places.proofs.Sets.{true-false, has-with}
 use Rattle.mirroring.proofs.Copies.{MirrorIs, PlacesAre, Copies, five, known, has-proxy, copies-unblamed, copies-proxied, copies-bare, copies-new}
-use Rattle.ledger.specs.Ledger.{Row, newRow, names, source, unblamedFrom, openRules, intentRules, closeRules, repairedRules, addProxyRules, removeProxyRules, opened, hasReclaimed, closed, mended, proxyAdded, proxyRemoved, restarted, ended, reported, lost}
-use Rattle.ledger.proofs.Relation.{IntentIs, NoIntent, Intents, FileIs, with-intents, with-mark, with-copies, with-proxy, FileAgrees, branch, phaseIn}
-use Rattle.ledger.proofs.Reported.{assessedFile, nothing-changed, file-after-report, whole-status}
+use Rattle.ledger.specs.Ledger.{noLayout, Holder, holder, isHolder, Row, newRow, withIntents, reclaimedBy, names, source, unblamedFrom, openRules, intentRules, closeRules, repairedRules, addProxyRules, removeProxyRules, opened, hasReclaimed, closed, mended, proxyAdded, proxyRemoved, restarted, ended, reported, lost}
+use Rattle.ledger.proofs.Relation.{no-stateid, IntentIs, NoIntent, FileIs, with-intents, with-mark, with-copies, with-proxy, FileAgrees, branch, phaseIn}
+use Rattle.ledger.proofs.Reported.{assessedFile, none-raised, nothing-changed, file-after-report, whole-status}
 
 -- ---- tests of intents
 module _ (g : Bool) (rs : List ℕ) (c : ℕ) where
-  is-intent : (x : Intent) (d : ℕ) → IntentIs g rs x d → isIntent c x ≡ eqb d c
-  is-intent x d h = rw (h .taken, h .client)
+  pub is-intent : (x : Intent) (y : Holder) → IntentIs g rs x y → isIntent c x ≡ isHolder c y
+  is-intent x y h = rw (h .taken, h .client)
 
   is-no-intent : (x : Intent) → NoIntent x → isIntent c x ≡ false
   is-no-intent x h = rw h
 
 abbrev pub AtIntent : ℕ → Bool → File → Row → Type 0
-AtIntent c g f w = Focus (IntentIs g (w .reclaimed)) NoIntent (isIntent c) (λ d. eqb d c) (f .intents) (w .intents)
+AtIntent c g f w = Focus (IntentIs g (w .reclaimed)) NoIntent (isIntent c) (isHolder c) (f .intents) (w .intents)
 
 pub at-intent : {g : Bool} {f : File} {w : Row} (c : ℕ) → FileIs g f w → AtIntent c g f w
-at-intent {g} {f} {w} c h = focus (isIntent c) (λ d. eqb d c) (is-intent g (w .reclaimed) c) (is-no-intent g (w .reclaimed) c) (h .intents .places)
+at-intent {g} {f} {w} c h = focus (isIntent c) (isHolder c) (is-intent g (w .reclaimed) c) (is-no-intent g (w .reclaimed) c) (h .intents .places)
 
-first-taken : {g : Bool} {rs : List ℕ} {xs : List Intent} {cs : List ℕ} → Slots (IntentIs g rs) NoIntent xs cs → firstTaken xs ≡ not (none cs)
+first-taken : {g : Bool} {rs : List ℕ} {xs : List Intent} {hs : List Holder} → Slots (IntentIs g rs) NoIntent xs hs → firstTaken xs ≡ not (none hs)
 unfolding none
 first-taken (Slots.rest All.all-nil) = refl
 first-taken (Slots.rest (All.all-cons h t)) = h
@@ -64,16 +62,16 @@ pub some-taken : {g : Bool} {f : File} {w : Row} → FileIs g f w → firstTaken
 some-taken h = first-taken (h .intents .places)
 
 -- ---- open, out of grace
-takes-one : {f : File} {w : Row} (d : Head) (c : ℕ) → FileIs false f w → has c (w .intents) ≡ false
+takes-one : {f : File} {w : Row} (d : Head) (c : ℕ) → FileIs false f w
     → Room (IntentIs false (w .reclaimed)) NoIntent isFree (f .intents) (w .intents)
-    → FileAgrees d false (takes c d f (first isFree (f .intents))) w (opened c w) (cond (leb 8 (length (w .intents))) 28 0)
-takes-one {f} {w} d c h e (full a b) = rw (a, le-leb 8 (length (w .intents)) (omega (arith, b, h .intents .eight))) (record { same = refl; kept = record { head = refl; file = h } })
-takes-one {f} {w} d c h e (room i s) = rw (s .at, lt-leb 8 (length (w .intents)) (omega (arith, s .less, h .intents .eight)), with-new c (w .intents) e) (record {
+    → FileAgrees d false (takes c d f (first isFree (f .intents))) w (withIntents (w .intents ++ holder c noLayout ∷ []) w) (cond (leb 8 (length (w .intents))) 28 0)
+takes-one {f} {w} d c h (full a b) = rw (a, le-leb 8 (length (w .intents)) (omega (arith, b, h .intents .eight))) (record { same = refl; kept = record { head = refl; file = h } })
+takes-one {f} {w} d c h (room i s) = rw (s .at, lt-leb 8 (length (w .intents)) (omega (arith, s .less, h .intents .eight))) (record {
   same = refl;
   kept = record {
     head = refl;
     file = with-intents h (record {
-      places = s .put (intentOf c) c (record { taken = refl; client = refl; reclaimed = λ z. true-false (sym z) });
+      places = s .put (intentOf c) (holder c noLayout) (record { taken = refl; client = refl; reclaimed = λ z. true-false (sym z); stateid = no-stateid refl; bare = λ z. refl });
       eight = simp length-set (h .intents .eight);
     });
   };
@@ -81,18 +79,20 @@ takes-one {f} {w} d c h e (room i s) = rw (s .at, lt-leb 8 (length (w .intents))
 
 opens-at : {f : File} {w : Row} (d : Head) (c : ℕ) → FileIs false f w → AtIntent c false f w → FileAgrees d false (opens c d f (first (isIntent c) (f .intents))) w (opened c w) (refused (openRules c w))
 unfolding has
-opens-at {f} {w} d c h (missing a b) = rw (a, b) (takes-one d c h b (roomFor isFree (λ x y k. rw (k .taken)) (λ x k. rw k) (h .intents .places)))
-opens-at {f} {w} d c h (found i y t) = rw (t .at, with-old c (w .intents) (t .there), t .there) (record { same = refl; kept = record { head = refl; file = h } })
+opens-at {f} {w} d c h (missing a b) = rw (a, b) (takes-one d c h (roomFor isFree (λ x y k. rw (k .taken)) (λ x k. rw k) (h .intents .places)))
+opens-at {f} {w} d c h (found i y t) = rw (t .at, t .there) (record { same = refl; kept = record { head = refl; file = h } })
 
 pub file-opened : {f : File} {w : Row} (d : Head) (c : ℕ) → FileIs false f w → FileAgrees d false (opens c d f (first (isIntent c) (f .intents))) w (opened c w) (refused (openRules c w))
 file-opened d c h = opens-at d c h (at-intent c h)
 
 -- ---- reclaim, in grace
-reclaimed-intent : (rs : List ℕ) (c : ℕ) (x : Intent) (d : ℕ) → IntentIs true rs x d → IntentIs true (with c rs) (reclaimedIf c x) d
-reclaimed-intent rs c x d h = record {
+reclaimed-intent : (rs : List ℕ) (c : ℕ) (x : Intent) (y : Holder) → IntentIs true rs x y → IntentIs true (with c rs) (reclaimedIf c x) y
+reclaimed-intent rs c x y h = record {
   taken = h .taken;
   client = h .client;
-  reclaimed = λ z. rw (has-with c d rs, h .taken, h .client, h .reclaimed refl);
+  reclaimed = λ z. rw (has-with c (y .client) rs, h .taken, h .client, h .reclaimed refl);
+  stateid = h .stateid;
+  bare = h .bare;
 }
 
 reclaims-at : {f : File} {w : Row} (d : Head) (c : ℕ) → FileIs true f w → AtIntent c true f w → FileAgrees d true (reclaims c d f (first (isIntent c) (f .intents))) w (hasReclaimed c w) (refused (intentRules c w))
@@ -127,7 +127,7 @@ leaves-at : {g : Bool} {f : File} {w : Row} (d : Head) (c : ℕ) → d .grace �
 unfolding has
 leaves-at {g} {f} {w} d c e h (missing a b) = rw (a, b) (record { same = refl; kept = record { head = refl; file = h } })
 leaves-at {g} {f} {w} d c e h (found i y t) = rw (t .at, e, t .there) (branch (cond g (not (has c (w .reclaimed))) false)
-    (grace-test g _ _ (λ z. t .pair noIntent .reclaimed z ∙ ap (λ x. has x (w .reclaimed)) (eqb-true y c (t .passes))))
+    (grace-test g _ _ (λ z. t .pair noIntent .reclaimed z ∙ ap (λ x. has x (w .reclaimed)) (eqb-true (y .client) c (t .passes))))
     (λ z. record { same = refl; kept = record { head = refl; file = h } })
     (λ z. record { same = refl; kept = record { head = refl; file = with-intents h (record { places = t .out noIntent refl; eight = leftOut-length noIntent i (f .intents) ∙ h .intents .eight }) } }))
 
@@ -171,19 +171,28 @@ file-restarted g f w h = record {
   number = h .number;
   copies = h .copies;
   intents = record {
-    places = slots-left unreclaimedIntent (λ x c k. record { taken = k .taken; client = k .client; reclaimed = λ z. refl }) (λ x k. k) (h .intents .places);
+    places = slots-map unreclaimedIntent (λ (y : Holder). holder (y .client) noLayout) (λ x y k. record { taken = k .taken; client = k .client; reclaimed = λ z. refl; stateid = no-stateid refl; bare = λ z. refl }) (λ x k. k) (h .intents .places);
     eight = length-map (f .intents) unreclaimedIntent ∙ h .intents .eight;
   };
   marked = h .marked;
 }
 
 -- ---- the end of grace
+pairs-left : {A B C : Type 0} {R : A → B → Type 0} {S : C → B → Type 0} {xs : List A} {ys : List B} (f : A → C)
+    → ((x : A) (y : B) → R x y → S (f x) y) → Pairs R xs ys → Pairs S (map f xs) ys
+pairs-left f k Pairs.pairs-nil = Pairs.pairs-nil
+pairs-left f k (Pairs.pairs-cons {x} {y} r s) = Pairs.pairs-cons (k x y r) (pairs-left f k s)
+
 kept-intents : {f : File} {w : Row} → FileIs true f w
-    → Pairs (IntentIs true (w .reclaimed)) (chosen isKept (f .intents)) (chosen (λ c. has c (w .reclaimed)) (w .intents))
-kept-intents {w} h = slots-chosen isKept (λ c. has c (w .reclaimed)) (λ x c k. rw (k .taken) (k .reclaimed refl)) (λ x k. rw k) (h .intents .places)
+    → Pairs (IntentIs true (w .reclaimed)) (chosen isKept (f .intents)) (chosen (λ (y : Holder). reclaimedBy (y .client) w) (w .intents))
+kept-intents {w} h = slots-chosen isKept (λ (y : Holder). reclaimedBy (y .client) w) (λ x y k. rw (k .taken) (k .reclaimed refl)) (λ x k. rw k) (h .intents .places)
 
 lost-intents : {f : File} {w : Row} → FileIs true f w → any isLost (f .intents) ≡ lost w
-lost-intents {w} h = slots-any isLost (λ c. not (has c (w .reclaimed))) (λ x c k. rw (k .taken, k .reclaimed refl)) (λ x k. rw k) (h .intents .places)
+lost-intents {w} h = slots-any isLost (λ (y : Holder). not (reclaimedBy (y .client) w)) (λ x y k. rw (k .taken, k .reclaimed refl)) (λ x k. rw k) (h .intents .places)
+
+-- one that stays has no stateid
+stays : (rs : List ℕ) (x : Intent) (y : Holder) → IntentIs true rs x y → IntentIs false rs (stayedIntent x) y
+stays rs x y k = record { taken = refl; client = k .client; reclaimed = λ z. true-false (sym z); stateid = rw (k .bare refl) (no-stateid refl); bare = λ z. k .bare refl }
 
 pub file-ended : (f : File) (w : Row) → FileIs true f w → FileIs false (endedFile f) (ended w)
 unfolding endedFile
@@ -192,26 +201,26 @@ file-ended f w h = record {
   number = h .number;
   copies = h .copies;
   intents = record {
-    places = slots-fill (pairs-as (λ x c k. record { taken = k .taken; client = k .client; reclaimed = λ z. true-false (sym z) }) (kept-intents h)) (all-replicate 8 noIntent refl)
-        (omega (arith, chosen-length isKept (f .intents), h .intents .eight));
-    eight = fill-length (chosen isKept (f .intents)) noIntents;
+    places = slots-fill (pairs-left stayedIntent (stays (w .reclaimed)) (kept-intents h)) (all-replicate 8 noIntent refl)
+        (omega (arith, chosen-length isKept (f .intents), length-map (chosen isKept (f .intents)) stayedIntent, h .intents .eight));
+    eight = fill-length (map stayedIntent (chosen isKept (f .intents))) noIntents;
   };
   marked = rw (lost-intents h, h .marked);
 }
 
 -- ---- a report
-told-phase : (x : Change) (d : Head) (f : File) → phaseIn (toldHead x d f) ≡ phaseIn d
-unfolding toldHead
+pub told-phase : (x : Change) (d : Head) (f : File) → phaseIn (headAfter x d f) ≡ phaseIn d
+unfolding headAfter
 told-phase x d f = refl
 
 reports-at : {g : Bool} {f : File} {w : Row} (d : Head) (c : ℕ) (xs : List DeviceError) (ys : List Statistic) → FileIs g f w → AtIntent c g f w
-    → FileAgrees d g (assessedFile d f (ofClient (assessmentOf (f .mirrors) (Whole xs ys)) (first (isIntent c) (f .intents)))) w (reported Current xs w) (refused (intentRules c w))
+    → FileAgrees d g (assessedFile d c f (ofClient (assessmentOf (f .mirrors) (Whole xs ys)) (first (isIntent c) (f .intents)))) w (reported Current xs w) (refused (intentRules c w))
 unfolding has
-reports-at {f} d c xs ys h (missing a b) = rw (a, b, nothing-changed d 10034 f) (record { same = refl; kept = record { head = refl; file = h } })
-reports-at {f} d c xs ys h (found i y t) = rw (t .at, t .there) (record { same = whole-status (f .mirrors) xs ys; kept = record { head = told-phase (assessmentOf (f .mirrors) (Whole xs ys) .change) d f; file = file-after-report xs ys h } })
+reports-at {f} d c xs ys h (missing a b) = rw (a, b, nothing-changed d c 10034 f) (record { same = refl; kept = record { head = refl; file = h } })
+reports-at {f} d c xs ys h (found i y t) = rw (t .at, t .there) (record { same = whole-status (f .mirrors) xs ys; kept = record { head = told-phase (assessmentOf (f .mirrors) (Whole xs ys) .change) d f; file = rw (none-raised c _) (file-after-report xs ys h) } })
 
 pub file-reported : {g : Bool} {f : File} {w : Row} (d : Head) (c : ℕ) (xs : List DeviceError) (ys : List Statistic) → FileIs g f w
-    → FileAgrees d g (assessedFile d f (ofClient (assessmentOf (f .mirrors) (Whole xs ys)) (first (isIntent c) (f .intents)))) w (reported Current xs w) (refused (intentRules c w))
+    → FileAgrees d g (assessedFile d c f (ofClient (assessmentOf (f .mirrors) (Whole xs ys)) (first (isIntent c) (f .intents)))) w (reported Current xs w) (refused (intentRules c w))
 file-reported d c xs ys h = reports-at d c xs ys h (at-intent c h)
 
 -- ---- the source

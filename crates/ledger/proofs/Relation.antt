@@ -9,7 +9,9 @@ use lib.Dec.{eqb}
 use Rattle.places.specs.Lists.{has, Rising}
 use Rattle.files.specs.Head.{isOld}
 use Rattle.files.specs.File as file
+use Rattle.intents.specs.Intents.{isStated}
 use Rattle.intents.specs.declared.Intent.{Intent}
+use Rattle.wire.specs.declared.stateid.Stateid.{Stateid}
 use Rattle.mirroring.specs.Devices.{Proxy}
 use Rattle.mirroring.specs.declared.mirrors.Mirror.{Mirror}
 use Rattle.files.specs.declared.file.File.{File}
@@ -17,21 +19,28 @@ use Rattle.files.specs.declared.file.FileAnswered.{FileAnswered}
 use Rattle.files.specs.declared.head.Head.{Head}
 use Rattle.places.proofs.Slots.{Slots}
 use Rattle.mirroring.proofs.Copies.{Copies}
-use Rattle.ledger.specs.Ledger.{Row, Ledger, numbers, withProxy, withIntents, withMark, withBlame}
+use Rattle.ledger.specs.Ledger.{Layout, noLayout, held, Holder, Row, Ledger, numbers, withProxy, withIntents, withMark, withBlame}
 use Rattle.recovery.specs.declared.record.Record.{Record}
 use Rattle.recovery.specs.declared.record.Answered.{Answered}
 
--- ---- a file's intents and a row's clients; g: in grace. Only there does a place say whether its client has reclaimed
-pub record IntentIs (g : Bool) (rs : List ℕ) (x : Intent) (c : ℕ) : Type 0 where
+-- ---- a place's stateid and a client's: a seqid of 0 is none
+pub data LayoutIs (t : Stateid) : Layout → Type 0 where
+  no-stateid : isStated t ≡ false → LayoutIs t noLayout
+  its-stateid : {u : Stateid} → t ≡ u → isStated u ≡ true → LayoutIs t (held u)
+
+-- ---- a file's intents and a row's holders; g: in grace. Only there does a place say whether its client has reclaimed, and there nobody has a stateid
+pub record IntentIs (g : Bool) (rs : List ℕ) (x : Intent) (h : Holder) : Type 0 where
   pub taken : x .taken ≡ true
-  pub client : x .client ≡ c
-  pub reclaimed : g ≡ true → x .reclaimed ≡ has c rs
+  pub client : x .client ≡ h .client
+  pub reclaimed : g ≡ true → x .reclaimed ≡ has (h .client) rs
+  pub stateid : LayoutIs (x .stateid) (h .layout)
+  pub bare : g ≡ true → h .layout ≡ noLayout
 
 abbrev pub NoIntent : Intent → Type 0
 NoIntent x = x .taken ≡ false
 
-pub record Intents (g : Bool) (rs : List ℕ) (xs : List Intent) (cs : List ℕ) : Type 0 where
-  pub places : Slots (IntentIs g rs) NoIntent xs cs
+pub record Intents (g : Bool) (rs : List ℕ) (xs : List Intent) (hs : List Holder) : Type 0 where
+  pub places : Slots (IntentIs g rs) NoIntent xs hs
   pub eight : length xs ≡ 8
 
 -- ---- a file and a row
@@ -55,7 +64,7 @@ pub record Matches (r : Record) (l : Ledger) : Type 0 where
 
 -- ---- one field changed
 module _ {g : Bool} {f : File} {w : Row} (h : FileIs g f w) where
-  pub with-intents : {xs : List Intent} {cs : List ℕ} → Intents g (w .reclaimed) xs cs → FileIs g (file.withIntents xs f) (withIntents cs w)
+  pub with-intents : {xs : List Intent} {hs : List Holder} → Intents g (w .reclaimed) xs hs → FileIs g (file.withIntents xs f) (withIntents hs w)
   with-intents s = record { used = h .used; number = h .number; copies = h .copies; intents = s; marked = h .marked }
 
   pub with-mark : {a b : Bool} → a ≡ b → FileIs g (file.withMark a f) (withMark b w)

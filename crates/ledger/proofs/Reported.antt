@@ -1,6 +1,6 @@
 -- A file's report, beside the ledger's: what a report says of a file's mirrors is what step 7 says of the row. In this order: device errors; a
 -- whole report, and the file that it changes; steps 5 and 6.
-use mathlib.Core.Path.{_≡_, refl, ap, sym, _∙_}
+use mathlib.Core.Path.{_≡_, refl, ap, _∙_}
 use mathlib.Core.List.{List, [], _∷_}
 use mathlib.Core.Bool.{Bool, true, false, not, cond}
 use Prim.Native.Nat.{ℕ, _<_}
@@ -14,7 +14,8 @@ use Rattle.mirroring.specs.Mirrors.{isDevice, blamedAt}
 use Rattle.mirroring.specs.Blame.{blaming, statusOnly, withChange, withErrorAt, withErrorOf, withError, errorsAssessed, assessmentOf}
 use Rattle.mirroring.specs.TotalsSteps.{mirrorTotals}
 use Rattle.files.specs.File as file
-use Rattle.files.specs.File.{fileAnswered, changedFile}
+use Rattle.files.specs.File.{fileAnswered, changedFile, raisedFile}
+use Rattle.wire.specs.Stateid.{noStateid}
 use Rattle.layoutreturn.specs.LayoutReturn.{ofIntent, reportOn, outcomeOn}
 use Rattle.mirroring.specs.declared.mirrors.Mirror.{Mirror}
 use Rattle.mirroring.specs.declared.blame.Assessment.{Assessment}
@@ -126,12 +127,16 @@ pub file-after-report : {g : Bool} {f : File} {w : Row} (xs : List DeviceError) 
 unfolding changedFile assessmentOf errorsAssessed
 file-after-report {g} {f} {w} xs ys k = after-report (over (withError (f .mirrors)) (statusOnly 0) xs) xs k (assesses-report xs k)
 
--- ---- what is answered of an assessment, and the file afterwards; a refusal changes nothing
-abbrev pub assessedFile : Head → File → Assessment → FileAnswered
-assessedFile d f a = answeredBy f (outcomeOn d f a)
+-- ---- what is answered of an assessment, and the file afterwards, where no seqid rises; a refusal changes nothing
+abbrev pub assessedFile : Head → ℕ → File → Assessment → FileAnswered
+assessedFile d c f a = answeredBy f (outcomeOn d c noStateid f a)
 
-pub nothing-changed : (d : Head) (k : ℕ) (f : File) → assessedFile d f (statusOnly k) ≡ fileAnswered k d f
-nothing-changed d k f = rw (told-nothing f d) (ap (fileAnswered k d) (unchanged f))
+pub none-raised : (c : ℕ) (f : File) → raisedFile c noStateid f ≡ f
+unfolding raisedFile
+none-raised c f = refl
+
+pub nothing-changed : (d : Head) (c k : ℕ) (f : File) → assessedFile d c f (statusOnly k) ≡ fileAnswered k d f
+nothing-changed d c k f = rw (told-nothing f d, unchanged f) (ap (fileAnswered k d) (none-raised c f))
 
 -- ---- steps 5 and 6
 pub whole-status : (ms : List Mirror) (xs : List DeviceError) (ys : List Statistic) → assessmentOf ms (Whole xs ys) .status ≡ 0

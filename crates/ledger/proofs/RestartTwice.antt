@@ -1,7 +1,7 @@
 -- Ticket 14 is proved here: `restart-twice : RestartTwice`, `reclaim-again : ReclaimAgain`. Two ledgers go side by side from the one more restart on, and every
 -- call up to the end keeps their rows related (Worse.antt). In this order: a call on both; the calls up to the end; the end; two histories; the record's list; the
 -- record's blame; the first theorem; a restart and the end at once; the second.
-use mathlib.Core.Path.{_≡_, refl, ap, ap₂, sym, _∙_}
+use mathlib.Core.Path.{_≡_, refl, ap, ap₂, sym, _∙_, subst⁻¹}
 use mathlib.Core.List.{List, [], _∷_, _++_, map}
 use mathlib.Core.Bool.{Bool, true, false, not, cond}
 use Prim.Native.Nat.{ℕ, _≤_}
@@ -26,12 +26,12 @@ use Rattle.mirroring.proofs.Copies.{five}
 use Rattle.files.specs.File.{noFile}
 use Rattle.files.specs.declared.head.Edition.{Edition}
 use Rattle.files.specs.declared.head.Edition.the-variants.{Current, Old}
-use Rattle.recovery.specs.Calls.{Call, register, opening, reclaim, close, repaired, addProxy, removeProxy, forget, endGrace, restart, layoutReturn, listing, replied, lend}
+use Rattle.recovery.specs.Calls.{Call, register, opening, setUp, reclaim, close, repaired, addProxy, removeProxy, forget, endGrace, restart, layoutReturn, listing, replied, lend}
 use Rattle.recovery.specs.declared.listing.Listing.the-variants.{Resilver}
 use Rattle.mirroring.specs.declared.source.Direction.the-variants.{Highest}
 use Rattle.recovery.specs.Record.{freshAs, endOf}
 use Rattle.recovery.specs.declared.record.Record.{Record}
-use Rattle.ledger.specs.Ledger.{Row, Ledger, noRows, isRow, newRow, registered, rowOf, isOpen, numbers, isOn, rowsOn, intentRules, reportRules, closeRules, repairedRules, lost, hasReclaimed, closed, mended, restarted, ended, reported, errorsOf, onRow, judge, judgeRequest, apply, accepted, feed}
+use Rattle.ledger.specs.Ledger.{Holder, holder, noLayout, Row, Ledger, noRows, isRow, newRow, registered, rowOf, isOpen, numbers, isOn, rowsOn, intentRules, reportRules, closeRules, repairedRules, lost, hasReclaimed, closed, mended, restarted, ended, raisedBy, reported, errorsOf, onRow, judge, judgeRequest, apply, feed}
 use Rattle.ledger.specs.Lists.{rowPasses}
 use Rattle.ledger.specs.History.{step, recordAfter}
 use Rattle.ledger.specs.Demand3.{ledgerOf}
@@ -40,8 +40,8 @@ use Rattle.ledger.proofs.Relation.{Matches}
 use Rattle.ledger.proofs.Calls.{AtFile, at-file, not-there, here, it-is}
 use Rattle.ledger.proofs.History.{step-agrees, lend-changes-nothing, fresh-matches, after-all, history}
 use Rattle.ledger.proofs.Fed.{fed, fed-ledger, fed-append, Sound, sound-fed}
-use Rattle.ledger.proofs.Within.{any-within}
-use Rattle.ledger.proofs.Worse.{Worse, nothing-in, after-restart, heeded, Kept, reclaim-kept, close-kept, repaired-kept, report-kept, restart-kept}
+use Rattle.ledger.proofs.Within.{any-within, any-key}
+use Rattle.ledger.proofs.Worse.{clientIn, Worse, nothing-in, after-restart, heeded, Kept, reclaim-kept, close-kept, repaired-kept, report-kept, restart-kept}
 
 -- ---- a call on two ledgers in grace
 abbrev inGrace : Edition → List Row → Ledger
@@ -105,10 +105,18 @@ one-file : (o : Edition) (n : ℕ) (t : Row → ℕ) (g : Row → Row) → Kept 
     → Side (cond (eqb (statusIn n t g (newRow n []) ws) 0) (inGrace o (amend (isRow n) g ws)) (inGrace o ws)) (cond (eqb (statusIn n t g (newRow n []) vs) 0) (inGrace o (amend (isRow n) g vs)) (inGrace o vs))
 one-file o n t g k {ws} {vs} s = rw (heeded-ledger n t g (newRow n []) o ws, heeded-ledger n t g (newRow n []) o vs) (side (pairs-amend n (heeded t g) k s))
 
--- LAYOUTRETURN: only a report of the all-zero stateid, whole, is accepted in grace
+-- LAYOUTRETURN: only a report of the all-zero stateid, whole, is accepted in grace, and raises no seqid; p is the report of a request that is read as q
+abbrev reportFed : ℕ → ℕ → Report → Request → List Row → Ledger
+reportFed n c p q ws = cond (eqb (refused (reportRules (inGrace Current ws) n c p)) 0) (onRow (inGrace Current ws) n (λ w. raisedBy q c (reported Current (errorsOf p) w))) (inGrace Current ws)
+
+report-side : (n c k : ℕ) (p : Report) {ws vs : List Row} → Pairs Worse ws vs → Side (reportFed n c p (request.File kind.Anonymous k) ws) (reportFed n c p (request.File kind.Anonymous k) vs)
+unfolding registered rowOf
+report-side n c k Malformed h = side h
+report-side n c k (Whole xs ys) h = one-file Current n (λ w. refused (intentRules c w)) (reported Current xs) (report-kept c xs) h
+
 return-side : (o : Edition) (n c : ℕ) (s d : List ℕ) (q : Request) → requestOf s ≡ q → {ws vs : List Row} → Pairs Worse ws vs
     → Side (feed (inGrace o ws) (layoutReturn n c s d) (judgeRequest (inGrace o ws) n c s d q)) (feed (inGrace o vs) (layoutReturn n c s d) (judgeRequest (inGrace o vs) n c s d q))
-unfolding feed apply registered rowOf
+unfolding feed apply
 return-side o n c s d (request.Refused k) e h = rw (ne-eqb k 0 (refused-number s e)) (side h)
 return-side o n c s d request.Bulk e h = side h
 return-side o n c s d (request.File kind.Bypass k) e h = side h
@@ -116,17 +124,15 @@ return-side o n c s d (request.File kind.Invalid k) e h = side h
 return-side o n c s d (request.File kind.Current k) e h = side h
 return-side o n c s d (request.File kind.Ordinary k) e h = side h
 return-side Old n c s d (request.File kind.Anonymous k) e h = side h
-return-side Current n c s d (request.File kind.Anonymous k) e {ws} {vs} h = by (reportOf (bodyOf s))
-  where
-    by : (p : Report)
-        → Side (cond (eqb (refused (reportRules (inGrace Current ws) n c p)) 0) (onRow (inGrace Current ws) n (reported Current (errorsOf p))) (inGrace Current ws)) (cond (eqb (refused (reportRules (inGrace Current vs) n c p)) 0) (onRow (inGrace Current vs) n (reported Current (errorsOf p))) (inGrace Current vs))
-    by Malformed = side h
-    by (Whole xs ys) = one-file Current n (λ w. refused (intentRules c w)) (reported Current xs) (report-kept c xs) h
+return-side Current n c s d (request.File kind.Anonymous k) e {ws} {vs} h =
+    let p = reportOf (bodyOf s) in
+    subst⁻¹ (λ (q : Request). Side (reportFed n c p q ws) (reportFed n c p q vs)) e (report-side n c k p h)
 
 step-side : (o : Edition) (x : Call) {ws vs : List Row} → (x ≡ endGrace → ⊥) → Pairs Worse ws vs → Side (feed (inGrace o ws) x (judge (inGrace o ws) x)) (feed (inGrace o vs) x (judge (inGrace o vs) x))
 unfolding feed judge apply registered rowOf
 step-side o (register n s) k h = side h
 step-side o (opening n c) k h = side h
+step-side o (setUp n c s) k h = side h
 step-side o (reclaim n c) k h = one-file o n (λ w. refused (intentRules c w)) (hasReclaimed c) (reclaim-kept c) h
 step-side o (close n c) k h = one-file o n (λ w. refused (closeRules true c w)) (closed c) (close-kept c) h
 step-side o (repaired n) k h = one-file o n (λ w. refused (repairedRules w)) mended repaired-kept h
@@ -191,7 +197,9 @@ record AtLeast (w v : Row) : Type 0 where
   blamed : (i : ℕ) → has i (w .blamed) ≡ true → has i (v .blamed) ≡ true
 
 lost-too : (w v : Row) → Worse w v → lost w ≡ true → lost v ≡ true
-lost-too w v h e = any-within (λ c. not (has c (w .reclaimed))) (λ c. not (has c (v .reclaimed))) (λ c k q. by (has c (v .reclaimed)) (h .reclaims c k) q) (h .intents) e
+lost-too w v h e =
+    sym (any-key clientIn (λ c. not (has c (v .reclaimed))) (v .intents))
+    ∙ any-within (λ c. not (has c (w .reclaimed))) (λ c. not (has c (v .reclaimed))) (λ c k q. by (has c (v .reclaimed)) (h .reclaims c k) q) (h .intents) (any-key clientIn (λ c. not (has c (w .reclaimed))) (w .intents) ∙ e)
   where
     by : {a : Bool} (b : Bool) → (b ≡ true → a ≡ true) → not a ≡ true → not b ≡ true
     by true f q = true-false (sym (rw (f refl) at q))
@@ -338,10 +346,13 @@ restart-twice ed before during g =
     }
 
 -- ---- a restart and the end of grace at once
-no-reclaim : (cs : List ℕ) → not (none cs) ≡ true → any (λ c. not (has c [])) cs ≡ true
+no-reclaim : (w : Row) → isOpen w ≡ true → lost (restarted w) ≡ true
 unfolding none any has
-no-reclaim [] e = true-false (sym e)
-no-reclaim (c ∷ cs) e = refl
+no-reclaim w e = by (w .intents) e
+  where
+    by : (xs : List Holder) → not (none xs) ≡ true → any (λ (x : Holder). not (has (x .client) [])) (map (λ (x : Holder). holder (x .client) noLayout) xs) ≡ true
+    by [] k = true-false (sym k)
+    by (x ∷ xs) k = refl
 
 forgotten : (n : ℕ) (ws : List Row) → isOpen (firstOr (isRow n) (newRow n []) ws) ≡ true
     → cond (any (isRow n) (map ended (map restarted ws))) (firstOr (isRow n) (newRow n []) (map ended (map restarted ws)) .marked) false ≡ true
@@ -355,7 +366,7 @@ forgotten n (w ∷ ws) e = by (isRow n w) e (forgotten n ws)
     by : (b : Bool) → isOpen (cond b w (firstOr (isRow n) (newRow n []) ws)) ≡ true
         → (isOpen (firstOr (isRow n) (newRow n []) ws) ≡ true → cond (any (isRow n) rest) (firstOr (isRow n) (newRow n []) rest .marked) false ≡ true)
         → cond (cond b true (any (isRow n) rest)) (cond b (ended (restarted w)) (firstOr (isRow n) (newRow n []) rest) .marked) false ≡ true
-    by true k f = rw (no-reclaim (w .intents) k)
+    by true k f = rw (no-reclaim w k)
     by false k f = f k
 
 restarted-and-ended : (n : ℕ) (l : Ledger) → isOpen (rowOf n l) ≡ true → rowPasses (isOn Resilver) n (fed l (restart ∷ endGrace ∷ [])) ≡ true

@@ -1,6 +1,7 @@
--- Part of a list of numbers, in its order: what it has the list has, and one may be taken out of the part, of both, or of the list alone.
+-- Part of a list of numbers, in its order: what it has the list has, and one may be taken out of the part, of both, or of the list alone. Last, a list of things
+-- that have numbers each, and the list of those.
 use mathlib.Core.Path.{_≡_, refl, sym}
-use mathlib.Core.List.{List, [], _∷_}
+use mathlib.Core.List.{List, [], _∷_, map}
 use mathlib.Core.Bool.{Bool, true, false, cond}
 use Prim.Native.Nat.{ℕ}
 use lib.Dec.{eqb}
@@ -86,3 +87,29 @@ module _ (p : ℕ → Bool) where
       by : (b : Bool) → Within xs (discard p ys) → Within xs (cond b ys (y ∷ discard p ys))
       by true h = s
       by false h = within-more y h
+
+-- ---- things, and the number of each
+module _ {A : Type 0} (key : A → ℕ) where
+  pub any-key : (p : ℕ → Bool) (xs : List A) → any p (map key xs) ≡ any (λ x. p (key x)) xs
+  unfolding any
+  any-key p [] = refl
+  any-key p (x ∷ xs) = rw (any-key p xs)
+
+  pub none-key : (xs : List A) → none (map key xs) ≡ none xs
+  unfolding none
+  none-key [] = refl
+  none-key (x ∷ xs) = refl
+
+  pub discard-key : (p : ℕ → Bool) (xs : List A) → map key (discard (λ x. p (key x)) xs) ≡ discard p (map key xs)
+  unfolding discard
+  discard-key p [] = refl
+  discard-key p (x ∷ xs) = by (p (key x)) (discard-key p xs)
+    where
+      by : (b : Bool) → map key (discard (λ x. p (key x)) xs) ≡ discard p (map key xs) → map key (cond b xs (x ∷ discard (λ x. p (key x)) xs)) ≡ cond b (map key xs) (key x ∷ discard p (map key xs))
+      by true e = refl
+      by false e = rw e
+
+  -- each changed to one of its number
+  pub map-key : (g : A → A) → ((x : A) → key (g x) ≡ key x) → (xs : List A) → map key (map g xs) ≡ map key xs
+  map-key g k [] = refl
+  map-key g k (x ∷ xs) = rw (k x, map-key g k xs)

@@ -1,7 +1,7 @@
 -- Two rows of one file, the second of a ledger with one more restart inside a grace period: the relation `Worse`, and that each call in grace keeps it. In this
 -- order: the relation; reclaim; close; repaired; a report; restart.
 use mathlib.Core.Path.{_≡_, refl, ap, ap₂, sym, _∙_}
-use mathlib.Core.List.{List, [], _∷_}
+use mathlib.Core.List.{List, [], _∷_, map}
 use mathlib.Core.Bool.{Bool, true, false, not, cond}
 use Prim.Native.Nat.{ℕ}
 use lib.Dec.{eqb}
@@ -12,18 +12,32 @@ use Rattle.places.specs.Lists.{any, has, with, none, discard}
 use Rattle.places.proofs.Sets.{true-false, has-with, any-same}
 use Rattle.mirroring.specs.Devices.{deviceOf, isCopy, copyPlace}
 use Rattle.files.specs.declared.head.Edition.the-variants.{Current}
-use Rattle.ledger.specs.Ledger.{Row, placeIn, intentRules, closeRules, repairedRules, hasReclaimed, closed, mended, restarted, isFault, isStranger, blame, reported, withMark, withBlame, withIntents}
+use Rattle.ledger.specs.Ledger.{Holder, holder, noLayout, Row, holds, placeIn, intentRules, closeRules, repairedRules, hasReclaimed, closed, mended, restarted, isFault, isStranger, blame, reported, withMark, withBlame, withIntents}
 use Rattle.ledger.proofs.Fed.{Sound, as-was}
-use Rattle.ledger.proofs.Within.{Within, within-self, or-true, has-within, none-within, within-less, within-discard, within-but}
+use Rattle.ledger.proofs.Within.{Within, within-self, or-true, has-within, none-within, within-less, within-discard, within-but, any-key, none-key, discard-key, map-key}
 
--- ---- THE RELATION of a row w and that of the same file in the ledger with one more restart, v: it has more intents, fewer of w's are reclaimed, and it
+-- ---- the clients of a row's intents
+abbrev pub clientIn : Holder → ℕ
+clientIn x = x .client
+
+abbrev pub clients : Row → List ℕ
+clients w = map clientIn (w .intents)
+
+held-by : (c : ℕ) (w : Row) → has c (clients w) ≡ holds c w
+unfolding has
+held-by c w = any-key clientIn (λ x. eqb x c) (w .intents)
+
+same-clients : (xs : List Holder) → map clientIn (map (λ (x : Holder). holder (x .client) noLayout) xs) ≡ map clientIn xs
+same-clients xs = map-key clientIn (λ (x : Holder). holder (x .client) noLayout) (λ x. refl) xs
+
+-- ---- THE RELATION of a row w and that of the same file in the ledger with one more restart, v: more clients have intents, fewer of w's have reclaimed, and it
 -- has the mark and the blame that w has
 pub record Worse (w v : Row) : Type 0 where
   pub number : v .number ≡ w .number
   pub mirrors : v .mirrors ≡ w .mirrors
   pub proxy : v .proxy ≡ w .proxy
-  pub intents : Within (w .intents) (v .intents)
-  pub reclaims : (c : ℕ) → has c (w .intents) ≡ true → has c (v .reclaimed) ≡ true → has c (w .reclaimed) ≡ true
+  pub intents : Within (clients w) (clients v)
+  pub reclaims : (c : ℕ) → has c (clients w) ≡ true → has c (v .reclaimed) ≡ true → has c (w .reclaimed) ≡ true
   pub marked : w .marked ≡ true → v .marked ≡ true
   pub blamed : (i : ℕ) → has i (w .blamed) ≡ true → has i (v .blamed) ≡ true
   pub sound : Sound w
@@ -38,7 +52,7 @@ after-restart w h = record {
   number = refl;
   mirrors = refl;
   proxy = refl;
-  intents = within-self (w .intents);
+  intents = rw (same-clients (w .intents)) (within-self (clients w));
   reclaims = λ c e k. true-false (sym k ∙ nothing-in c);
   marked = λ e. e;
   blamed = λ i e. e;
@@ -55,15 +69,15 @@ Kept t g = (w v : Row) → Worse w v → Worse (heeded t g w) (heeded t g v)
 
 -- reclaim
 pub reclaim-kept : (c : ℕ) → Kept (λ w. refused (intentRules c w)) (hasReclaimed c)
-reclaim-kept c w v h = by (has c (w .intents)) (has c (v .intents)) refl refl
+reclaim-kept c w v h = by (holds c w) (holds c v) (held-by c w) (held-by c v)
   where
-    other : (d : ℕ) (a b : Bool) → eqb d c ≡ a → has c (w .intents) ≡ b → has d (w .intents) ≡ true → cond a true (has d (v .reclaimed)) ≡ true → has d (cond b (with c (w .reclaimed)) (w .reclaimed)) ≡ true
+    other : (d : ℕ) (a b : Bool) → eqb d c ≡ a → has c (clients w) ≡ b → has d (clients w) ≡ true → cond a true (has d (v .reclaimed)) ≡ true → has d (cond b (with c (w .reclaimed)) (w .reclaimed)) ≡ true
     other d true true e k p q = has-with c d (w .reclaimed) ∙ rw e
-    other d true false e k p q = true-false (sym p ∙ ap (λ z. has z (w .intents)) (eqb-true d c e) ∙ k)
+    other d true false e k p q = true-false (sym p ∙ ap (λ z. has z (clients w)) (eqb-true d c e) ∙ k)
     other d false true e k p q = has-with c d (w .reclaimed) ∙ rw e (h .reclaims d p q)
     other d false false e k p q = h .reclaims d p q
 
-    by : (a b : Bool) → has c (w .intents) ≡ a → has c (v .intents) ≡ b
+    by : (a b : Bool) → has c (clients w) ≡ a → has c (clients v) ≡ b
         → Worse (cond (eqb (cond (not a) 10034 0) 0) (hasReclaimed c w) w) (cond (eqb (cond (not b) 10034 0) 0) (hasReclaimed c v) v)
     by true true e k = record {
       number = h .number;
@@ -94,23 +108,26 @@ closing a b = cond (not a) 10025 (cond (not b) 10025 0)
 
 pub close-kept : (c : ℕ) → Kept (λ w. refused (closeRules true c w)) (closed c)
 unfolding has
-close-kept c w v h = by (has c (w .intents)) (has c (w .reclaimed)) (has c (v .intents)) (has c (v .reclaimed)) refl refl refl refl
+close-kept c w v h = by (holds c w) (has c (w .reclaimed)) (holds c v) (has c (v .reclaimed)) (held-by c w) refl (held-by c v) refl
   where
-    fewer : {xs ys : List ℕ} → Within xs ys → ((d : ℕ) → has d xs ≡ true → has d (w .intents) ≡ true) → Worse (withIntents xs w) (withIntents ys v)
-    fewer s f = record { number = h .number; mirrors = h .mirrors; proxy = h .proxy; intents = s; reclaims = λ d p q. h .reclaims d (f d p) q; marked = h .marked; blamed = h .blamed; sound = as-was refl refl (h .sound) }
+    fewer : (xs ys : List Holder) → Within (map clientIn xs) (map clientIn ys) → ((d : ℕ) → has d (map clientIn xs) ≡ true → has d (clients w) ≡ true) → Worse (withIntents xs w) (withIntents ys v)
+    fewer xs ys s f = record { number = h .number; mirrors = h .mirrors; proxy = h .proxy; intents = s; reclaims = λ d p q. h .reclaims d (f d p) q; marked = h .marked; blamed = h .blamed; sound = as-was refl refl (h .sound) }
 
-    less : (d : ℕ) → has d (discard (λ x. eqb x c) (w .intents)) ≡ true → has d (w .intents) ≡ true
-    less d e = has-within d (within-less (λ x. eqb x c) (within-self (w .intents))) e
+    but : (u : Row) → map clientIn (closed c u .intents) ≡ discard (λ x. eqb x c) (clients u)
+    but u = discard-key clientIn (λ x. eqb x c) (u .intents)
 
-    by : (a b a′ b′ : Bool) → has c (w .intents) ≡ a → has c (w .reclaimed) ≡ b → has c (v .intents) ≡ a′ → has c (v .reclaimed) ≡ b′
+    less : (d : ℕ) → has d (clients (closed c w)) ≡ true → has d (clients w) ≡ true
+    less d e = has-within d (within-less (λ x. eqb x c) (within-self (clients w))) (rw (but w) at e)
+
+    by : (a b a′ b′ : Bool) → has c (clients w) ≡ a → has c (w .reclaimed) ≡ b → has c (clients v) ≡ a′ → has c (v .reclaimed) ≡ b′
         → Worse (cond (eqb (closing a b) 0) (closed c w) w) (cond (eqb (closing a′ b′) 0) (closed c v) v)
-    by true true true true p q r s = fewer (within-discard (λ x. eqb x c) (h .intents)) less
-    by true true true false p q r s = fewer (within-less (λ x. eqb x c) (h .intents)) less
-    by true true false b′ p q r s = fewer (within-less (λ x. eqb x c) (h .intents)) less
+    by true true true true p q r s = fewer (closed c w .intents) (closed c v .intents) (rw (but w, but v) (within-discard (λ x. eqb x c) (h .intents))) less
+    by true true true false p q r s = fewer (closed c w .intents) (v .intents) (rw (but w) (within-less (λ x. eqb x c) (h .intents))) less
+    by true true false b′ p q r s = fewer (closed c w .intents) (v .intents) (rw (but w) (within-less (λ x. eqb x c) (h .intents))) less
     by true false true true p q r s = true-false (sym (h .reclaims c p s) ∙ q)
     by true false true false p q r s = h
     by true false false b′ p q r s = h
-    by false b true true p q r s = fewer (within-but (λ x. eqb x c) p (h .intents)) (λ d e. e)
+    by false b true true p q r s = fewer (w .intents) (closed c v .intents) (rw (but v) (within-but (λ x. eqb x c) p (h .intents))) (λ d e. e)
     by false b true false p q r s = h
     by false b false b′ p q r s = h
 
@@ -129,7 +146,7 @@ repaired-kept w v h = by (w .marked) (none (w .intents)) (v .marked) (none (v .i
         clean : (u : Row) → Worse w u → Worse (mended w) u
         clean u k = record { number = k .number; mirrors = k .mirrors; proxy = k .proxy; intents = k .intents; reclaims = k .reclaims; marked = λ e. true-false (sym e); blamed = λ i e. true-false (sym e ∙ nothing-in i); sound = record { no-blame = λ e. refl } }
     by true true false b′ p q r s = true-false (sym (h .marked p) ∙ r)
-    by true false true true p q r s = true-false (sym (none-within (h .intents) s) ∙ q)
+    by true false true true p q r s = true-false (sym (none-within (h .intents) (none-key clientIn (v .intents) ∙ s)) ∙ none-key clientIn (w .intents) ∙ q)
     by true false true false p q r s = h
     by true false false b′ p q r s = h
     by false b true true p q r s = record {
@@ -211,9 +228,9 @@ module _ {w v : Row} (h : Worse w v) (xs : List DeviceError) where
   one-reported false false = h
 
 pub report-kept : (c : ℕ) (xs : List DeviceError) → Kept (λ w. refused (intentRules c w)) (reported Current xs)
-report-kept c xs w v h = by (has c (w .intents)) (has c (v .intents)) refl refl
+report-kept c xs w v h = by (holds c w) (holds c v) (held-by c w) (held-by c v)
   where
-    by : (a b : Bool) → has c (w .intents) ≡ a → has c (v .intents) ≡ b
+    by : (a b : Bool) → has c (clients w) ≡ a → has c (clients v) ≡ b
         → Worse (cond (eqb (cond (not a) 10034 0) 0) (reported Current xs w) w) (cond (eqb (cond (not b) 10034 0) 0) (reported Current xs v) v)
     by true true e k = both-reported h xs (any (isStranger w) xs) (any (isStranger v) xs) (any isFault xs) (any-same (isStranger v) (isStranger w) (λ x. ap₂ (λ ms p. not (isCopy (deviceOf x) ms p)) (h .mirrors) (h .proxy)) xs)
     by true false e k = true-false (sym (has-within c (h .intents) e) ∙ k)
@@ -225,7 +242,7 @@ restart-kept w v h = record {
   number = h .number;
   mirrors = h .mirrors;
   proxy = h .proxy;
-  intents = h .intents;
+  intents = rw (same-clients (w .intents), same-clients (v .intents)) (h .intents);
   reclaims = λ c e k. k;
   marked = h .marked;
   blamed = h .blamed;

@@ -3,9 +3,9 @@
 use mathlib.Core.List.{List, [], _∷_}
 use mathlib.Core.Bool.{cond}
 use Rattle.statuses.specs.Names.{Bytes}
-use Rattle.recovery.specs.Calls.{Call, register, opening, reclaim, close, repaired, addProxy, removeProxy, forget, endGrace, restart, layoutReturn, listing, Answer, said, replied, handedOn}
+use Rattle.recovery.specs.Calls.{Call, register, opening, setUp, reclaim, close, repaired, addProxy, removeProxy, forget, endGrace, restart, layoutReturn, listing, Answer, said, replied, handedOn}
 use Rattle.ledger.specs.Ledger.{Ledger, judge, feed}
-use Rattle.recovery.specs.Record.{registerOf, openOf, reclaimOf, closeOf, repairedOf, addProxyOf, removeProxyOf, forgetOf, endOf, restartOf, listingOf}
+use Rattle.recovery.specs.Record.{registerOf, openOf, setUpOf, reclaimOf, closeOf, repairedOf, addProxyOf, removeProxyOf, forgetOf, endOf, restartOf, listingOf}
 use Rattle.recovery.specs.LayoutReturn.{layoutreturnOf, replyAfter}
 use Rattle.recovery.specs.declared.record.Record.{Record}
 use Rattle.recovery.specs.declared.record.Answered.{Answered}
@@ -26,6 +26,7 @@ returnStep a d = record { answer = cond (a .handed) (handedOn (a .totals) d) (re
 unfoldable pub step : Record → Call → Step
 step r (register n s) = stepOf (registerOf n s r)
 step r (opening n c) = stepOf (openOf n c r)
+step r (setUp n c s) = stepOf (setUpOf n c s r)
 step r (reclaim n c) = stepOf (reclaimOf n c r)
 step r (close n c) = stepOf (closeOf n c r)
 step r (repaired n) = stepOf (repairedOf n r)

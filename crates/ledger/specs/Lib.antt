@@ -2,6 +2,7 @@ pub mod Ledger
 pub mod Lists
 pub mod History
 pub mod Demand3
+pub mod Others
 pub mod Counts
 pub mod RestartTwice
 pub mod OnlyTotals

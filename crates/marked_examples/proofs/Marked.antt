@@ -7,13 +7,13 @@ use Rattle.layouts.specs.Layout.{handleSize, bodySize, checkBody}
 use Rattle.xdr.specs.Reader.{sameBytes, number, opaque, boolean, bounded, inTurn}
 use Rattle.wire.specs.Reply.{replyWith, replyInWith}
 use Rattle.reports.specs.Report.{deviceError, ioerr, layoutreturn, joined, reportOf, over}
-use Rattle.wire.specs.Stateid.{stateidKind}
+use Rattle.wire.specs.Stateid.{stateidKind, stateidBytes}
 use Rattle.wire.specs.Request.{fileReturn, returnOf, arguments, refusalOf, unless, requestOf, bodyOf}
 use Rattle.mirroring.specs.Blame.{withErrorOf, errorsAssessed, assessmentOf}
 use Rattle.mirroring.specs.Totals.{sumOf, totalsOf}
 use Rattle.mirroring.specs.TotalsSteps.{mirrorTotals}
 use Rattle.mirroring.specs.Devices.{devicesIn, mirrorsIn, isMirror, placeOf, isCopy, copyPlace, twice, badMirrors}
-use Rattle.files.specs.File.{openedFile, reclaimedFile, closedFile, repairedFile, changedFile, restartedFile, endedFile, sourceOf, toldHead}
+use Rattle.files.specs.File.{openedFile, reclaimedFile, closedFile, repairedFile, changedFile, raisedFile, restartedFile, endedFile, sourceOf, headAfter}
 use Rattle.places.specs.Lists.{any, chosen, has, with, none, amend, discard, firstOr, fill}
 use Rattle.mirroring.specs.Mirrors.{blamedBy, enrolledOf}
 use Rattle.mirroring.specs.Direction.{headOr, firstBy}
@@ -70,7 +70,7 @@ unfolding beNat beBytes sameBytes number opaque boolean bounded inTurn replyWith
 ledger-k11 = refl
 
 record-k12 : byRecord (reclaimed ++ reports A ∷ endGrace ∷ list ∷ offers ∷ close 7 1 ∷ offers ∷ []) ≡ said 0 ∷ said 0 ∷ said 0 ∷ said 0 ∷ accepted ∷ said 0 ∷ seven 1 ∷ none-listed ∷ said 0 ∷ seven 1 ∷ []
-unfolding beNat beBytes sameBytes number opaque boolean bounded inTurn replyWith replyInWith deviceError ioerr layoutreturn joined reportOf over fileReturn returnOf arguments refusalOf stateidKind unless requestOf bodyOf withErrorOf errorsAssessed sumOf totalsOf mirrorTotals assessmentOf devicesIn mirrorsIn isMirror placeOf isCopy copyPlace twice badMirrors openedFile reclaimedFile closedFile repairedFile blamedBy node-has plus setOf changedFile toldHead reportOn decisionOf restartedFile endedFile sourceOf any chosen has with none amend discard firstOr fill sourceIn enrolledOf first pull step answers registered rowOf unblamedFrom firstBy headOr goodFrom lend judge blame insert apply feed placeIn openOf reclaimOf closeOf enter raised roomIn registerOf endOf restartOf isWanted listingOf reportedOf layoutreturnOf replyAfter
+unfolding beNat beBytes sameBytes number opaque boolean bounded inTurn replyWith replyInWith deviceError ioerr layoutreturn joined reportOf over fileReturn returnOf arguments refusalOf stateidKind stateidBytes unless requestOf bodyOf withErrorOf errorsAssessed sumOf totalsOf mirrorTotals assessmentOf devicesIn mirrorsIn isMirror placeOf isCopy copyPlace twice badMirrors openedFile reclaimedFile closedFile repairedFile blamedBy node-has plus setOf changedFile raisedFile headAfter reportOn decisionOf restartedFile endedFile sourceOf any chosen has with none amend discard firstOr fill sourceIn enrolledOf first pull step answers registered rowOf unblamedFrom firstBy headOr goodFrom lend judge blame insert apply feed placeIn openOf reclaimOf closeOf enter raised roomIn registerOf endOf restartOf isWanted listingOf reportedOf layoutreturnOf replyAfter
 record-k12 = refl
 
 ledger-k12 : byLedger (reclaimed ++ reports A ∷ endGrace ∷ list ∷ offers ∷ close 7 1 ∷ offers ∷ []) ≡ said 0 ∷ said 0 ∷ said 0 ∷ said 0 ∷ accepted ∷ said 0 ∷ seven 1 ∷ none-listed ∷ said 0 ∷ seven 1 ∷ []
@@ -78,7 +78,7 @@ unfolding beNat beBytes sameBytes number opaque boolean bounded inTurn replyWith
 ledger-k12 = refl
 
 record-k13 : byRecord (reclaimed ++ reports C ∷ endGrace ∷ list ∷ []) ≡ said 0 ∷ said 0 ∷ said 0 ∷ said 0 ∷ accepted ∷ said 0 ∷ seven 0 ∷ []
-unfolding beNat beBytes sameBytes number opaque boolean bounded inTurn replyWith replyInWith deviceError ioerr layoutreturn joined reportOf over fileReturn returnOf arguments refusalOf stateidKind unless requestOf bodyOf withErrorOf errorsAssessed sumOf totalsOf mirrorTotals assessmentOf devicesIn mirrorsIn isMirror placeOf isCopy copyPlace twice badMirrors openedFile reclaimedFile closedFile repairedFile blamedBy node-has plus setOf changedFile toldHead reportOn decisionOf restartedFile endedFile sourceOf any chosen has with none amend discard firstOr fill sourceIn enrolledOf first pull step answers registered rowOf unblamedFrom firstBy headOr goodFrom lend judge blame insert apply feed placeIn openOf reclaimOf closeOf enter raised roomIn registerOf endOf restartOf isWanted listingOf reportedOf layoutreturnOf replyAfter
+unfolding beNat beBytes sameBytes number opaque boolean bounded inTurn replyWith replyInWith deviceError ioerr layoutreturn joined reportOf over fileReturn returnOf arguments refusalOf stateidKind stateidBytes unless requestOf bodyOf withErrorOf errorsAssessed sumOf totalsOf mirrorTotals assessmentOf devicesIn mirrorsIn isMirror placeOf isCopy copyPlace twice badMirrors openedFile reclaimedFile closedFile repairedFile blamedBy node-has plus setOf changedFile raisedFile headAfter reportOn decisionOf restartedFile endedFile sourceOf any chosen has with none amend discard firstOr fill sourceIn enrolledOf first pull step answers registered rowOf unblamedFrom firstBy headOr goodFrom lend judge blame insert apply feed placeIn openOf reclaimOf closeOf enter raised roomIn registerOf endOf restartOf isWanted listingOf reportedOf layoutreturnOf replyAfter
 record-k13 = refl
 
 ledger-k13 : byLedger (reclaimed ++ reports C ∷ endGrace ∷ list ∷ []) ≡ said 0 ∷ said 0 ∷ said 0 ∷ said 0 ∷ accepted ∷ said 0 ∷ seven 0 ∷ []

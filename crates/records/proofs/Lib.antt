@@ -5,6 +5,7 @@
 --     Tallied          f(r: &mut T)  { for each i:  r.list[i] = g(r.list[i]);  r.head = e(r.list[i], r.head) }
 --     Reached          f(r: &T, at) -> usize  { how far the array goes from a place on, before a place that a test says }
 --     Listed           f(r: &T, a, b, count) -> u32  { for each i, several times over:  c = g(r.list[i % N], i, c, a, b), with two slices that are lent again at each turn }
+--     Sought           f(r: &T, key) -> usize  { the first i where t(r.list[i], key), or N }
 --     Raised           f(r: &mut T, at, s)  { those before a free place that a test says move up one place, and s.rec is entered }
 -- A part of the array that is lent as a slice:
 --     Drawn            f(r: &mut T, at, s)  { let i = p(r, at);  if i < N { g(&mut r.list[at..i + 1]);  r.list[i] = e(); } }
@@ -15,6 +16,7 @@
 --     Passed           a CHANGE of crate walks' `Changed`:  if s.status == 0 { h(r, i, s); }
 --     Cleared          f(r: &mut T)  { h(r);  r.head = e(); }
 --     Parted           f(r: &mut T, key, args..) -> u32  { let d = b(r.head, shown..);  if d.wanted { return h(r, key, d.len, args..); }  e(d.status, args..) }, where h may be one of crate walks' `Changed`
+--     Asked            f(r: &mut T, key, args..) -> u32  { let k = b(shown..);  let i = p(r, k);  h(r, key, i, args..) }, where p may be one of `Sought.antt`'s, and h one of crate walks' `Changed`
 -- A function that gets what stands beside the array:
 --     Beside           f(r: &T, args..)  { g(r.head, args..) }
 -- What these rest on, beside crate walks:
@@ -28,6 +30,7 @@
 --     Lists            a field that is an array as a list; tests that are known
 pub mod Again
 pub mod Alone
+pub mod Asked
 pub mod Beside
 pub mod Cleared
 pub mod Drawn
@@ -45,5 +48,6 @@ pub mod Rounds
 pub mod Shown
 pub mod Sliced
 pub mod Slid
+pub mod Sought
 pub mod Tallied
 pub mod Within

@@ -105,21 +105,21 @@ module _ (ss : List Show) where
 
 -- ---- arguments that are handed on as they are to a function with the same lifetimes
 module _ {n : ℕ} (κs : Lfts n) {M : Type 1} (𝓤 : URA M) (H : Heap 𝓤) (A : Atoms 𝓤) where
-  gave : (ps : List Arg) (z : Stand n ps) (a : Denots (rows κs ps z)) (ws : Fins κs (slots ps z) (keeps ps z) a) (vss : Valss (rows κs ps z))
+  pub gave : (ps : List Arg) (z : Stand n ps) (a : Denots (rows κs ps z)) (ws : Fins κs (slots ps z) (keeps ps z) a) (vss : Valss (rows κs ps z))
       → ent 𝓤 (sem 𝓤 H A (lastsOf κs (slots ps z) (keeps ps z) a ws)) (sem 𝓤 H A (hasOf κs (slots ps z) (keeps ps z) (stays ps z) a ws vss))
   gave [] z a ws vss = id⊢ 𝓤 _
   gave (x ∷ ps) z a ws vss = mono∗ 𝓤 (id⊢ 𝓤 (sem 𝓤 H A (left (slot x ps z .row κs .exit yes) (a .0) (ws .0)))) (gave ps (on x ps z) (a .1) (ws .1) (vss .1))
 
-  gave-fits : (ps : List Arg) (z : Stand n ps) (a : Denots (rows κs ps z)) (ws : Fins κs (slots ps z) (keeps ps z) a) → fitsOf κs (slots ps z) (keeps ps z) (stays ps z) a ws
+  pub gave-fits : (ps : List Arg) (z : Stand n ps) (a : Denots (rows κs ps z)) (ws : Fins κs (slots ps z) (keeps ps z) a) → fitsOf κs (slots ps z) (keeps ps z) (stays ps z) a ws
   gave-fits [] z a ws = tt
   gave-fits (x ∷ ps) z a ws = (tt, gave-fits ps (on x ps z) (a .1) (ws .1))
 
 -- ---- the contract of a call on a record with any arguments: that of f, and of h
 module _ (T : Declared) (wk : Width) (ps : List Arg) (Q : T .D → ℕ → Ins ps → ℕ → T .D → Outs ps → Type 0) where
-  abbrev call-ended : Ended
+  abbrev pub call-ended : Ended
   call-ended = record { signature = record { lifetimes = suc (refs ps); outlives = []; params = RefMutOf (0 ∷ []) tt (plain (λ _. row T)) (λ _. tt) ∷ plain (λ _. UInt wk) ∷ slots ps (g.in-f ps); result = plain (λ _. u32) }; kept = (yes, (yes, keeps ps (g.in-f ps))) }
 
-  abbrev call-clauses : (M : Type 1) (𝓤 : URA M) → Clauses 𝓤 call-ended
+  abbrev pub call-clauses : (M : Type 1) (𝓤 : URA M) → Clauses 𝓤 call-ended
   call-clauses M 𝓤 κs a = record { ghost = Unit {0}; requires = λ _. emp 𝓤; ensures = λ _ r e. fact 𝓤 (Q (now (a .0)) (a .1 .0) (ins ps (from κs ps (g.in-f ps) (a .1 .1))) r (now (e .0)) (seen κs ps (g.in-f ps) (e .1 .1))) }
 
 module _ {T : Declared} (O : Parts T) (S : Parting) (ss : List Show) (wk : Width) (G : O .H .T .D → Ins (shown ss) → S .D) (P : T .D → ℕ → Ins (num w64 ∷ args ss) → ℕ → T .D → Outs (num w64 ∷ args ss) → Type 0)

@@ -11,10 +11,11 @@ use Rattle.mirroring.specs.declared.totals.Totals.{Totals}
 use Rattle.mirroring.specs.declared.source.Direction.{Direction}
 use Rattle.recovery.specs.declared.listing.Listing.{Listing}
 
--- the mirrors are 16 bytes a device, and a proxy's device is 16 (Rules 4.9); a listing is told which list is meant and by which direction a source is looked for, and lent a slice of file numbers and a slice of sources
+-- the mirrors are 16 bytes a device, and a proxy's device is 16 (Rules 4.9); a client's stateid is set up by an `other` of 12 (Rules 4.12); a listing is told which list is meant and by which direction a source is looked for, and lent a slice of file numbers and a slice of sources
 pub data Call : Type 0 where
   register : (file : FileNumber) (mirrors : Bytes) → Call
   opening reclaim close : (file : FileNumber) (client : Client) → Call
+  setUp : (file : FileNumber) (client : Client) (other : Bytes) → Call
   repaired removeProxy forget : (file : FileNumber) → Call
   addProxy : (file : FileNumber) (device : Bytes) → Call
   endGrace restart : Call

@@ -1,15 +1,16 @@
 -- MODEL. What each method answers, and the record afterwards. Nothing here need be believed: proofs/History.antt shows that it is what the ledger
--- says. In this order: the record; calls on one file; register and forget; restart and the end of grace; the lists.
+-- says. In this order: the record; calls on one file; the set-up of a stateid; register and forget; restart and the end of grace; the lists.
 use mathlib.Core.List.{List, [], _∷_, _++_, map}
 use mathlib.Core.Bool.{Bool, true, false, not, cond}
 use Prim.Native.Nat.{ℕ, zero, suc}
 use lib.ListN.{getD, set, take, drop, replicate, length}
 use lib.Dec.{eqb, leb}
 use Rattle.statuses.specs.Names.{Bytes, Status, Client, FileNumber}
-use Rattle.places.specs.Lists.{chosen}
+use Rattle.places.specs.Lists.{any, chosen}
 use Rattle.places.specs.Places.{first, placeOr}
+use Rattle.wire.specs.Stateid.{newStateid, badOther}
 use Rattle.mirroring.specs.Mirrors.{enrolledOf}
-use Rattle.files.specs.File.{noFile, blankFile, fileOf, isFile, isVacant, openedFile, reclaimedFile, closedFile, repairedFile, proxyAddedFile, proxyRemovedFile, forgettable, restartedFile, endedFile, isListed, isReady, sourceOf, tallied}
+use Rattle.files.specs.File.{noFile, blankFile, fileOf, isFile, isVacant, openedFile, reclaimedFile, closedFile, repairedFile, proxyAddedFile, proxyRemovedFile, statedFile, usesStateid, forgettable, restartedFile, endedFile, isListed, isReady, sourceOf, tallied}
 use Rattle.files.specs.Head.{freshHead}
 use Rattle.files.specs.declared.head.Edition.{Edition}
 use Rattle.files.specs.declared.head.Edition.the-variants.{Current}
@@ -77,6 +78,14 @@ addProxyOf n s r = onPlace n (proxyAddedFile n (r .head) s) r
 
 unfoldable pub removeProxyOf : FileNumber → Record → Answered
 removeProxyOf n r = onPlace n (proxyRemovedFile n (r .head)) r
+
+-- ---- the set-up of a stateid: s is its `other` (Rules 4.12)
+-- whether the `other` may not be a new one's: it is bad, or in use anywhere in the record
+unfoldable pub isBarred : Bytes → List File → Bool
+isBarred s fs = cond (badOther s) true (any (usesStateid (newStateid s)) fs)
+
+unfoldable pub setUpOf : FileNumber → Client → Bytes → Record → Answered
+setUpOf n c s r = onPlace n (statedFile n (r .head) c (newStateid s) (isBarred s (r .files))) r
 
 -- ---- register and forget
 -- a file is entered by its number: from the first free place down, each file with a greater number moves up one place

@@ -1,17 +1,19 @@
 // The record (paper 01, "The recovery record"): at most 64 files, by rising number, the free places last, and what stands beside them. Each call
 // answers its status and the record afterwards. First the loops over the 64 places, then the calls in the paper's order, and among them those on a file's
-// proxy (02, Ticket 7).
+// proxy (02, Ticket 7), and the set-up of a client's stateid (02, Ticket 13).
 use files::file::File;
 use files::file::FileAnswered;
 use files::head::Edition;
 use files::head::Head;
+use wire::stateid::Stateid;
 ghost use mathlib.Core.Path.{_≡_};
 ghost use mathlib.Core.List.{map};
 ghost use Prim.Native.Nat.{_<_};
-ghost use Rattle.files.specs.File.{restartedFile};
+ghost use Rattle.places.specs.Lists.{any};
+ghost use Rattle.files.specs.File.{restartedFile, usesStateid};
 ghost use Rattle.files.specs.Head.{editionOf};
 ghost use Rattle.files.specs.declared.head.Edition.the-variants.{Old};
-ghost use Rattle.recovery.specs.Record.{freshAs, fresh, answered, placeIn, putFile, roomIn, enter, withoutFile, registerOf, openOf, reclaimOf, closeOf, repairedOf, addProxyOf, removeProxyOf, forgetOf, endOf, restartOf, endedRecord};
+ghost use Rattle.recovery.specs.Record.{freshAs, fresh, answered, placeIn, putFile, roomIn, enter, withoutFile, registerOf, openOf, reclaimOf, closeOf, repairedOf, addProxyOf, removeProxyOf, isBarred, setUpOf, forgetOf, endOf, restartOf, endedRecord};
 
 #[repr(C)]
 pub struct Record {
@@ -39,6 +41,31 @@ fn room(files: [File; 64]) -> usize
         k += 1;
     }
     63
+}
+
+// Whether a file uses the `other` of `t`.
+fn in_use(files: [File; 64], t: Stateid) -> bool
+    ensures { λ r. ⌜ r ≡ any (usesStateid t) files ⌝ }
+{
+    let mut k: usize = 0;
+    while k < 64 {
+        let f = files[k];
+        if f.uses(t) {
+            return true;
+        }
+        k += 1;
+    }
+    false
+}
+
+// Whether an `other` may not be a new stateid's.
+fn bars(files: [File; 64], other: &[u8]) -> bool
+    ensures { λ r. ⌜ r ≡ isBarred (now (other .entry)) files ⌝ }
+{
+    if wire::stateid::bad_other(other) {
+        return true;
+    }
+    in_use(files, wire::stateid::begun(other))
 }
 
 // The files with `x` among them by its number: from the first free place down, each with a greater number moves up one place.
@@ -268,6 +295,19 @@ impl Record {
         let i = self.place(file);
         let f = self.files[i];
         let a = f.remove_proxy(file, self.head);
+        self.stored(i, a)
+    }
+
+    // Set up a client's stateid: 10013 in grace; 70; 10025 no intent; 17 it has one; 22 the `other` isn't 12 bytes, is all zeros or all ones, or is in use.
+    pub fn set_up_stateid(self, file: u64, client: u64, other: &[u8]) -> Answered
+        ensures { λ r. ⌜ r ≡ setUpOf file client (now (other .entry)) self ⌝ }
+    {
+        let files = self.files;
+        let barred = bars(files, other);
+        let t = wire::stateid::begun(other);
+        let i = self.place(file);
+        let f = self.files[i];
+        let a = f.set_up_stateid(file, self.head, client, t, barred);
         self.stored(i, a)
     }
 

@@ -26,6 +26,7 @@ impl Record {
             Decision::Answered(_) => 63,
             Decision::HandedOn => 63,
             Decision::ReadBody(_) => self.place(file),
+            Decision::ReturnBody(_) => self.place(file),
         }
     }
 

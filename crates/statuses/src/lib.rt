@@ -4,10 +4,10 @@
 // The node is no member of the cluster, or the file has no proxy.
 pub const NOENT: u32 = 2;
 
-// The file is registered, has a proxy, or the node is a member, already.
+// The file is registered or has a proxy, the client has a stateid, or the node is a member, already.
 pub const EXIST: u32 = 17;
 
-// A node above 31, a bad mirror list or proxy, or nothing to repair or to finish.
+// A node above 31, a bad mirror list, proxy or stateid, or nothing to repair or to finish.
 pub const INVAL: u32 = 22;
 
 // No room: in a table, in a buffer that is lent, or for another epoch.
@@ -22,7 +22,11 @@ pub const DELAY: u32 = 10008;
 // A grace period is on.
 pub const GRACE: u32 = 10013;
 
-// No intent to close, one that is not reclaimed, or a stateid that is not taken: the anonymous one where the record is old, read bypass, an invalid one.
+// A seqid that is older than the latest.
+pub const OLD_STATEID: u32 = 10024;
+
+// No intent to close or to give a stateid, one that is not reclaimed, or a stateid that is not taken: the anonymous one where the record is old, read bypass,
+// an invalid one, and one that the client does not hold.
 pub const BAD_STATEID: u32 = 10025;
 
 // No grace period is on.

@@ -1,4 +1,4 @@
--- DEFINITION. Seqids (RFC 8881, 8.2.2; 02, Ticket 13), numbers modulo 2^32. In this order:
+-- DEFINITION. Seqids (RFC 8881, 8.2.2; Rules 3.14), numbers modulo 2^32. In this order:
 --     behind               how far a given seqid is behind the latest
 --     Behind               the claim that it is the number that takes the one to the other, the skipped zero counted as a step. proofs/Seqids.antt proves it
 --     ageOf, raisedSeqid   the same, older or newer; the next one

@@ -5,10 +5,11 @@
 --     stateidOf, stateidBytes         the two fields as numbers (the `other` as its first 8 and last 4 bytes), from sixteen bytes and back
 --     stateidIn                       the stateid of a request, which lies from byte 32 on; zeros where it is not all there
 --     newStateid, badOther            the first stateid of an `other` that a caller gives; one that is not 12 bytes, all zeros or all ones (02, Ticket 13)
+--     hasOther, raisedStateid         whether a stateid has another's `other`; the one with the next seqid
 --     Is, OneKind            what the RFC says of each kind, by seqid and `other`; the claim that each stateid is of exactly one kind, the one that
 --                            `stateidKind` names. proofs/Stateids.antt proves it
 use Prim.Native.Nat.{ℕ, _-_, _^_, _<_}
-use mathlib.Core.Bool.{Bool, true, not, cond}
+use mathlib.Core.Bool.{Bool, true, false, not, cond}
 use mathlib.Core.Path.{_≡_}
 use mathlib.Core.Logic.{_⊎_, _↔_}
 use mathlib.Core.List.{[], _∷_, _++_}
@@ -18,6 +19,7 @@ use Rattle.statuses.specs.Names.{Bytes}
 use Rattle.statuses.specs.Rules.{_⇒_, firstOf}
 use Rattle.xdr.specs.Be.{beNat, beBytes}
 use Rattle.xdr.specs.Reader.{sameBytes, zeros}
+use Rattle.wire.specs.Seqid.{raisedSeqid}
 use Rattle.wire.specs.declared.request.Kind.{Kind}
 use Rattle.wire.specs.declared.request.Kind.the-variants.{Anonymous, Bypass, Current, Invalid, Ordinary}
 use Rattle.wire.specs.declared.stateid.Stateid as declared
@@ -71,6 +73,12 @@ newStateid s = cond (eqb (length s) 12) (record { high = beNat 8 s; low = beNat 
 
 unfoldable pub badOther : Bytes → Bool
 badOther s = cond (not (eqb (length s) 12)) true (cond (sameBytes s (zeros 12)) true (sameBytes s (ones 12)))
+
+abbrev pub hasOther : declared.Stateid → declared.Stateid → Bool
+hasOther t u = cond (eqb (u .high) (t .high)) (eqb (u .low) (t .low)) false
+
+abbrev pub raisedStateid : declared.Stateid → declared.Stateid
+raisedStateid t = record { high = t .high; low = t .low; seqid = raisedSeqid (t .seqid) }
 
 -- ---- the RFC's words: both fields all zeros; both all ones (read bypass); `other` all zeros with seqid 1; `other` all zeros or all ones with any other
 -- seqid; the rest

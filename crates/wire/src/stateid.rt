@@ -1,7 +1,7 @@
 // Stateids as numbers (RFC 8881, 8.2; 02, Ticket 13): the sixteen bytes of a request's stateid, and an `other` that a caller gives for a new one.
 use xdr::fields::same;
 ghost use mathlib.Core.Path.{_≡_};
-ghost use Rattle.wire.specs.Stateid.{noStateid, stateidIn, newStateid, badOther};
+ghost use Rattle.wire.specs.Stateid.{noStateid, stateidIn, newStateid, badOther, hasOther, raisedStateid};
 
 // The first 8 and the last 4 bytes of the `other`, and the seqid.
 #[repr(C)]
@@ -20,6 +20,25 @@ impl Stateid {
             high: 0,
             low: 0,
             seqid: 0,
+        }
+    }
+
+    // Whether this stateid has the `other` of `t`.
+    pub fn has_other(self, t: Stateid) -> bool
+        ensures { λ r. ⌜ r ≡ hasOther t self ⌝ }
+    {
+        self.high == t.high && self.low == t.low
+    }
+
+    // The stateid with the next seqid.
+    pub fn raise(self) -> Stateid
+        ensures { λ r. ⌜ r ≡ raisedStateid self ⌝ }
+    {
+        let seqid = crate::seqid::raised(self.seqid);
+        Stateid {
+            high: self.high,
+            low: self.low,
+            seqid,
         }
     }
 }

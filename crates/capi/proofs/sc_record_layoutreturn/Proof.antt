@@ -6,15 +6,16 @@ use mir.Syntax.{w8, w32, w64}
 use Rattle.walks.proofs.Args.{num, slice-mut, ref-mut}
 use Rattle.records.proofs.Shown.{Show, kept, shared, long}
 use Rattle.records.proofs.Parted.{spec}
+use Rattle.wire.specs.Stateid.{noStateid}
 use Rattle.mirroring.specs.Totals.{noTotals}
 use Rattle.layoutreturn.specs.LayoutReturn.{decisionOf, replyBy}
 use Rattle.recovery.specs.LayoutReturn.{returning, layoutreturnOf, replyAfter}
 use Rattle.recovery.specs.declared.returns.Returned.{Returned}
 use Rattle.capi.specs.Lent.{columnOf, maskOf}
-use Rattle.capi.specs.LayoutReturn.{begunOf, returnedIn}
+use Rattle.capi.specs.LayoutReturn.{begunOf, returnedIn, stateidFor}
 use Rattle.capi.proofs.Types.{begun}
 use Rattle.capi.proofs.Fields.{files, head, parts}
-use Rattle.capi.proofs.Parting.{wanted-so, unwanted-so}
+use Rattle.capi.proofs.Parting.{wanted-so, stateid-wanted, unwanted-so, stateid-unwanted}
 use Rattle.capi.proofs.begin.Symbol as b
 use Rattle.capi.proofs.begin.Met as b-thm
 use Rattle.capi.proofs.with_file.Symbol as h
@@ -33,12 +34,12 @@ pub sc-record-layoutreturn-spec : {M : Type 1} → stated.statement M
 unfolding code.routine files head replyAfter
 sc-record-layoutreturn-spec 𝓤 H 𝓜 𝓖 𝓡 =
     spec parts begun arguments w64 (λ h i. begunOf (decisionOf h (i .0) (i .1 .0)))
-    (λ r n i s r′ o. (s ≡ returnedIn n (i .0) (i .1 .0) (i .1 .1 .0) r .status) × (r′ ≡ returnedIn n (i .0) (i .1 .0) (i .1 .1 .0) r .after) × (o .1 .1 .1 .0 ≡ replyBy s (i .1 .1 .1 .0))
+    (λ r n i s r′ o. (s ≡ returnedIn n (i .0) (i .1 .0) (i .1 .1 .0) r .status) × (r′ ≡ returnedIn n (i .0) (i .1 .0) (i .1 .1 .0) r .after) × (o .1 .1 .1 .0 ≡ replyBy s (stateidFor n (i .0) (i .1 .0) (i .1 .1 .0) r) (i .1 .1 .1 .0))
     × (o .1 .1 .1 .1 .0 ≡ columnOf (returnedIn n (i .0) (i .1 .0) (i .1 .1 .0) r .totals .read .bytes) (i .1 .1 .1 .1 .0))
     × (o .1 .1 .1 .1 .1 .0 ≡ columnOf (returnedIn n (i .0) (i .1 .0) (i .1 .1 .0) r .totals .written .bytes) (i .1 .1 .1 .1 .1 .0))
     × (o .1 .1 .1 .1 .1 .1 .0 ≡ maskOf (returnedIn n (i .0) (i .1 .0) (i .1 .1 .0) r .totals .read .over))
     × (o .1 .1 .1 .1 .1 .1 .1 .0 ≡ maskOf (returnedIn n (i .0) (i .1 .0) (i .1 .1 .0) r .totals .written .over)))
-    (λ l i s o. (s ≡ l .0) × (o .1 .1 .0 ≡ replyBy (l .0) (i .1 .1 .0)) × (o .1 .1 .1 .0 ≡ columnOf (noTotals .read .bytes) (i .1 .1 .1 .0)) × (o .1 .1 .1 .1 .0 ≡ columnOf (noTotals .written .bytes) (i .1 .1 .1 .1 .0))
+    (λ l i s o. (s ≡ l .0) × (o .1 .1 .0 ≡ replyBy (l .0) noStateid (i .1 .1 .0)) × (o .1 .1 .1 .0 ≡ columnOf (noTotals .read .bytes) (i .1 .1 .1 .0)) × (o .1 .1 .1 .1 .0 ≡ columnOf (noTotals .written .bytes) (i .1 .1 .1 .1 .0))
     × (o .1 .1 .1 .1 .1 .0 ≡ maskOf (noTotals .read .over)) × (o .1 .1 .1 .1 .1 .1 .0 ≡ maskOf (noTotals .written .over)))
     (λ r n i s r′ o. (s ≡ layoutreturnOf n (i .0) (i .1 .0) (i .1 .1 .0) r .status) × (r′ ≡ layoutreturnOf n (i .0) (i .1 .0) (i .1 .1 .0) r .after) × (o .1 .1 .0 ≡ replyAfter n (i .0) (i .1 .0) (i .1 .1 .0) r)
     × (o .1 .1 .1 .0 ≡ columnOf (layoutreturnOf n (i .0) (i .1 .0) (i .1 .1 .0) r .totals .read .bytes) (i .1 .1 .1 .0))
@@ -50,7 +51,7 @@ sc-record-layoutreturn-spec 𝓤 H 𝓜 𝓖 𝓡 =
           let so : returnedIn n (begunOf (decisionOf (r .head) (i .1 .0) (length (i .1 .1 .0))) .len) (i .0) (i .1 .0) r ≡ layoutreturnOf n (i .0) (i .1 .0) (i .1 .1 .0) r = wanted-so n (i .0) (i .1 .0) (i .1 .1 .0) r w in (
             p .0 ∙ ap (λ (a : Returned). a .status) so,
             p .1 ∙ ap (λ (a : Returned). a .after) so,
-            p .2 ∙ ap (λ k. replyBy k (i .1 .1 .0)) (p .0 ∙ ap (λ (a : Returned). a .status) so),
+            p .2 ∙ (λ j. replyBy ((p .0 ∙ ap (λ (a : Returned). a .status) so) j) (stateid-wanted n (i .0) (i .1 .0) (i .1 .1 .0) r w j) (i .1 .1 .0)),
             p .3 ∙ ap (λ (a : Returned). columnOf (a .totals .read .bytes) (i .1 .1 .1 .0)) so,
             p .4 ∙ ap (λ (a : Returned). columnOf (a .totals .written .bytes) (i .1 .1 .1 .1 .0)) so,
             p .5 ∙ ap (λ (a : Returned). maskOf (a .totals .read .over)) so,
@@ -60,7 +61,7 @@ sc-record-layoutreturn-spec 𝓤 H 𝓜 𝓖 𝓡 =
           let so : returning (begunOf (decisionOf (r .head) (i .1 .0) (length (i .1 .1 .0))) .status) noTotals r ≡ layoutreturnOf n (i .0) (i .1 .0) (i .1 .1 .0) r = unwanted-so n (i .0) (i .1 .0) (i .1 .1 .0) r w in (
             p .0 ∙ ap (λ (a : Returned). a .status) so,
             ap (λ (a : Returned). a .after) so,
-            p .1 ∙ ap (λ (a : Returned). replyBy (a .status) (i .1 .1 .0)) so,
+            p .1 ∙ (λ j. replyBy (so j .status) (stateid-unwanted n (i .0) (i .1 .0) (i .1 .1 .0) r (decisionOf (r .head) (i .1 .0) (length (i .1 .1 .0))) w j) (i .1 .1 .0)),
             p .2 ∙ ap (λ (a : Returned). columnOf (a .totals .read .bytes) (i .1 .1 .1 .0)) so,
             p .3 ∙ ap (λ (a : Returned). columnOf (a .totals .written .bytes) (i .1 .1 .1 .1 .0)) so,
             p .4 ∙ ap (λ (a : Returned). maskOf (a .totals .read .over)) so,

@@ -6,17 +6,17 @@ use Rattle.walks.proofs.Args.{Arg, num, slice, slice-mut, ref-mut}
 use Rattle.walks.proofs.Changed.{spec}
 use Rattle.walks.proofs.Decided.{decided}
 use Rattle.layoutreturn.specs.LayoutReturn.{outcomeBy, replyBy, fileAfter}
-use Rattle.layoutreturn.specs.declared.Decision.the-variants.{ReadBody}
+use Rattle.layoutreturn.specs.declared.Outcome.{Outcome}
 use Rattle.layoutreturn.proofs.apply.Symbol as h
 use Rattle.layoutreturn.proofs.apply.Met as h-thm
 use Rattle.recovery.specs.declared.returns.Returned.{Returned}
 use Rattle.recovery.proofs.Returning.{returnedAt}
 use Rattle.capi.specs.Place.{soughtIn}
 use Rattle.capi.specs.Lent.{columnOf, maskOf}
-use Rattle.capi.specs.LayoutReturn.{returnedIn}
+use Rattle.capi.specs.LayoutReturn.{bodyRead, returnedIn, stateidFor}
 use Rattle.capi.proofs.Types.{outcome}
 use Rattle.capi.proofs.Fields.{files, head, parts}
-use Rattle.capi.proofs.Parting.{sought-so}
+use Rattle.capi.proofs.Parting.{sought-so, sought-stateid}
 use Rattle.capi.proofs.OnFile.{sought}
 use Rattle.capi.proofs.position.Symbol as p
 use Rattle.capi.proofs.position.Met as p-thm
@@ -34,19 +34,20 @@ pub with-file-spec : {M : Type 1} → stated.statement M
 unfolding code.routine files head
 with-file-spec 𝓤 H 𝓜 𝓖 𝓡 =
     spec parts outcome args (decided parts outcome args fileAfter) w64 sought
-    (λ l i s o. (s ≡ outcomeBy (l .1 .0) (l .1 .1 .0) (i .1 .0) (i .1 .1 .0) (l .0) (ReadBody (i .0))) × (o .1 .1 .1 .0 ≡ replyBy (s .status) (i .1 .1 .1 .0))
+    (λ l i s o. (s ≡ outcomeBy (l .1 .0) (l .1 .1 .0) (i .1 .0) (i .1 .1 .0) (l .0) (bodyRead (l .1 .1 .0) (i .0))) × (o .1 .1 .1 .0 ≡ replyBy (s .status) (s .stateid) (i .1 .1 .1 .0))
     × (o .1 .1 .1 .1 .0 ≡ columnOf (s .totals .read .bytes) (i .1 .1 .1 .1 .0)) × (o .1 .1 .1 .1 .1 .0 ≡ columnOf (s .totals .written .bytes) (i .1 .1 .1 .1 .1 .0))
     × (o .1 .1 .1 .1 .1 .1 .0 ≡ maskOf (s .totals .read .over)) × (o .1 .1 .1 .1 .1 .1 .1 .0 ≡ maskOf (s .totals .written .over)))
-    (λ r n i s r′ o. (s ≡ returnedIn n (i .0) (i .1 .0) (i .1 .1 .0) r .status) × (r′ ≡ returnedIn n (i .0) (i .1 .0) (i .1 .1 .0) r .after) × (o .1 .1 .1 .0 ≡ replyBy s (i .1 .1 .1 .0))
+    (λ r n i s r′ o. (s ≡ returnedIn n (i .0) (i .1 .0) (i .1 .1 .0) r .status) × (r′ ≡ returnedIn n (i .0) (i .1 .0) (i .1 .1 .0) r .after) × (o .1 .1 .1 .0 ≡ replyBy s (stateidFor n (i .0) (i .1 .0) (i .1 .1 .0) r) (i .1 .1 .1 .0))
     × (o .1 .1 .1 .1 .0 ≡ columnOf (returnedIn n (i .0) (i .1 .0) (i .1 .1 .0) r .totals .read .bytes) (i .1 .1 .1 .1 .0))
     × (o .1 .1 .1 .1 .1 .0 ≡ columnOf (returnedIn n (i .0) (i .1 .0) (i .1 .1 .0) r .totals .written .bytes) (i .1 .1 .1 .1 .1 .0))
     × (o .1 .1 .1 .1 .1 .1 .0 ≡ maskOf (returnedIn n (i .0) (i .1 .0) (i .1 .1 .0) r .totals .read .over))
     × (o .1 .1 .1 .1 .1 .1 .1 .0 ≡ maskOf (returnedIn n (i .0) (i .1 .0) (i .1 .1 .0) r .totals .written .over)))
     (λ r n i s o long e.
-    let so : returnedAt r (soughtIn n r) s ≡ returnedIn n (i .0) (i .1 .0) (i .1 .1 .0) r = ap (returnedAt r (soughtIn n r)) (e .0) ∙ sought-so n (i .0) (i .1 .0) (i .1 .1 .0) r long in (
+    let so : returnedAt r (soughtIn n r) s ≡ returnedIn n (i .0) (i .1 .0) (i .1 .1 .0) r = ap (returnedAt r (soughtIn n r)) (e .0) ∙ sought-so n (i .0) (i .1 .0) (i .1 .1 .0) r long in
+    let own : s .stateid ≡ stateidFor n (i .0) (i .1 .0) (i .1 .1 .0) r = ap (λ (x : Outcome). x .stateid) (e .0) ∙ sought-stateid n (i .0) (i .1 .0) (i .1 .1 .0) r long in (
       ap (λ (a : Returned). a .status) so,
       ap (λ (a : Returned). a .after) so,
-      e .1,
+      e .1 ∙ ap (λ t. replyBy (s .status) t (i .1 .1 .1 .0)) own,
       e .2 ∙ ap (λ (a : Returned). columnOf (a .totals .read .bytes) (i .1 .1 .1 .1 .0)) so,
       e .3 ∙ ap (λ (a : Returned). columnOf (a .totals .written .bytes) (i .1 .1 .1 .1 .1 .0)) so,
       e .4 ∙ ap (λ (a : Returned). maskOf (a .totals .read .over)) so,

@@ -1,22 +1,26 @@
--- The loop maps: `Mapping` holds at its head.
-use mathlib.Core.Path.{_≡_}
-use Prim.Native.Nat.{_-_}
+-- The loop makes each place of what stands there: `Mapping` holds at its head.
+use mathlib.Core.Path.{_≡_, _∙_}
+use Prim.Native.Nat.{_<_, _-_}
 use native.Mathlib.Omega.{arith}
 use lib.ListN.{length}
 use borrow.Author.Needs.{needs}
-use Rattle.places.proofs.Loops.{mapped-length, Mapping, mapping-none, mapping-more, mapped}
+use Rattle.places.proofs.Loops.{mapped-length, Mapping, mapping-none, mapping-more, mapped-at}
+use Rattle.intents.proofs.Anew.{anew, made-anew}
 use Rattle.intents.specs.Intents.{noIntent, unreclaimedIntent}
 use Rattle.intents.proofs.unreclaimed.Statement.{statement}
 use Rattle.intents.proofs.unreclaimed.Tie as tie
 
 abbrev Inv-loop : tie.InvT-loop
-Inv-loop xs₀ i₀ xs i = Mapping (λ k. unreclaimedIntent) xs₀ xs i
+Inv-loop intents xs₀ i₀ xs i = Mapping (anew unreclaimedIntent noIntent intents) xs₀ xs i
 
 abbrev μ-loop : tie.MeasureT-loop
-μ-loop xs₀ i₀ xs i = 8 - i
+μ-loop intents xs₀ i₀ xs i = 8 - i
 
-long : (c : tie.Start Inv-loop μ-loop) → length (c .args .intents) ≡ 8
+long : (c : tie.Start Inv-loop μ-loop) → length (c .args .t1) ≡ 8
 long c = search (mapped-length, needs)
+
+none-requires : tie.Need-none-requires Inv-loop μ-loop
+none-requires c κs = search needs
 
 loop-holds : tie.Need-loop-holds Inv-loop μ-loop
 loop-holds c = mapping-none _ _
@@ -43,10 +47,12 @@ loop-less : tie.Need-loop-less Inv-loop μ-loop
 loop-less c = omega arith
 
 loop-again : tie.Need-loop-again Inv-loop μ-loop
-loop-again c = mapping-more (c .before .before .before .loop .inv) noIntent (omega (arith, long (c .before .before .before .before))) _ (c .forget-reclaim .ensures)
+loop-again c =
+    let h : c .before .before .before .loop .i < 8 = omega arith in
+    mapping-more (c .before .before .before .loop .inv) noIntent h _ (c .forget-reclaim .ensures)
 
 returns : tie.Need-returns Inv-loop μ-loop
-returns c = mapped (c .before .loop .inv) (omega (arith, long (c .before .before)))
+returns c = mapped-at (c .before .loop .inv) (omega arith) ∙ made-anew unreclaimedIntent noIntent _ (c .before .before .before .args .t1) 8 (long (c .before .before .before))
 
 pub unreclaimed-spec : {M : Type 1} → statement M
 unreclaimed-spec =
@@ -54,6 +60,7 @@ unreclaimed-spec =
     (tie.spec
     Inv-loop
     μ-loop
+    none-requires
     loop-holds
     mul-x
     array-copy-out-x

@@ -1,12 +1,19 @@
--- By what was decided.
-use mathlib.Core.Path.{_∙_}
-use Rattle.layoutreturn.specs.LayoutReturn.{outcomeBy}
+-- By whether a body is read: what the calls promise is put together, and `OneWalk` says that it is the outcome.
+use mathlib.Core.Path.{sym, _∙_}
+use borrow.Author.Tests.{not-true, not-false}
+use Rattle.layoutreturn.proofs.OneWalk.{outcome-unread, outcome-assessed}
 use borrow.Author.Needs.{needs}
 use Rattle.layoutreturn.proofs.outcome_by.Statement.{statement}
 use Rattle.layoutreturn.proofs.outcome_by.Tie as tie
 
-enum-known-d : tie.Need-enum-known-d
-enum-known-d c = search needs
+reads-requires : tie.Need-reads-requires
+reads-requires c κs = search needs
+
+none-requires : tie.Need-none-requires
+none-requires c κs = search needs
+
+status-of-requires : tie.Need-status-of-requires
+status-of-requires c κs = search needs
 
 only-requires : tie.Need-only-requires
 only-requires c κs = search needs
@@ -14,57 +21,56 @@ only-requires c κs = search needs
 of-requires : tie.Need-of-requires
 of-requires c κs = search needs
 
-enum-told : tie.Need-enum-told
-enum-told c = search needs
+returns : tie.Need-returns
+returns c = c .of .ensures ∙ rw (c .before .only .ensures, c .before .before .status-of .ensures, c .before .before .before .none .ensures) (outcome-unread _ _ _ _ _ _ (sym (c .before .before .before .before .before .reads .ensures) ∙ not-true _ (c .before .before .before .before .if1 .taken)))
 
-only-requires-2 : tie.Need-only-requires-2
-only-requires-2 c κs = search needs
+ordinary-requires : tie.Need-ordinary-requires
+ordinary-requires c κs = search needs
 
-of-requires-2 : tie.Need-of-requires-2
-of-requires-2 c κs = search needs
+in-request-requires : tie.Need-in-request-requires
+in-request-requires c κs = search needs
 
-enum-known-d-2 : tie.Need-enum-known-d-2
-enum-known-d-2 c = search needs
+len-of-requires : tie.Need-len-of-requires
+len-of-requires c κs = search needs
 
 part-requires : tie.Need-part-requires
 part-requires c κs = search needs
 
-report-requires : tie.Need-report-requires
-report-requires c κs = search needs
+own-if-requires : tie.Need-own-if-requires
+own-if-requires c κs = search needs
 
-told-requires : tie.Need-told-requires
-told-requires c κs = search needs
+assessed-requires : tie.Need-assessed-requires
+assessed-requires c κs = search needs
 
-of-requires-3 : tie.Need-of-requires-3
-of-requires-3 c κs = search needs
+head-after-requires : tie.Need-head-after-requires
+head-after-requires c κs = search needs
 
-returns : tie.Need-returns
-unfolding outcomeBy
-returns c = c .of .ensures ∙ rw (c .before .only .ensures, c .before .before .before .d .given .1)
+raised-if-requires : tie.Need-raised-if-requires
+raised-if-requires c κs = search needs
+
+of-requires-2 : tie.Need-of-requires-2
+of-requires-2 c κs = search needs
 
 returns-2 : tie.Need-returns-2
-unfolding outcomeBy
-returns-2 c = c .of2 .ensures ∙ rw (c .before .only2 .ensures, c .before .before .enum-told .given .1)
-
-returns-3 : tie.Need-returns-3
-unfolding outcomeBy
-returns-3 c = c .of3 .ensures ∙ rw (c .before .told .ensures, c .before .before .before .report .ensures, c .before .before .before .before .part .ensures, c .before .before .before .before .before .before .d2 .given .1)
+returns-2 c = c .of2 .ensures ∙ rw (c .before .raised-if .ensures, c .before .before .head-after .ensures, c .before .before .before .before .assessed .ensures, c .before .before .before .before .before .own-if .ensures, c .before .before .before .before .before .before .part .ensures, c .before .before .before .before .before .before .before .len-of .ensures, c .before .before .before .before .before .before .before .before .in-request .ensures, c .before .before .before .before .before .before .before .before .before .ordinary .ensures) (outcome-assessed _ _ _ _ _ _ (sym (c .before .before .before .before .before .before .before .before .before .before .before .reads .ensures) ∙ not-false _ (c .before .before .before .before .before .before .before .before .before .before .if1 .left)))
 
 pub outcome-by-spec : {M : Type 1} → statement M
 outcome-by-spec =
     tie.close
     (tie.spec
-    enum-known-d
+    reads-requires
+    none-requires
+    status-of-requires
     only-requires
     of-requires
-    enum-told
-    only-requires-2
-    of-requires-2
-    enum-known-d-2
-    part-requires
-    report-requires
-    told-requires
-    of-requires-3
     returns
-    returns-2
-    returns-3)
+    ordinary-requires
+    in-request-requires
+    len-of-requires
+    part-requires
+    own-if-requires
+    assessed-requires
+    head-after-requires
+    raised-if-requires
+    of-requires-2
+    returns-2)

@@ -1,9 +1,11 @@
 -- The law of LAYOUTRETURN at a place, at the place that is asked.
 use mathlib.Core.Path.{_≡_, ap, _∙_}
-use Rattle.layoutreturn.specs.LayoutReturn.{replyBy}
-use Rattle.recovery.specs.LayoutReturn.{layoutreturnOf, replyAfter}
+use lib.ListN.{length}
+use Rattle.layoutreturn.specs.LayoutReturn.{decisionOf, replyBy}
+use Rattle.layoutreturn.specs.declared.Outcome.{Outcome}
+use Rattle.recovery.specs.LayoutReturn.{layoutreturnOf, stateidBy, replyAfter}
 use Rattle.recovery.specs.declared.returns.Returned.{Returned}
-use Rattle.recovery.proofs.Returning.{returnedAt, placed-for, returned-at}
+use Rattle.recovery.proofs.Returning.{Placed, returnedAt, placed-for, returned-at, stateid-at}
 use borrow.Author.Needs.{needs}
 use Rattle.recovery.proofs.record.Record.layoutreturn.Statement.{statement}
 use Rattle.recovery.proofs.record.Record.layoutreturn.Tie as tie
@@ -40,10 +42,14 @@ returns c =
     let a = placed .before .before .before .before .before .args in
     let i = placed .place-for .result in
     let decided = placed .before .decide in
+    let at : Placed (a .file) (a .t1) i (decided .result) = placed-for (a .file) (a .t1) i (decided .result) (placed .place-for .ensures .0) in
     let q : returnedAt (a .t1) i (answered .answer .result) ≡ layoutreturnOf (a .file) (a .client) (a .request .now) (a .reply .now) (a .t1) =
     ap (returnedAt (a .t1) i) (answered .answer .ensures .0)
-    ∙ returned-at (a .file) (a .client) (a .request .now) (a .reply .now) (a .t1) i (decided .result) (decided .ensures) (placed-for (a .file) (a .t1) i (decided .result) (placed .place-for .ensures .0)) in
-    (rw (c .before .before .before .stored .ensures, c .before .before .before .before .before .apply .ensures) q, answered .answer .ensures .1 ∙ ap (λ (x : Returned). replyBy (x .status) (a .reply .now)) q)
+    ∙ returned-at (a .file) (a .client) (a .request .now) (a .reply .now) (a .t1) i (decided .result) (decided .ensures) at in
+    let t : answered .answer .result .stateid ≡ stateidBy (a .file) (a .client) (a .request .now) (a .t1) (decisionOf (a .t1 .head) (a .request .now) (length (a .reply .now))) =
+    ap (λ (o : Outcome). o .stateid) (answered .answer .ensures .0)
+    ∙ stateid-at (a .file) (a .client) (a .request .now) (a .reply .now) (a .t1) i (decided .result) (decided .ensures) at in
+    (rw (c .before .before .before .stored .ensures, c .before .before .before .before .before .apply .ensures) q, rw (← q, ← t) (answered .answer .ensures .1))
 
 pub layoutreturn-spec : {M : Type 1} → statement M
 layoutreturn-spec =

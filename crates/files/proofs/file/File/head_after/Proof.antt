@@ -2,10 +2,10 @@
 use mathlib.Core.Path.{sym, ap, _∙_}
 use borrow.Author.Needs.{needs}
 use Rattle.files.specs.Counts.{movedBy}
-use Rattle.files.specs.File.{standingOf, movedHead, toldHead}
+use Rattle.files.specs.File.{standingOf, movedHead, headAfter}
 use Rattle.files.proofs.Counting.{moved-same, told-marks, told-listed, told-leaves}
-use Rattle.files.proofs.file.File.told.Statement.{statement}
-use Rattle.files.proofs.file.File.told.Tie as tie
+use Rattle.files.proofs.file.File.head_after.Statement.{statement}
+use Rattle.files.proofs.file.File.head_after.Tie as tie
 
 marks-requires : tie.Need-marks-requires
 marks-requires c κs = search needs
@@ -14,7 +14,7 @@ listed-requires : tie.Need-listed-requires
 listed-requires c κs = search needs
 
 returns : tie.Need-returns
-unfolding toldHead
+unfolding headAfter
 returns c =
     let told = c .before .before in
     let a = told .before .before .args in
@@ -33,7 +33,7 @@ moved-requires : tie.Need-moved-requires
 moved-requires c κs = search needs
 
 returns-2 : tie.Need-returns-2
-unfolding toldHead
+unfolding headAfter
 returns-2 c =
     let told = c .before .before .before .before .before .before .before in
     let a = told .before .before .args in
@@ -41,13 +41,13 @@ returns-2 c =
     (ap (λ s. movedBy (standingOf (a .self)) s (a .head)) (sym (told-marks (a .change) (a .self) (sym (told .before .marks .ensures) ∙ told .if1 .taken))))
 
 returns-3 : tie.Need-returns-3
-unfolding toldHead
+unfolding headAfter
 returns-3 c =
     let a = c .before .before .args in
     sym (ap (λ g. movedHead (a .self) g (a .head)) (told-leaves (a .change) (a .self) (sym (c .before .marks .ensures) ∙ c .if1 .left)) ∙ moved-same (a .self) (a .head))
 
-pub told-spec : {M : Type 1} → statement M
-told-spec =
+pub head-after-spec : {M : Type 1} → statement M
+head-after-spec =
     tie.close
     (tie.spec
     marks-requires
