@@ -1,6 +1,7 @@
 /* The calls on a full record (64 files, 8 intents each): first with files and clients in random order, which no branch predictor learns, then the calls
  * that have a limit with both in rising order, which it does. A call on one file may take 1.5 times gcc's time in either order, a LAYOUTRETURN with statistics
- * 1.2 times, register, forget, restart, the end of grace and the lists 2.0 times; a question for the counts, of a few nanoseconds, 1.5 times. */
+ * 1.2 times, register, forget, restart, the end of grace and the lists 2.0 times; a question for the counts, of a few nanoseconds, 1.5 times. A stateid is set up
+ * in a record in which all other intents have one. */
 #include "bench.h"
 #include "bytes.h"
 #include "plain.h"
@@ -10,10 +11,18 @@ PLAIN(gcc_)
 PLAIN(clang_)
 
 enum { FILES = 64, MANY = 1024 };
-static uint8_t mirrors[64], proxy[16], one[52 + 4096], twenty[52 + 4096], live[52 + 4096], four[52 + 4096], eight[52 + 4096], bulk[16], reply[24], sources[FILES];
+static uint8_t mirrors[64], proxy[16], one[52 + 4096], twenty[52 + 4096], live[52 + 4096], four[52 + 4096], eight[52 + 4096], bulk[16], current[60], reply[24], sources[FILES];
 static size_t one_len, twenty_len, live_len, four_len, eight_len;
 static uint64_t files[FILES], count, waiting, ready, bytes_read[SC_PLACES], bytes_written[SC_PLACES];
 static uint32_t read_over, written_over;
+
+/* the stateid of a file's client: its other is the two numbers, and in a request seqid 0 is the latest */
+static uint8_t *other(uint8_t *s, uint64_t file, uint64_t client)
+{
+    put64(s, file);
+    put32(s + 8, (uint32_t)client);
+    return s;
+}
 
 static uint64_t number(int k) { return 1000003 * (uint64_t)(k + 1); }
 
@@ -76,6 +85,11 @@ static const struct bench_job jobs[] = {
     {"LAYOUTRETURN, 20 error records, 4 statistics", MANY, 1.2, BOTH(grace_4, statistics_4)},
     {"LAYOUTRETURN, 17 error records, 8 statistics", MANY, 1.2, BOTH(grace_4, statistics_8)},
     {"LAYOUTRETURN, handed on", MANY, 1.5, BOTH(grace, handed_on)},
+    {"LAYOUTRETURN, handed on, the current stateid", MANY, 1.5, BOTH(full, handed_on_current)},
+    {"set up a stateid", FILES, 1.5, BOTH(all_but_one, set_up)},
+    {"LAYOUTRETURN, ordinary, 1 error record", MANY, 1.5, BOTH(all_stateids, ordinary_1)},
+    {"LAYOUTRETURN, ordinary, 20 error records", MANY, 1.5, BOTH(all_stateids, ordinary_20)},
+    {"LAYOUTRETURN, ordinary, of no stateid", MANY, 1.5, BOTH(full, ordinary_none)},
     {"register", FILES, 2.0, BOTH(empty, enter)},
     {"forget", FILES, 2.0, BOTH(idle, forget)},
     {"restart", FILES, 2.0, BOTH(half, restart)},
@@ -108,7 +122,7 @@ static uint8_t *statistic(uint8_t *s, int mirror, uint32_t read)
     return s + 144;
 }
 
-/* a request in grace with so many error records, each of one device error of one of the mirrors from `first` to `last`, and so many statistics records
+/* a request with the all-zero stateid and so many error records, each of one device error of one of the mirrors from `first` to `last`, and so many statistics records
  * of those mirrors */
 static size_t request(uint8_t *s, int records, int statistics, int first, int last)
 {
@@ -154,6 +168,8 @@ int main(int argc, char **argv)
     put32(bulk + 4, 4);
     put32(bulk + 8, 2);
     put32(bulk + 12, 2);
+    request(current, 0, 0, 0, 0);
+    put32(current + 32, 1);
     if (four_len != 52 + 2728 || eight_len > 52 + 4096)
         return 1;
     int bad = bench_main(&b, argc, argv);

@@ -27,6 +27,19 @@ static void P(grace)(void) { P(filled)(8, 1, 0); }
 static void P(grace_4)(void) { P(mirrored)(4, 8, 1, 0); }
 static void P(lost)(void) { P(filled)(8, 1, 1); }
 
+/* the first so many clients of each file have a stateid */
+static void P(stateids)(int clients)
+{
+    uint8_t name[12];
+    P(filled)(8, 0, 0);
+    for (int k = 0; k < FILES; k++)
+        for (int c = 1; c <= clients; c++)
+            P(record_set_up_stateid)(&P(state), number(k), (uint64_t)c, other(name, number(k), (uint64_t)c), sizeof name);
+}
+
+static void P(all_stateids)(void) { P(stateids)(8); }
+static void P(all_but_one)(void) { P(stateids)(7); }
+
 /* in grace, and every second client has reclaimed */
 static void P(half)(void)
 {
@@ -43,6 +56,21 @@ static uint64_t P(returned)(int k, const uint8_t *request, size_t len)
     return status + bytes_read[3] + bytes_written[0] + bytes_read[SC_PROXY] + read_over + written_over;
 }
 
+/* the same with the client's stateid, which is put into the request and taken out of it again; the reply has the raised one */
+static uint64_t P(returned_by)(int k, uint8_t *request, size_t len)
+{
+    other(request + 36, file[k], client[k]);
+    uint64_t answer = P(returned)(k, request, len) + reply[7] + reply[11];
+    memset(request + 36, 0, 12);
+    return answer;
+}
+
+static uint32_t P(set_up_one)(uint64_t number)
+{
+    uint8_t name[12];
+    return P(record_set_up_stateid)(&P(held), number, 8, other(name, number, 8), sizeof name);
+}
+
 /* calls that leave the record as it is come MANY times, on any file and client; calls that change it once on each file, in any order */
 #define ANY for (int k = 0; k < MANY; k++) bench_sum[FORM] +=
 #define EACH for (int k = 0; k < FILES; k++) bench_sum[FORM] +=
@@ -57,6 +85,11 @@ static void P(statistics_1)(void) { ANY P(returned)(k, live, live_len) + reply[7
 static void P(statistics_4)(void) { ANY P(returned)(k, four, four_len) + reply[7]; }
 static void P(statistics_8)(void) { ANY P(returned)(k, eight, eight_len) + reply[7]; }
 static void P(handed_on)(void) { ANY P(returned)(k, bulk, sizeof bulk); }
+static void P(handed_on_current)(void) { ANY P(returned)(k, current, sizeof current); }
+static void P(set_up)(void) { EACH P(set_up_one)(each[k]); }
+static void P(ordinary_1)(void) { ANY P(returned_by)(k, one, one_len); }
+static void P(ordinary_20)(void) { ANY P(returned_by)(k, twenty, twenty_len); }
+static void P(ordinary_none)(void) { ANY P(returned_by)(k, one, one_len); }
 static void P(proxy)(void) { ANY P(record_add_proxy)(&P(held), file[k], proxy, 16) + P(record_remove_proxy)(&P(held), file[k]); }
 static void P(enter)(void) { EACH P(record_register)(&P(held), each[k], mirrors, 32); }
 static void P(forget)(void) { EACH P(record_forget)(&P(held), each[k]); }

@@ -17,7 +17,7 @@
 #include <string.h>
 
 enum {
-    MAX_REQUEST = 16384, /* bytes of a LAYOUTRETURN request, a mirror list or a proxy's device */
+    MAX_REQUEST = 16384, /* bytes of a LAYOUTRETURN request, a mirror list, a proxy's device or a stateid's other */
     MAX_BODY = 65536,    /* bytes of a layout body or a commit list */
     MAX_ROOM = 65536,    /* places of a lent reply or list */
     MAX_LIST = 196608,   /* bytes of extents to write */
@@ -320,6 +320,20 @@ static bool run_on_devices(const struct command *c, const struct word *argument)
         return false;
     uint32_t answer = c->call.devices(record, file, bytes_of(devices), devices.len);
     take_back_bytes(argument[1], devices, "bytes in or beside the devices changed");
+    print_answer(answer);
+    return true;
+}
+
+/* A stateid for the client's intent on a file: its other, of any number of bytes. */
+static bool run_stateid(const struct command *c, const struct word *argument)
+{
+    (void)c;
+    uint64_t file, client;
+    struct lent other;
+    if (!read_number(argument[0], UINT64_MAX, &file) || !read_number(argument[1], UINT64_MAX, &client) || !read_bytes(argument[2], MAX_REQUEST, &other))
+        return false;
+    uint32_t answer = sc_record_set_up_stateid(record, file, client, bytes_of(other), other.len);
+    take_back_bytes(argument[2], other, "bytes in or beside a stateid's other changed");
     print_answer(answer);
     return true;
 }
@@ -837,6 +851,7 @@ static const struct command commands[] = {
     {"forget", 1, run_on_file, {.file = sc_record_forget}},
     {"addproxy", 2, run_on_devices, {.devices = sc_record_add_proxy}},
     {"removeproxy", 1, run_on_file, {.file = sc_record_remove_proxy}},
+    {"stateid", 3, run_stateid, {NULL}},
     {"end", 0, run_on_record, {.record = sc_record_end_grace}},
     {"restart", 0, run_on_record, {.record = sc_record_restart}},
     {"layoutreturn", 4, run_layoutreturn, {NULL}},

@@ -31,8 +31,8 @@ extern "C" {
  *
  * The first number rises where a server has to be changed, the second where calls are added, the third where neither is.
  */
-#define SC_VERSION_MAJOR 2
-#define SC_VERSION_MINOR 2
+#define SC_VERSION_MAJOR 3
+#define SC_VERSION_MINOR 0
 #define SC_VERSION_PATCH 0
 
 /* ---- statuses, by NFS's own names (RFC 8881, 15.1) ----
@@ -40,13 +40,14 @@ extern "C" {
  * What a call answers where it refuses; 0 is success. The refusals of layout bodies are rules of their own, from 1 to 9.
  */
 #define SC_NOENT UINT32_C(2)                  /* the node is no member of the cluster, or the file has no proxy */
-#define SC_EXIST UINT32_C(17)                 /* the file is registered or has a proxy, or the node is a member, already */
-#define SC_INVAL UINT32_C(22)                 /* a node above 31, a bad mirror list, proxy or commit list, no direction, or nothing to repair or to finish */
+#define SC_EXIST UINT32_C(17)                 /* the file is registered or has a proxy, the intent has a stateid, or the node is a member, already */
+#define SC_INVAL UINT32_C(22)                 /* a node above 31, a bad mirror list, proxy, stateid or commit list, no direction, or nothing to repair or to finish */
 #define SC_NOSPC UINT32_C(28)                 /* no room: in a table, in a buffer that is lent, or for another epoch */
 #define SC_STALE UINT32_C(70)                 /* no such file */
 #define SC_DELAY UINT32_C(10008)              /* not yet: the file needs repair, or an intent is open */
 #define SC_GRACE UINT32_C(10013)              /* a grace period is on */
-#define SC_BAD_STATEID UINT32_C(10025)        /* no intent to close, one not reclaimed, or a stateid that is not taken */
+#define SC_OLD_STATEID UINT32_C(10024)        /* a stateid whose seqid is older than the latest */
+#define SC_BAD_STATEID UINT32_C(10025)        /* no intent to close or for a stateid, one not reclaimed, or a stateid that is not taken */
 #define SC_NO_GRACE UINT32_C(10033)           /* no grace period is on */
 #define SC_RECLAIM_BAD UINT32_C(10034)        /* the client has no intent on the file, or commits what it may not write */
 #define SC_BADXDR UINT32_C(10036)             /* malformed bytes */
@@ -178,8 +179,8 @@ uint32_t sc_layoutreturn_reply(uint8_t *reply, size_t reply_len, uint32_t status
 
 /* ---- the recovery record ----
  *
- * At most 64 files, each with 1 to 4 mirror devices, at most one proxy, and at most 8 write intents, one a client; how many of them need repair and how many
- * are offered for copying; and whether the server is in grace.
+ * At most 64 files, each with 1 to 4 mirror devices, at most one proxy, and at most 8 write intents, one a client, each with a layout stateid or without;
+ * how many of them need repair and how many are offered for copying; and whether the server is in grace.
  * The places of a file are 0 to 3 for its mirrors, in the order in which they are registered, and 4 for its proxy, also where it has fewer than four mirrors.
  *
  * A record is plain memory that the server owns, sizeof(struct sc_record) bytes aligned as a uint64_t. Its words are for these calls alone: a
@@ -188,10 +189,10 @@ uint32_t sc_layoutreturn_reply(uint8_t *reply, size_t reply_len, uint32_t status
  * A call changes the record where it lies, and leaves it as it was where it answers a refusal. Calls on two records may run at once.
  */
 struct sc_record {
-    uint64_t opaque[2113];
+    uint64_t opaque[3137];
 };
 
-SC_ASSERT(sizeof(struct sc_record) == 16904, "struct sc_record is as the library has it");
+SC_ASSERT(sizeof(struct sc_record) == 25096, "struct sc_record is as the library has it");
 
 #define SC_PLACES 5 /* the places of a file; a later version may have more */
 #define SC_PROXY 4  /* the place of its proxy */
@@ -203,20 +204,21 @@ SC_ASSERT(sizeof(struct sc_record) == 16904, "struct sc_record is as the library
 void sc_record_fresh(struct sc_record *r);
 
 /* The same, set up as old, for sites whose clients are from before RFC 9737: a LAYOUTRETURN with the all-zero stateid gets 10025 in grace and out of
- * it, and no report marks or blames. A record keeps its edition, current or old, until it is set up again. */
+ * it, and no report marks, blames or counts bytes. A record keeps its edition, current or old, until it is set up again. */
 void sc_record_fresh_old(struct sc_record *r);
 
 /* Registers a file with its mirrors, 16 bytes a device id, in the order of their places. It has no proxy.
  * 10013: in grace; 22: no mirror, more than 4, one named twice, or no whole ids; 17: it is registered; 28: 64 files are. */
 uint32_t sc_record_register(struct sc_record *r, uint64_t file, const uint8_t *mirrors, size_t mirrors_len);
 
-/* The client opens the file for writing: it has an intent. 10013: in grace; 70: no such file; 0 without a change where it has one; 28: 8 are held. */
+/* The client opens the file for writing: it has an intent, without a stateid. 10013: in grace; 70: no such file; 0 without a change where it has one; 28: 8
+ * are held. */
 uint32_t sc_record_open(struct sc_record *r, uint64_t file, uint64_t client);
 
 /* The client reclaims its intent. 10033: not in grace; 70: no such file; 10034: it has no intent; 0 without a change where it has reclaimed. */
 uint32_t sc_record_reclaim(struct sc_record *r, uint64_t file, uint64_t client);
 
-/* The client's intent goes. 70: no such file; 10025: it has no intent, or it is in grace and has not reclaimed. */
+/* The client's intent goes, and its stateid with it. 70: no such file; 10025: it has no intent, or it is in grace and has not reclaimed. */
 uint32_t sc_record_close(struct sc_record *r, uint64_t file, uint64_t client);
 
 /* The file has been repaired: its mark and all blame go, and its proxy stays. 70: no such file; 22: it does not need repair; 10008: an intent is open. */
@@ -233,28 +235,39 @@ uint32_t sc_record_add_proxy(struct sc_record *r, uint64_t file, const uint8_t *
 /* The proxy goes, and its blame with it. The file's mark and the blame of its mirrors stay. 10013: in grace; 70: no such file; 2: it has no proxy. */
 uint32_t sc_record_remove_proxy(struct sc_record *r, uint64_t file);
 
+/* The client's intent on the file gets a layout stateid: `other`, 12 bytes that the server chooses, and seqid 1. With it the client returns its layout out of
+ * grace (sc_record_layoutreturn), and each accepted return raises the seqid by one; after 4294967295 comes 1. The stateid ends with the intent, and at a
+ * restart; `other` may then be used again.
+ * 10013: in grace; 70: no such file; 10025: the client has no intent on it; 17: the intent has a stateid; 22: other_len is not 12, or `other` is all zeros or
+ * all ones, or is that of any intent of the record, on any file and of any client. */
+uint32_t sc_record_set_up_stateid(struct sc_record *r, uint64_t file, uint64_t client, const uint8_t *other, size_t other_len);
+
 /* Grace ends: each file that has any intent not reclaimed since the latest restart needs repair, and each such intent goes. An intent that
  * was reclaimed and then closed no longer counts. 10033: not in grace. */
 uint32_t sc_record_end_grace(struct sc_record *r);
 
-/* The server restarted: in grace, and nobody has reclaimed. Files, intents, marks and blame stay. No refusal. */
+/* The server restarted: in grace, and nobody has reclaimed or has a stateid. Files, intents, marks and blame stay. No refusal. */
 uint32_t sc_record_restart(struct sc_record *r);
 
 /* A LAYOUTRETURN of the client on the file. `request` is its arguments, from the reclaim flag to the end of the padded body.
  * 28: reply_len is under 24. No reply is written, and nothing changes.
- * SC_HANDED_ON: return type 2 or 3, or not in grace with a stateid that is current or ordinary (SC_REQUEST_CURRENT, SC_REQUEST_ORDINARY). No reply is
- * written, and nothing changes.
- * Else the status, which is also the reply: its 4 bytes big-endian at the start of `reply`; for 0 then boolean 1 and sixteen zero bytes, 24 in
- * all. Later bytes of `reply` stay. The statuses besides 0, which change nothing:
+ * SC_HANDED_ON: return type 2 or 3, or not in grace with the current stateid (SC_REQUEST_CURRENT). No reply is written, and nothing changes.
+ * Else the status, which is also the reply: its 4 bytes big-endian at the start of `reply`; for 0 then boolean 1 and a stateid of sixteen bytes, 24 in all:
+ * zeros in grace; out of grace the client's own, with its seqid raised by this return. Later bytes of `reply` stay. The statuses besides 0, which change
+ * nothing:
  * 10036: malformed; 10062: layout type not 4; 10049: iomode outside 1 to 3; 10025: stateid all zeros, and the record is set up as old; 10013: in grace,
- * stateid not all zeros; 10033: not in grace, all zeros; 10025: not in grace, read bypass or invalid; 10036: the body malformed; 70: no such file; 10034:
- * the client has no intent on it.
+ * stateid not all zeros; 10033: not in grace, all zeros; 10025: not in grace, read bypass or invalid; not in grace and ordinary (SC_REQUEST_ORDINARY), 70: no
+ * such file, 10025: the client has no stateid with this `other` on it, or the seqid is newer than the latest, 10024: it is older; then 10036: the body
+ * malformed; in grace 70: no such file, 10034: the client has no intent on it.
+ * Seqid 0 means the latest. Behind the latest by 1 to 2^31 - 1, modulo 2^32, is older; any other that is not the latest is newer.
+ * With 0 the file is marked and its devices blamed as the body says, in grace and out of it; in an old record the body of an ordinary return is read for its
+ * form alone.
  *
  * The totals of this one request, from the byte counts of its statistics records, are written on EVERY call, whatever it answers: read[k] and
  * written[k] are those of the mirror or proxy at place k, for each of the read_len and written_len places that are lent; any other place gets 0.
  * A total that would pass 2^64 - 1 is 2^64 - 1, and then bit k of *read_over or *written_over is set; no other bit is. All are 0 unless
- * the answer is 0, and where the report is ignored since an error record names a device that is neither a mirror nor the proxy. A record for such a
- * device counts nowhere. Statistics change nothing in the record. */
+ * the answer is 0; they are 0 too where the report is ignored since an error record names a device that is neither a mirror nor the proxy, and in an old
+ * record. A statistics record for such a device counts nowhere. Statistics change nothing in the record. */
 uint32_t sc_record_layoutreturn(struct sc_record *r, uint64_t file, uint64_t client, const uint8_t *request, size_t request_len, uint8_t *reply,
                                 size_t reply_len, uint64_t *read, size_t read_len, uint64_t *written, size_t written_len,
                                 uint32_t *read_over, uint32_t *written_over);

@@ -2,7 +2,8 @@
  * The calls on a record through the archive: where a record lies and how big it is, marked examples K10 to K13, and random calls
  * (seed: the argument, or 1) beside tests/plain/record.c: each answer, each reply, all totals and both lists, from either direction, where nobody asks
  * for one, and for numbers that are none; after each call both counts; and what the record holds of the mirrors, the proxy, the blame and the mark of each
- * file, since no call tells of a proxy's blame.
+ * file and of the stateid of each intent, since no call tells of a proxy's blame, and of a stateid only an accepted return. Seqids that no list of calls
+ * reaches, about 2^31 and at the end of their width, are written into the record.
  * Prints one line, and ends with 1 where anything differs.
  */
 #include "bytes.h"
@@ -33,7 +34,7 @@ static void expect(int good, const char *what, unsigned long n)
 }
 
 /* An answer beside plain C's. Each of these has to come up among the random calls. */
-static const uint32_t answers[] = {0, 2, 17, 22, 28, 70, 10008, 10013, 10025, 10033, 10034, 10036, 10049, 10062, SC_HANDED_ON};
+static const uint32_t answers[] = {0, 2, 17, 22, 28, 70, 10008, 10013, 10024, 10025, 10033, 10034, 10036, 10049, 10062, SC_HANDED_ON};
 enum { ANSWERS = sizeof answers / sizeof answers[0] };
 static unsigned long seen[ANSWERS];
 
@@ -52,8 +53,10 @@ static void guards(unsigned long n)
 }
 
 /* ---- what a record holds: 64 files, then the two counts, grace and the edition. A file: its number; its places, each of the two halves of a device's id and whether it
- * is there, is blamed and is a proxy; eight intents of a client and two flags; whether there is such a file, and its mark. */
-enum { MIRRORS = 8, MIRROR_SIZE = 24, INTENTS = MIRRORS + SC_PLACES * MIRROR_SIZE, FLAGS = INTENTS + 8 * 16, FILE_SIZE = FLAGS + 8, HEAD = 64 * FILE_SIZE, GRACE = HEAD + 2, OLD };
+ * is there, is blamed and is a proxy; eight intents; whether there is such a file, and its mark. An intent: its client; its stateid's other as two numbers,
+ * of 8 bytes and of 4, and its seqid, where 0 is no stateid; whether it is there, and is reclaimed. */
+enum { HIGH = 8, LOW = 16, SEQID = 20, TAKEN = 24, RECLAIMED = 25, INTENT_SIZE = 32 };
+enum { MIRRORS = 8, MIRROR_SIZE = 24, INTENTS = MIRRORS + SC_PLACES * MIRROR_SIZE, FLAGS = INTENTS + 8 * INTENT_SIZE, FILE_SIZE = FLAGS + 8, HEAD = 64 * FILE_SIZE, GRACE = HEAD + 2, OLD };
 
 /* The id of a device as the record holds it: two numbers. */
 static int holds(const uint8_t *mirror, const uint8_t *id)
@@ -71,6 +74,29 @@ static int same_place(const uint8_t *mirror, const struct plain_file *f, size_t 
     return mirror[16] == there && mirror[17] == (f->blamed >> i & 1) && mirror[18] == proxy && (!there || holds(mirror, f->devices[i]));
 }
 
+/* Whether an intent is of the client, and has its stateid, or none, as plain C has it. */
+static int same_intent(const uint8_t *at, const struct plain_intent *i)
+{
+    uint64_t client, high;
+    uint32_t low, seqid;
+    memcpy(&client, at, 8);
+    memcpy(&high, at + HIGH, 8);
+    memcpy(&low, at + LOW, 4);
+    memcpy(&seqid, at + SEQID, 4);
+    return at[TAKEN] == 1 && client == i->client && seqid == i->seqid && (seqid == 0 || (high == be64(i->other) && low == be32(i->other + 8)));
+}
+
+/* Whether the intents of a file are as plain C has them, both in the order in which they came. */
+static int same_intents(const uint8_t *file, const struct plain_file *f)
+{
+    for (size_t i = 0; i < 8; i++) {
+        const uint8_t *at = file + INTENTS + INTENT_SIZE * i;
+        if (i < f->intent_count ? !same_intent(at, &f->intents[i]) : at[TAKEN] != 0)
+            return 0;
+    }
+    return 1;
+}
+
 /* The files of the record beside plain C's, both by rising number. */
 static void compare_files(unsigned long n)
 {
@@ -81,6 +107,7 @@ static void compare_files(unsigned long n)
         for (size_t i = 0; i < SC_PLACES && k < plain.count; i++)
             good = good && same_place(at + MIRRORS + MIRROR_SIZE * i, f, i);
         expect(good && (k >= plain.count || at[FLAGS + 1] == f->marked), "the mirrors, the proxy, the blame or the mark of a file", n);
+        expect(k >= plain.count || same_intents(at, f), "the intents of a file, or their stateids", n);
     }
 }
 
@@ -103,7 +130,7 @@ static void layout(void)
         for (size_t m = 0; m < SC_PLACES; m++)
             same = same && memcmp(one + at + MIRRORS + MIRROR_SIZE * m, two + at + MIRRORS + MIRROR_SIZE * m, 19) == 0;
         for (size_t i = 0; i < 8; i++)
-            same = same && memcmp(one + at + INTENTS + 16 * i, two + at + INTENTS + 16 * i, 10) == 0;
+            same = same && memcmp(one + at + INTENTS + INTENT_SIZE * i, two + at + INTENTS + INTENT_SIZE * i, RECLAIMED + 1) == 0;
         expect(same, "a fresh file", f);
     }
     for (size_t i = HEAD; i <= OLD; i++)
@@ -379,6 +406,96 @@ static void proxies(void)
     expect(at_proxy(17) == 1 && sc_record_end_grace(&held.r) == 0 && sc_record_repaired(&held.r, 7) == 0 && at_proxy(16) == 1 && at_proxy(17) == 0 && removed(7) == 0, "a repaired proxy", 0);
 }
 
+/* ---- stateids: file 7 with the mirrors of devices 0 to 2, and the client 1 */
+/* A stateid of twelve equal bytes. */
+static uint32_t set_up(uint64_t file, uint64_t client, int fill)
+{
+    uint8_t other[12];
+    memset(other, fill, sizeof other);
+    return sc_record_set_up_stateid(&held.r, file, client, other, sizeof other);
+}
+
+/* The seqid of the first intent of the first file, as the record holds it. */
+static uint8_t *first_seqid(void) { return (uint8_t *)&held.r + INTENTS + SEQID; }
+
+/* A return of the client 1 on the file 7 with such a stateid and so many device errors. What is refused changes nothing but the reply's status; the reply of
+ * what is accepted has the raised stateid. */
+static int ordinary(uint32_t seqid, int fill, int errors, uint32_t answer, uint32_t next)
+{
+    static struct sc_record before;
+    uint8_t reply[30], wanted[30];
+    size_t len = report(0, errors, 5);
+    struct lent t = lend(SC_PLACES, SC_PLACES);
+    memset(reply, 0x99, sizeof reply);
+    memset(wanted, 0x99, sizeof wanted);
+    put32(request + 32, seqid);
+    memset(request + 36, fill, 12);
+    memcpy(&before, &held.r, sizeof before);
+    uint32_t x = sc_record_layoutreturn(&held.r, 7, 1, request, len, reply, 30, t.read, SC_PLACES, t.written, SC_PLACES, &t.read_over, &t.written_over);
+    put32(wanted, answer);
+    if (answer == 0) {
+        put32(wanted + 4, 1);
+        put32(wanted + 8, next);
+        memset(wanted + 12, fill, 12);
+    }
+    return x == answer && memcmp(reply, wanted, sizeof reply) == 0 && (answer == 0 || memcmp(&before, &held.r, sizeof before) == 0);
+}
+
+/* The file, out of grace, in a record of either edition, with a stateid whose seqid is written into the record. */
+static void with_stateid(int old, uint32_t seqid)
+{
+    (old ? sc_record_fresh_old : sc_record_fresh)(&held.r);
+    expect(sc_record_register(&held.r, 7, device[0], 48) == 0 && sc_record_open(&held.r, 7, 1) == 0 && set_up(7, 1, 0x51) == 0, "a file with a stateid", old);
+    memcpy(first_seqid(), &seqid, sizeof seqid);
+}
+
+/* The refusals of a set-up, in their order; bytes of any length, of which none is read where they are not 12. */
+static void set_up_refusals(void)
+{
+    static const uint8_t bytes[32] = {1, 2, 3};
+    sc_record_fresh(&held.r);
+    expect(set_up(7, 1, 0x51) == 70 && sc_record_register(&held.r, 7, device[0], 48) == 0 && set_up(7, 1, 0x51) == 10025, "a stateid of no file or intent", 0);
+    expect(sc_record_open(&held.r, 7, 1) == 0 && sc_record_open(&held.r, 7, 2) == 0 && set_up(7, 3, 0x51) == 10025, "a stateid of no intent", 0);
+    for (size_t len = 0; len <= 32; len++)
+        expect(len == 12 || sc_record_set_up_stateid(&held.r, 7, 1, bytes, len) == 22, "a stateid that is not of 12 bytes", len);
+    expect(set_up(7, 1, 0) == 22 && set_up(7, 1, 0xff) == 22, "a stateid of zeros or of ones", 0);
+    expect(set_up(7, 1, 0x51) == 0 && set_up(7, 1, 0x51) == 17 && set_up(7, 1, 0) == 17 && set_up(7, 2, 0x51) == 22 && set_up(7, 2, 0x52) == 0, "a stateid that is there", 0);
+    expect(sc_record_set_up_stateid(&held.r, 7, 1, bytes, 0) == 17, "a stateid of no bytes where one is", 0);
+    expect(sc_record_register(&held.r, 8, device[0], 48) == 0 && sc_record_open(&held.r, 8, 1) == 0 && set_up(8, 1, 0x52) == 22, "a stateid in use on another file", 0);
+    expect(sc_record_close(&held.r, 7, 2) == 0 && set_up(8, 1, 0x52) == 0, "an other that was closed", 0);
+    expect(sc_record_restart(&held.r) == 0 && set_up(7, 1, 0x53) == 10013 && set_up(9, 1, 0) == 10013 && sc_record_set_up_stateid(&held.r, 7, 1, bytes, 0) == 10013, "stateids in grace", 0);
+}
+
+/* Seqids beside the latest, whatever it is; 1 after the last one; and what a return leaves in either edition. */
+static void stateids(void)
+{
+    static const uint32_t half = UINT32_C(1) << 31, last = UINT32_MAX;
+    static const struct { uint32_t latest, given, answer, next; } some[] = {
+        {1, 0, 0, 2}, {1, 1, 0, 2}, {1, 2, 10025, 0}, {1, last, 10024, 0}, {1, last - 1, 10024, 0},
+        {last, last, 0, 1}, {last, 0, 0, 1}, {last, last - 1, 10024, 0}, {last, 1, 10025, 0}, {last, 2, 10025, 0},
+        {last - 1, last - 1, 0, last}, {last - 1, last, 10025, 0}, {last - 1, 1, 10025, 0},
+        {half, half, 0, half + 1}, {half, 0, 0, half + 1}, {half, 1, 10024, 0}, {half + 1, 1, 10025, 0}, {half + 2, 1, 10025, 0}, {half + 1, 2, 10024, 0},
+        {half - 1, half - 1, 0, half}, {half - 1, half, 10025, 0}, {half - 1, last, 10025, 0}, {half - 1, 1, 10024, 0}, {half - 2, last, 10024, 0},
+        {last, half - 1, 10025, 0}, {last, half, 10024, 0}, {last, half + 1, 10024, 0}, {1, half, 10025, 0}, {1, half + 1, 10025, 0}, {1, half + 2, 10024, 0},
+        {5, half + 4, 10025, 0}, {5, half + 5, 10025, 0}, {5, half + 6, 10024, 0}, {5, last, 10024, 0},
+    };
+    set_up_refusals();
+    for (int old = 0; old < 2; old++) {
+        for (size_t k = 0; k < sizeof some / sizeof some[0]; k++) {
+            with_stateid(old, some[k].latest);
+            expect(ordinary(some[k].given, 0x51, 0, some[k].answer, some[k].next), "a seqid beside the latest", k);
+            expect(ordinary(some[k].given, 0x52, 0, 10025, 0), "an other that the client does not hold", k);
+        }
+        with_stateid(old, last - 1);
+        expect(ordinary(0, 0x51, 0, 0, last) && ordinary(last, 0x51, 0, 0, 1) && ordinary(last, 0x51, 0, 10024, 0) && ordinary(1, 0x51, 0, 0, 2), "around the wrap", (unsigned long)old);
+        expect(lists(0, 0, 0, 0, 0) && ordinary(2, 0x51, 1, 0, 3) && (old ? lists(0, 0, 0, 0, 0) : lists(0, 1, 7, 1, 2)), "an error of device 0", (unsigned long)old);
+        expect(ordinary(3, 0x51, 4, 0, 4) && (old ? lists(0, 0, 0, 0, 0) : lists(0, 1, 7, 1, 2)), "a device that is no mirror", (unsigned long)old);
+        expect(sc_record_close(&held.r, 7, 1) == 0 && sc_record_open(&held.r, 7, 1) == 0 && ordinary(0, 0x51, 0, 10025, 0) && set_up(7, 1, 0x51) == 0, "closed and opened again", (unsigned long)old);
+        expect(sc_record_restart(&held.r) == 0 && ordinary(0, 0x51, 0, 10013, 0) && sc_record_reclaim(&held.r, 7, 1) == 0 && sc_record_end_grace(&held.r) == 0, "in grace", (unsigned long)old);
+        expect(ordinary(0, 0x51, 0, 10025, 0) && set_up(7, 1, 0x51) == 0 && ordinary(1, 0x51, 0, 0, 2), "after grace", (unsigned long)old);
+    }
+}
+
 /* ---- counts */
 /* What the library says of both, with a word before and after each that no call may touch. */
 static int counts(uint64_t waiting, uint64_t offered)
@@ -539,6 +656,91 @@ static void special_stateid(void)
     request[47] ^= below(6) ? 0 : 1;
 }
 
+/* How many stateids were set up, and how many returns with one were accepted, older, newer or of an other that the client does not hold; and how often one was
+ * the last before the wrap. */
+static unsigned long set_ups, accepted, older, newer, unheld, wrapped;
+
+/* Some intent with a stateid, of some file; NULL where a few tries find none. */
+static struct plain_intent *any_holder(uint64_t *file, uint64_t *client)
+{
+    for (int tries = 0; tries < 40 && plain.count != 0; tries++) {
+        struct plain_file *f = &plain.files[below(plain.count)];
+        struct plain_intent *i = f->intent_count == 0 ? NULL : &f->intents[below(f->intent_count)];
+        if (i != NULL && i->seqid != 0) {
+            *file = f->number;
+            *client = i->client;
+            return i;
+        }
+    }
+    return NULL;
+}
+
+/* Writes an edge into the seqid of some stateid, of plain C and of the record, as no list of calls would. */
+static void put_seqid(void)
+{
+    static const uint32_t edges[] = {UINT32_MAX, UINT32_MAX - 1, 1, 2, UINT32_C(1) << 31, (UINT32_C(1) << 31) - 1, (UINT32_C(1) << 31) + 1};
+    uint64_t file, client;
+    struct plain_intent *i = any_holder(&file, &client);
+    if (i == NULL)
+        return;
+    i->seqid = below(3) ? edges[below(7)] : (uint32_t)random64() | 1;
+    for (size_t k = 0; k < plain.count; k++)
+        for (size_t m = 0; m < plain.files[k].intent_count; m++)
+            if (&plain.files[k].intents[m] == i)
+                memcpy((uint8_t *)&held.r + FILE_SIZE * k + INTENTS + INTENT_SIZE * m + SEQID, &i->seqid, 4);
+}
+
+/* A stateid of some client that holds one, with a seqid beside the latest, or nearly it. */
+static void held_stateid(uint64_t *file, uint64_t *client)
+{
+    static const uint32_t behind[] = {0, 0, 0, 1, UINT32_MAX, (UINT32_C(1) << 31) - 1, UINT32_C(1) << 31, (UINT32_C(1) << 31) + 1, 2, 5};
+    const struct plain_intent *i = any_holder(file, client);
+    if (i == NULL)
+        return;
+    put32(request + 32, below(3) ? i->seqid - behind[below(10)] : below(4) ? 0 : (uint32_t)random64());
+    memcpy(request + 36, i->other, 12);
+    if (below(10) == 0)
+        request[36 + below(12)] ^= (uint8_t)(1u << below(8));
+    if (below(12) == 0)
+        *client = below(CLIENTS);
+}
+
+/* Whether the client has a stateid with the request's other on the file. */
+static int holds_other(uint64_t file, uint64_t client)
+{
+    for (size_t k = 0; k < plain.count; k++)
+        for (size_t i = 0; plain.files[k].number == file && i < plain.files[k].intent_count; i++)
+            if (plain.files[k].intents[i].client == client)
+                return plain.files[k].intents[i].seqid != 0 && memcmp(plain.files[k].intents[i].other, request + 36, 12) == 0;
+    return 0;
+}
+
+/* Counts a return by what step 4 makes of its stateid. */
+static void tell_return(uint32_t answer, size_t len, const uint8_t *reply, int holds)
+{
+    uint32_t kind;
+    uint64_t at, body;
+    if (plain.grace || sc_layoutreturn_check(request, len, &kind, &at, &body) != 0 || kind != SC_REQUEST_ORDINARY)
+        return;
+    accepted += answer == 0;
+    wrapped += answer == 0 && be32(reply + 8) == 1;
+    older += answer == SC_OLD_STATEID;
+    *(holds ? &newer : &unheld) += answer == SC_BAD_STATEID;
+}
+
+/* A stateid for a client's intent, of few others so that they meet; now and then of zeros or ones, or of another length. */
+static void compare_set_up(unsigned long n, uint64_t file, uint64_t client)
+{
+    uint8_t other[24];
+    size_t len = below(12) ? 12 : below(25);
+    memset(other, (int)(below(20) ? 0x60 + below(3) : below(2) ? 0 : 255), sizeof other);
+    if (below(20) != 0)
+        other[below(3) * 5 + 1] = (uint8_t)below(256);
+    uint32_t x = sc_record_set_up_stateid(&held.r, file, client, other, len);
+    same(x, plain_record_set_up_stateid(&plain, file, client, other, len), "set up a stateid", n);
+    set_ups += x == 0;
+}
+
 static void compare_returns(unsigned long n, uint64_t file, uint64_t client)
 {
     uint8_t reply[2][30];
@@ -549,10 +751,13 @@ static void compare_returns(unsigned long n, uint64_t file, uint64_t client)
         len = statistics(len, below(6));
     if (below(6) == 0)
         special_stateid();
+    else if (below(plain.grace ? 8 : 2) == 0)
+        held_stateid(&file, &client);
     if (below(6) == 0)
         request[below(len)] ^= (uint8_t)(1u << below(8));
     if (below(10) == 0)
         len = below(len + 1);
+    int holds = holds_other(file, client);
     uint32_t x = sc_record_layoutreturn(&held.r, file, client, request, len, reply[0], room, t.read, t.read_len, t.written, t.written_len, &t.read_over, &t.written_over);
     uint32_t y = plain_record_layoutreturn(&plain, file, client, request, len, reply[1], room, u.read, u.read_len, u.written, u.written_len, &u.read_over, &u.written_over);
     same(x, y, "a LAYOUTRETURN", n);
@@ -561,6 +766,7 @@ static void compare_returns(unsigned long n, uint64_t file, uint64_t client)
     tell(t.read, t.read_len, t.read_over);
     tell(t.written, t.written_len, t.written_over);
     expect(memcmp(reply[0], reply[1], sizeof reply[0]) == 0, "a reply", n);
+    tell_return(x, len, reply[0], holds);
 }
 
 /* A proxy of any device, now and then of bytes that are no id. */
@@ -610,7 +816,7 @@ static void random_calls(int old)
         int first = (int)below(DEVICES);
         for (size_t i = 0; i < 6; i++)
             memcpy(mirrors + 16 * i, device[below(20) ? (first + (int)i) % DEVICES : first], 16);
-        uint64_t kind = below(225);
+        uint64_t kind = below(260);
         if (kind < 2) {
             same(sc_record_restart(&held.r), plain_record_restart(&plain), "restart", n);
         } else if (kind < 4) {
@@ -633,8 +839,14 @@ static void random_calls(int old)
             compare_lists(n);
         } else if (kind < 215) {
             compare_added(n, file);
-        } else {
+        } else if (kind < 225) {
             same(sc_record_remove_proxy(&held.r, file), plain_record_remove_proxy(&plain, file), "remove a proxy", n);
+        } else if (kind < 245) {
+            compare_set_up(n, file, client);
+        } else if (kind < 258) {
+            compare_returns(n, file, client);
+        } else {
+            put_seqid();
         }
         guards(n);
         compare_files(n);
@@ -646,6 +858,7 @@ static void random_calls(int old)
     expect(astray != 0 && alike != 0 && otherwise != 0 && (without != 0 || old), "sources of the random calls: other from the other end, or not, or none", without);
     expect(idle_counts != 0 && open_counts != 0 && part_counts != 0 && all_counts != 0 && grace_counts != 0, "counts of the random calls: none, open, a part or all", part_counts);
     expect((of_proxies != 0 && blamed_proxies != 0) == !old, "proxies of the random calls: with totals, or blamed", of_proxies);
+    expect(set_ups != 0 && accepted != 0 && older != 0 && newer != 0 && unheld != 0 && wrapped != 0, "returns of the random calls: accepted, older, newer, of no stateid, or the last before the wrap", accepted);
     expect((flagged != 0 && full != 0 && counted != 0) == !old, "totals of the random calls: flags, 2^64 - 1 without one, or others", flagged);
 }
 
@@ -659,12 +872,15 @@ int main(int argc, char **argv)
     examples();
     edges();
     proxies();
+    stateids();
     counts_astray();
     random_calls(1);
     random_calls(0);
     printf("capi: %d random calls beside plain C, with %lu totals (%lu flagged, %lu of 2^64 - 1 that are not; %lu columns with a proxy's); %lu lists from no direction; of the files\n"
            "    on lists %lu have another source from the other end, %lu the same, %lu none; counts after each call, %lu with files that wait, %lu of these in grace;\n"
-           "    the struct, totals at the edge, proxies, counts that are wrong and K10 to K13: %lu differences\n",
-           CALLS, counted + flagged + full, flagged, full, of_proxies, astray, otherwise, alike, without, open_counts + part_counts + all_counts, grace_counts, differences);
+           "    %lu stateids set up, %lu returns with one accepted, %lu of these with the last seqid before the wrap, %lu older, %lu newer;\n"
+           "    the struct, totals at the edge, proxies, stateids, counts that are wrong and K10 to K13: %lu differences\n",
+           CALLS, counted + flagged + full, flagged, full, of_proxies, astray, otherwise, alike, without, open_counts + part_counts + all_counts, grace_counts,
+           set_ups, accepted, wrapped, older, newer, differences);
     return differences != 0;
 }

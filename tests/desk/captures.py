@@ -5,7 +5,8 @@
 
 NAME is layout-bodies, linux-layoutcommit, layoutreturn-damaged, linux-layoutreturn or ganesha-epochs. What is expected comes from the columns
 that other programs wrote beside each input, never from replay or the second program. In this order: layout bodies; LAYOUTCOMMIT;
-LAYOUTRETURN requests, and the report that a request leaves on a file; the two LAYOUTRETURN captures; epochs; main.
+LAYOUTRETURN requests, and the report that a request leaves on a file, in grace and as an ordinary return (Ticket 13); the two LAYOUTRETURN captures;
+epochs; main.
 The lists are asked for with the lowest source by name; for `highest` no direction is asked for, which gives the highest. For `proxy` the file of each
 report has a proxy (Ticket 7): the last of the devices that it would have as mirrors otherwise, and a fifth beside all four.
 """
@@ -18,6 +19,8 @@ WORD, FIRST = ("", max) if sys.argv[5:] == ["highest"] else (" lowest", min)
 PROXIES = sys.argv[5:] == ["proxy"]
 LETTERS = ["a0" * 15 + "01", "b0" * 15 + "02", "c0" * 15 + "03", "d0" * 15 + "04", "e0" * 15 + "05"]
 PLACES, PROXY = 5, 4
+# The stateid of returns that were captured with the all-zero one: seqid 0 is the latest.
+SEQID, OTHER = 0, "5a" * 12
 
 
 def lines_of(path):
@@ -51,12 +54,12 @@ def linux_layoutcommit(path):
         yield f"commit {block} {room} {commit} {result[8:] or '-'}", f"0 {result}"
 
 
-def said(status):
-    """What replay prints for the answer of steps 1 to 7, given as `on` or a number."""
+def said(status, stateid="00" * 16):
+    """What replay prints for the answer of steps 1 to 7, given as `on` or a number; for 0 with a stateid."""
     if status == "on":
         return "handed on"
     if status == "0":
-        return "0 " + "00000000" + "00000001" + "00" * 16
+        return "0 " + "00000000" + "00000001" + stateid
     return f"{status} {int(status):08x}"
 
 
@@ -130,23 +133,76 @@ def report(mirrors, proxy, request, in_grace, errors, statistics):
         yield f"offered 1 1{WORD}", listing(entry)
 
 
+def with_stateid(request, stateid):
+    return request[:64] + stateid + request[96:]
+
+
+def raised(other, seqid):
+    """Empty returns that raise a stateid's seqid from 1 to this one."""
+    for k in range(1, seqid):
+        stateid, after = f"{k:08x}{other}", f"{k + 1:08x}{other}"
+        yield f"layoutreturn {FILE} {CLIENT} 24 {'0000000000000004000000030000000100000000000000000000000000000000' + stateid + '00000008' + 16 * '0'}", said("0", after)
+
+
+def ordinary(mirrors, proxy, request, body, errors, statistics, edition=""):
+    """The same file, and the request with its own stateid out of grace, or with another one if that is the all-zero one; body is `ok` or step 5's refusal."""
+    if kind(request[64:96]) != "ordinary":
+        request = with_stateid(request, f"{SEQID:08x}{OTHER}")
+    seqid, other = int(request[64:72], 16), request[72:96]
+    latest = seqid if 1 < seqid < 100 else 1
+    known = seqid in (0, latest)
+    status = ("0" if body == "ok" else body) if known else "10024"
+    counted = status == "0" and edition == ""
+    yield f"fresh{edition}", "0"
+    yield f"register {FILE} {''.join(mirrors)}", "0"
+    if proxy:
+        yield f"addproxy {FILE} {proxy}", "0"
+    yield f"open {FILE} {CLIENT}", "0"
+    yield f"open {FILE} {OTHER_CLIENT}", "0"
+    yield f"layoutreturn {FILE} {CLIENT} 24 {request}", said("10025")
+    yield f"stateid {FILE} {CLIENT} {other}", "0"
+    yield f"stateid {FILE} {OTHER_CLIENT} {other}", "22"
+    yield f"layoutreturn {OTHER_FILE} {CLIENT} 24 {request}", said("70")
+    yield f"layoutreturn {FILE} {OTHER_CLIENT} 25 {request}", said("10025")
+    yield from raised(other, latest)
+    yield f"layoutreturn {FILE} {CLIENT} 24 {with_stateid(request, f'{latest + 1:08x}{other}')}", said("10025")
+    yield f"layoutreturn {FILE} {CLIENT} 23 {request}", "28"
+    yield f"resilver 1 1{WORD}", "0 0"
+    yield f"layoutreturn {FILE} {CLIENT} 24 {request}", said(status, f"{latest + 1:08x}{other}")
+    yield "totals", totals_after(mirrors, proxy, errors, statistics) if counted else NO_TOTALS
+    if status == "0":
+        yield f"layoutreturn {FILE} {CLIENT} 24 {with_stateid(request, f'{latest:08x}{other}')}", said("10024")
+        yield "totals", NO_TOTALS
+    entry = source_after(mirrors, proxy, errors) if counted else ""
+    yield f"resilver 1 1{WORD}", listing(entry)
+    yield f"close {FILE} {CLIENT}", "0"
+    yield f"offered 1 1{WORD}", "0 0"
+    yield f"close {FILE} {OTHER_CLIENT}", "0"
+    yield f"offered 1 1{WORD}", listing(entry)
+    yield f"open {FILE} {CLIENT}", "0"
+    yield f"layoutreturn {FILE} {CLIENT} 24 {request}", said("10025")
+
+
 def copies(devices):
     """These devices as the mirrors and the proxy of a file: up to four mirrors, and a proxy or None."""
     return (devices[:-1], devices[-1]) if PROXIES and len(devices) > 1 else (devices[:4], None)
 
 
-def layoutreturn(request, in_grace, out_of_grace, errors, statistics):
-    """One request out of grace, then in grace with the letters' mirrors, and with the first four or, with a proxy, five devices that it names."""
+def layoutreturn(request, in_grace, out_of_grace, body, errors, statistics):
+    """One request out of grace, then in grace with the letters' mirrors, and with the first four or, with a proxy, five devices that it names; and with all
+    of these as an ordinary return, where step 5's answer to its body is known."""
     yield "fresh", "0"
     yield f"register {FILE} {LETTERS[0]}", "0"
     yield f"request {request}", asked(request, out_of_grace)
     yield f"layoutreturn {FILE} {CLIENT} 24 {request}", said(out_of_grace)
     yield "totals", NO_TOTALS
-    yield from report(*copies(LETTERS), request, in_grace, errors, statistics)
     named = list(dict.fromkeys([device for device, _ in errors] + [device for device, _, _ in statistics]))[: PLACES if PROXIES else 4]
-    if named:
-        yield from report(*copies(named), request, in_grace, errors, statistics)
-        yield from report(*copies(named[::-1]), request, in_grace, errors, statistics)
+    for devices in [LETTERS] + ([named, named[::-1]] if named else []):
+        yield from report(*copies(devices), request, in_grace, errors, statistics)
+        if body:
+            yield from ordinary(*copies(devices), request, body, errors, statistics)
+    if body:
+        yield from ordinary(*copies(LETTERS), request, body, errors, statistics, " old")
 
 
 def device_errors(column):
@@ -172,9 +228,10 @@ def kind(stateid):
 
 
 def by_kind(request, out_of_grace):
-    """The answer out of grace since Ticket 6: of the file returns that were handed on, those with the bypass or an invalid stateid are refused."""
+    """The answer out of grace, where no stateid is set up: of the file returns that were handed on, those with the bypass or an invalid stateid are refused
+    since Ticket 6, and those with an ordinary one since Ticket 13."""
     one_file = request[24:32] == "00000001"
-    return "10025" if out_of_grace == "on" and one_file and kind(request[64:96]) in ("bypass", "invalid") else out_of_grace
+    return "10025" if out_of_grace == "on" and one_file and kind(request[64:96]) != "current" else out_of_grace
 
 
 def asked(request, out_of_grace):
@@ -192,7 +249,8 @@ def layoutreturn_damaged(path):
         if line.startswith("#"):
             continue
         request, _, out_of_grace, in_grace, errors, statistics = line.split()
-        yield from layoutreturn(request, in_grace, by_kind(request, out_of_grace), device_errors(errors), statistics_records(statistics))
+        body = in_grace if in_grace == "ok" or (in_grace, out_of_grace) == ("10036", "10033") else None
+        yield from layoutreturn(request, in_grace, by_kind(request, out_of_grace), body, device_errors(errors), statistics_records(statistics))
 
 
 def answers(head, stateid, body):
@@ -202,7 +260,7 @@ def answers(head, stateid, body):
     if layout_type != 4:
         return "10062", "10062"
     if kind(stateid.replace(":", "")) != "anonymous":
-        return "10013", "10025" if kind(stateid.replace(":", "")) in ("bypass", "invalid") else "on"
+        return "10013", "on" if kind(stateid.replace(":", "")) == "current" else "10025"
     if body == "malformed":
         return "10036", "10033"
     return "ok", "10033"
@@ -217,7 +275,8 @@ def linux_layoutreturn(path):
         elif not line.startswith("#"):
             head, stateid, _, body, errors, statistics = fields
             in_grace, out_of_grace = answers(head, stateid, body.split()[1])
-            yield from layoutreturn(line, in_grace, out_of_grace, device_errors(errors.split()[1]), statistics_records(statistics.split()[1]))
+            form = None if in_grace == "10062" else "ok" if body.split()[1] == "ok" else "10036"
+            yield from layoutreturn(line, in_grace, out_of_grace, form, device_errors(errors.split()[1]), statistics_records(statistics.split()[1]))
 
 
 def may(node, recovery, need, enforcing, members):

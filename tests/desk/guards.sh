@@ -15,7 +15,7 @@ if ! "$work/replay" < "$desk/marked.txt" | cmp - "$desk/marked.expected"; then
     exit 1
 fi
 # Calls that meet every promise: short and long listings, replies of each kind.
-cat "$desk/marked.txt" "$desk/lines.txt" "$desk/proxies.txt" "$desk/counts.txt" > "$work/script"
+cat "$desk/marked.txt" "$desk/lines.txt" "$desk/proxies.txt" "$desk/counts.txt" "$desk/stateids.txt" > "$work/script"
 echo >> "$work/script"
 printf 'fresh\nregister 7 %032d\nopen 7 1\nrestart\nend\nresilver 3 3\nresilver 3 3 lowest\nresilver 0 3 lowest\nresilver 3 0 lowest\nlayoutreturn 7 1 30 -\nlayoutreturn 7 1 3 -\n' 1 >> "$work/script"
 number=0

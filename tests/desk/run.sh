@@ -68,7 +68,7 @@ random() {
     part "random $1" "$(wc -l < "$work/replay") answers, the same from both"
 }
 
-for name in incident marked lines directions proxies counts; do
+for name in incident marked lines directions proxies counts stateids; do
     expected "$name" "$desk/$name.txt" "$desk/$name.expected"
 done
 for name in layout-bodies linux-layoutcommit layoutreturn-damaged linux-layoutreturn ganesha-epochs; do

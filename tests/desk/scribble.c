@@ -55,6 +55,20 @@ uint32_t __wrap_sc_record_remove_proxy(struct sc_record *r, uint64_t file)
     return answer;
 }
 
+uint32_t __real_sc_record_set_up_stateid(struct sc_record *, uint64_t, uint64_t, const uint8_t *, size_t);
+uint32_t __wrap_sc_record_set_up_stateid(struct sc_record *, uint64_t, uint64_t, const uint8_t *, size_t);
+uint32_t __wrap_sc_record_set_up_stateid(struct sc_record *r, uint64_t file, uint64_t client, const uint8_t *other, size_t other_len)
+{
+    uint32_t answer = __real_sc_record_set_up_stateid(r, file, client, other, other_len);
+    if (other_len > 0)
+        scribble("other", other);
+    scribble("other-after", other + other_len);
+    scribble("other-before", other - 1);
+    scribble("stateid-record-after", r + 1);
+    scribble("stateid-record-before", (uint8_t *)r - 1);
+    return answer;
+}
+
 uint32_t __real_sc_record_layoutreturn(struct sc_record *, uint64_t, uint64_t, const uint8_t *, size_t, uint8_t *, size_t, uint64_t *, size_t,
                                        uint64_t *, size_t, uint32_t *, uint32_t *);
 uint32_t __wrap_sc_record_layoutreturn(struct sc_record *, uint64_t, uint64_t, const uint8_t *, size_t, uint8_t *, size_t, uint64_t *, size_t,

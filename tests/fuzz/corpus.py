@@ -12,6 +12,8 @@ CHOICES = [
     LAYOUTRETURN | GRACE | OPENED | FOUR_MIRRORS,
     LAYOUTRETURN | GRACE | OPENED | TWO_MIRRORS | ROOM_40,
     LAYOUTRETURN | OPENED | FOUR_MIRRORS,
+    LAYOUTRETURN | OPENED | FOUR_MIRRORS | OLD,
+    LAYOUTRETURN | PROXIED | THREE_MIRRORS,
     LAYOUTRETURN | GRACE | OPENED | FOUR_MIRRORS | OLD,
     LAYOUTRETURN | GRACE | PROXIED | THREE_MIRRORS,
     LAYOUTRETURN | GRACE | PROXIED | FOUR_MIRRORS,
@@ -22,11 +24,18 @@ CHOICES = [
 SECOND, PROXY = b"\xb0" * 15 + b"\x02", b"\xe0" * 15 + b"\x05"
 
 
+# A stateid with the latest seqid, for requests that have the all-zero one.
+STATEID = bytes(4) + b"\x51" * 12
+
+
 def chosen(request):
-    """The request for each choice; where the file has a proxy, that is named in place of the second device."""
+    """The request for each choice; where the file has a proxy, that is named in place of the second device; and out of grace with an ordinary stateid too."""
     for choice in CHOICES:
         proxied = choice & OPENED == PROXIED
-        yield bytes([choice]) + (request.replace(SECOND, PROXY) if proxied else request)
+        named = request.replace(SECOND, PROXY) if proxied else request
+        yield bytes([choice]) + named
+        if not choice & GRACE and len(request) > 48 and request[32:48] == bytes(16):
+            yield bytes([choice]) + named[:32] + STATEID + named[48:]
 
 
 def hex_words(name):

@@ -1,9 +1,9 @@
 /* The fuzz target for the wire checks: layout bodies, lists of extents to be merged, LAYOUTCOMMITs, and LAYOUTRETURN on a record of one file. Any difference from plain C
    (tests/plain) aborts. The first byte chooses: bit 0 layouts or LAYOUTRETURN. Layouts: bit 1 a list to be merged, else bit 2 a LAYOUTCOMMIT, else a body; of a LAYOUTCOMMIT bits 3 to 5 the block
    size, 6 and 7 the room for its body. LAYOUTRETURN: bit 1 grace, 2 and 3 whether the file is registered, has an intent, or has an intent and a proxy, 4 and 5 how many mirrors, 6 and 7 the
-   edition and the reply's room. The other bytes are the body, the list or the request, whose length also chooses how many totals are lent and the bytes of a device that is to be a proxy; of a LAYOUTCOMMIT a count of extents (2 bytes), the extents and the commit list. The libraries are not instrumented
+   edition and the reply's room. The other bytes are the body, the list or the request, whose length also chooses how many totals are lent, the bytes of a device that is to be a proxy, and which stateid the client has out of grace, mostly the request's own, and how often it is raised before; of a LAYOUTCOMMIT a count of extents (2 bytes), the extents and the commit list. The libraries are not instrumented
    (plain C is, and steers towards new cases), so every body, list, request, reply and total lent to them lies against a page that can't be touched, once at its start and once at its end.
-   In this order: pages; layout bodies; lists; merging; LAYOUTCOMMIT; reports; the record; proxies; LAYOUTRETURN; the target. */
+   In this order: pages; layout bodies; lists; merging; LAYOUTCOMMIT; reports; the record; proxies; stateids; LAYOUTRETURN; the target. */
 #define _DEFAULT_SOURCE
 #include "bytes.h"
 #include "plain.h"
@@ -51,7 +51,7 @@ static uint8_t *at_edge(uint8_t *region, size_t len, bool end)
 }
 
 /* A region for each thing that is lent. */
-enum { INPUT, REPLY, READ, WRITTEN, READ_OVER, WRITTEN_OVER, WANTED, STORAGES, STATES, COMMITS, DEVICE, WAITING, OFFERED, REGIONS };
+enum { INPUT, REPLY, READ, WRITTEN, READ_OVER, WRITTEN_OVER, WANTED, STORAGES, STATES, COMMITS, DEVICE, OTHER, WAITING, OFFERED, REGIONS };
 
 static uint8_t *regions[REGIONS];
 
@@ -327,6 +327,73 @@ static void proxies(struct sc_record *r, struct plain_record *p, const uint8_t *
     check_removed(r, p);
 }
 
+/* ---- Stateids ---- */
+
+/* A stateid of so many bytes, which lie at an edge. */
+static void check_stateid(struct sc_record *r, struct plain_record *p, uint64_t client, const uint8_t *bytes, size_t len, bool end)
+{
+    uint8_t *other = at_edge(regions[OTHER], len, end);
+    memcpy(other, bytes, len);
+    same("set up a stateid", sc_record_set_up_stateid(r, FILE_NUMBER, client, other, len), plain_record_set_up_stateid(p, FILE_NUMBER, client, other, len));
+    same("other kept", memcmp(other, bytes, len) == 0, true);
+}
+
+/* A return of the client whose totals are not looked at: the answer and the reply. */
+static void check_return(struct sc_record *r, struct plain_record *p, const uint8_t *bytes, size_t len)
+{
+    uint8_t reply[2][24];
+    uint64_t read[1], written[1];
+    uint32_t over[2];
+    memset(reply, FILL, sizeof reply);
+    uint32_t answer = sc_record_layoutreturn(r, FILE_NUMBER, CLIENT, bytes, len, reply[0], 24, read, 1, written, 1, &over[0], &over[1]);
+    same("return", answer, plain_record_layoutreturn(p, FILE_NUMBER, CLIENT, bytes, len, reply[1], 24, read, 1, written, 1, &over[0], &over[1]));
+    same("return's reply", memcmp(reply[0], reply[1], sizeof reply[0]) == 0, true);
+}
+
+/* Empty returns that are not of the latest seqid, or of a byte of the other that is another one. */
+static void near(struct sc_record *r, struct plain_record *p, uint8_t *empty, size_t len)
+{
+    static const uint32_t half = UINT32_C(1) << 31;
+    const uint32_t behind[5] = {1, UINT32_MAX, half - 1, half, half + 1};
+    for (int i = 0; i < 5; i++) {
+        put32(empty + 32, p->files[0].intents[0].seqid - behind[i]);
+        check_return(r, p, empty, 60);
+    }
+    put32(empty + 32, p->files[0].intents[0].seqid);
+    empty[36 + len / 4 % 12] ^= (uint8_t)(1u << len % 8);
+    check_return(r, p, empty, 60);
+}
+
+/* The server restarts, the client reclaims, and grace ends: what it held has ended. */
+static void restarted(struct sc_record *r, struct plain_record *p, const uint8_t *bytes, size_t len)
+{
+    same("restart", sc_record_restart(r), plain_record_restart(p));
+    check_return(r, p, bytes, len);
+    same("reclaim", sc_record_reclaim(r, FILE_NUMBER, CLIENT), plain_record_reclaim(p, FILE_NUMBER, CLIENT));
+    check_end(r, p);
+    check_return(r, p, bytes, len);
+}
+
+/* A stateid of the input's bytes where a request has its own, of other lengths first; a second one; and empty returns, none or so many that seqid 7, which
+ * the Linux client's requests have, is the latest, and some that are refused. */
+static void stateids(struct sc_record *r, struct plain_record *p, const uint8_t *bytes, size_t len, bool end)
+{
+    static const uint8_t fixed[12] = {0x51, 0x52};
+    static const int rises[4] = {0, 6, 1, 6};
+    size_t at = len < 36 ? len : 36, most = len - at < 25 ? len - at : 25;
+    const uint8_t *other = most < 12 || len / 4 % 8 == 7 ? fixed : bytes + 36;
+    check_stateid(r, p, CLIENT, bytes + at, most, end);
+    check_stateid(r, p, CLIENT, other, 12, end);
+    check_stateid(r, p, CLIENT, fixed, 12, end);
+    check_stateid(r, p, CLIENT, bytes + at, most, end);
+    check_stateid(r, p, CLIENT + 1, other, 12, end);
+    uint8_t empty[60] = {[7] = 4, [11] = 3, [15] = 1, [51] = 8};
+    memcpy(empty + 36, other, 12);
+    for (int i = 0; i < rises[len / 4 % 4]; i++)
+        check_return(r, p, empty, sizeof empty);
+    near(r, p, empty, len);
+}
+
 /* ---- LAYOUTRETURN ---- */
 
 /* One column of totals, and its flags: lent at an edge, and filled before the call; what plain C says of it. */
@@ -363,6 +430,7 @@ static void layoutreturn(uint8_t choice, const uint8_t *bytes, size_t len, bool 
     memset(wanted_reply, FILL, sizeof wanted_reply);
     memset(reply, FILL, room);
     set_up(&r, &p, choice);
+    stateids(&r, &p, bytes, len, end);
     uint32_t wanted = plain_record_layoutreturn(&p, FILE_NUMBER, CLIENT, bytes, len, wanted_reply, room, read.plain, read.len, written.plain, written.len,
                                                 &read.plain_over, &written.plain_over);
     uint32_t answer = sc_record_layoutreturn(&r, FILE_NUMBER, CLIENT, request, len, reply, room, read.bytes, read.len, written.bytes, written.len,
@@ -373,9 +441,17 @@ static void layoutreturn(uint8_t choice, const uint8_t *bytes, size_t len, bool 
     check_column(&read);
     check_column(&written);
     check_lists(&r, &p);
+    check_return(&r, &p, bytes, len);
     check_removed(&r, &p);
     check_end(&r, &p);
     proxies(&r, &p, bytes, len, end);
+    check_return(&r, &p, bytes, len);
+    same("open", sc_record_open(&r, FILE_NUMBER, CLIENT), plain_record_open(&p, FILE_NUMBER, CLIENT));
+    check_return(&r, &p, bytes, len);
+    stateids(&r, &p, bytes, len, end);
+    check_return(&r, &p, bytes, len);
+    check_lists(&r, &p);
+    restarted(&r, &p, bytes, len);
     if (len >= 52)
         report(request + 52, len - 52);
 }

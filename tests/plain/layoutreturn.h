@@ -3,6 +3,7 @@
 #define PLAIN_LAYOUTRETURN_H
 
 #include "bytes.h"
+#include <stdbool.h>
 #include <stddef.h>
 
 enum { BADXDR = 10036, UNKNOWN_LAYOUTTYPE = 10062, BADIOMODE = 10049, BODY_LIMIT = 4096, OPAQUE_LIMIT = 128 };
@@ -23,14 +24,28 @@ enum {
     STATISTIC_END = 144
 };
 
+/* Where the stateid of a file's return lies, and its parts. */
+enum { STATEID = 32, OTHER = 4, OTHER_LEN = 12 };
+
+static inline bool is_zeros(const uint8_t *other)
+{
+    static const uint8_t zeros[OTHER_LEN];
+    return memcmp(other, zeros, OTHER_LEN) == 0;
+}
+
+static inline bool is_ones(const uint8_t *other)
+{
+    static const uint8_t ones[OTHER_LEN] = {255, 255, 255, 255, 255, 255, 255, 255, 255, 255, 255, 255};
+    return memcmp(other, ones, OTHER_LEN) == 0;
+}
+
 /* The kind of a stateid. */
 static inline uint32_t stateid_kind(const uint8_t *s)
 {
-    static const uint8_t zeros[12], ones[12] = {255, 255, 255, 255, 255, 255, 255, 255, 255, 255, 255, 255};
     uint32_t seqid = be32(s);
-    if (memcmp(s + 4, zeros, 12) == 0)
+    if (is_zeros(s + OTHER))
         return seqid == 0 ? REQUEST_ANONYMOUS : seqid == 1 ? REQUEST_CURRENT : REQUEST_INVALID;
-    if (memcmp(s + 4, ones, 12) == 0)
+    if (is_ones(s + OTHER))
         return seqid == UINT32_MAX ? REQUEST_BYPASS : REQUEST_INVALID;
     return REQUEST_ORDINARY;
 }
@@ -62,7 +77,7 @@ static inline uint32_t request_check(const uint8_t *s, size_t n, uint32_t *kind,
         *kind = REQUEST_HANDED_ON;
         return 0;
     }
-    *kind = stateid_kind(s + 32);
+    *kind = stateid_kind(s + STATEID);
     *at = 52;
     *len = body;
     return 0;
@@ -94,7 +109,10 @@ static inline size_t past_statistic(const uint8_t *s, size_t n, size_t at)
     return n - at < STATISTIC_END || be32(s + at + STATISTIC_LOCAL) > 1 ? 0 : at + STATISTIC_END;
 }
 
-/* The reply of a status, into 24 bytes: 4 of them, or all where the status is 0. */
+/* Where the stateid of a reply lies. */
+enum { REPLY_STATEID = 8 };
+
+/* The reply of a status, into 24 bytes: 4 of them, or all where the status is 0, with a stateid of zeros. */
 static inline void reply_write(uint8_t *reply, uint32_t status)
 {
     put32(reply, status);

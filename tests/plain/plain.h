@@ -18,8 +18,11 @@ enum { PLAIN_LOWEST = 1, PLAIN_HIGHEST = 2 };
 /* What a LAYOUTRETURN that is handed on is answered. */
 #define PLAIN_HANDED_ON UINT32_MAX
 
+/* A seqid of 0 is no stateid. */
 struct plain_intent {
     uint64_t client;
+    uint8_t other[12];
+    uint32_t seqid;
     bool reclaimed;
 };
 
@@ -74,6 +77,7 @@ struct plain_epochs {
     uint32_t P##record_forget(struct plain_record *, uint64_t); \
     uint32_t P##record_add_proxy(struct plain_record *, uint64_t, const uint8_t *, size_t); \
     uint32_t P##record_remove_proxy(struct plain_record *, uint64_t); \
+    uint32_t P##record_set_up_stateid(struct plain_record *, uint64_t, uint64_t, const uint8_t *, size_t); \
     uint32_t P##record_end_grace(struct plain_record *); \
     uint32_t P##record_restart(struct plain_record *); \
     uint32_t P##record_layoutreturn(struct plain_record *, uint64_t, uint64_t, const uint8_t *, size_t, uint8_t *, size_t, uint64_t *, size_t, uint64_t *, size_t, \

@@ -77,7 +77,7 @@ uint32_t FN(record_open)(struct plain_record *r, uint64_t file, uint64_t client)
         return 28;
     if (f->marked && f->intent_count == 0)
         r->offered--;
-    f->intents[f->intent_count++] = (struct plain_intent){client, false};
+    f->intents[f->intent_count++] = (struct plain_intent){.client = client};
     return 0;
 }
 
@@ -170,6 +170,35 @@ uint32_t FN(record_remove_proxy)(struct plain_record *r, uint64_t file)
     return 0;
 }
 
+/* Whether an intent of any file has this other. */
+static bool in_use(const struct plain_record *r, const uint8_t *other)
+{
+    for (const struct plain_file *f = r->files; f < r->files + r->count; f++)
+        for (size_t i = 0; i < f->intent_count; i++)
+            if (memcmp(f->intents[i].other, other, OTHER_LEN) == 0 && f->intents[i].seqid != 0)
+                return true;
+    return false;
+}
+
+uint32_t FN(record_set_up_stateid)(struct plain_record *r, uint64_t file, uint64_t client, const uint8_t *other, size_t len)
+{
+    if (r->grace)
+        return 10013;
+    struct plain_file *f = find(r, file);
+    if (f == NULL)
+        return 70;
+    struct plain_intent *i = intent(f, client);
+    if (i == NULL)
+        return 10025;
+    if (i->seqid != 0)
+        return 17;
+    if (len != OTHER_LEN || is_zeros(other) || is_ones(other) || in_use(r, other))
+        return 22;
+    memcpy(i->other, other, OTHER_LEN);
+    i->seqid = 1;
+    return 0;
+}
+
 uint32_t FN(record_end_grace)(struct plain_record *r)
 {
     if (!r->grace)
@@ -193,8 +222,10 @@ uint32_t FN(record_end_grace)(struct plain_record *r)
 uint32_t FN(record_restart)(struct plain_record *r)
 {
     for (struct plain_file *f = r->files; f < r->files + r->count; f++) {
-        for (size_t i = 0; i < f->intent_count; i++)
+        for (size_t i = 0; i < f->intent_count; i++) {
             f->intents[i].reclaimed = false;
+            f->intents[i].seqid = 0;
+        }
     }
     r->grace = true;
     return 0;
@@ -207,11 +238,12 @@ struct sums {
     uint32_t over;
 };
 
-/* What a report says of a file. */
+/* What a report says of a file, and whose stateid its return raised. */
 struct heard {
     uint8_t blamed;
     bool unknown;
     struct sums read, written;
+    const struct plain_intent *raised;
 };
 
 static void add(struct sums *s, int place, uint64_t n)
@@ -272,6 +304,19 @@ static void mark(struct plain_record *r, struct plain_file *f)
     f->marked = true;
 }
 
+/* Step 4 of an ordinary return: the status, and the intent whose stateid it names. */
+static uint32_t named(struct plain_file *f, uint64_t client, const uint8_t *stateid, struct plain_intent **holder)
+{
+    if (f == NULL)
+        return 70;
+    struct plain_intent *i = intent(f, client);
+    if (i == NULL || i->seqid == 0 || memcmp(i->other, stateid + OTHER, OTHER_LEN) != 0)
+        return 10025;
+    uint32_t seqid = be32(stateid), behind = i->seqid - seqid;
+    *holder = i;
+    return seqid == 0 || behind == 0 ? 0 : behind < UINT32_C(1) << 31 ? 10024 : 10025;
+}
+
 /* Steps 1 to 7: the status, or PLAIN_HANDED_ON. What is heard counts where the status is 0. */
 static uint32_t returned(struct plain_record *r, uint64_t file, uint64_t client, const uint8_t *s, size_t n, struct heard *h)
 {
@@ -284,23 +329,28 @@ static uint32_t returned(struct plain_record *r, uint64_t file, uint64_t client,
         return PLAIN_HANDED_ON;
     if (kind == REQUEST_ANONYMOUS && r->old)
         return 10025;
-    if (!r->grace)
-        return kind == REQUEST_ANONYMOUS ? 10033 : kind == REQUEST_BYPASS || kind == REQUEST_INVALID ? 10025 : PLAIN_HANDED_ON;
-    if (kind != REQUEST_ANONYMOUS)
+    if (r->grace && kind != REQUEST_ANONYMOUS)
         return 10013;
+    if (!r->grace && kind != REQUEST_ORDINARY)
+        return kind == REQUEST_ANONYMOUS ? 10033 : kind == REQUEST_CURRENT ? PLAIN_HANDED_ON : 10025;
     struct plain_file *f = find(r, file);
-    status = report(s + at, len, f, h);
+    struct plain_intent *i = NULL;
+    if (kind == REQUEST_ORDINARY && (status = named(f, client, s + STATEID, &i)) != 0)
+        return status;
+    status = report(s + at, len, r->old ? NULL : f, h);
     if (status != 0)
         return status;
     if (f == NULL)
         return 70;
-    if (intent(f, client) == NULL)
+    if (i == NULL && intent(f, client) == NULL)
         return 10034;
-    if (h->unknown) {
+    if (!r->old && (h->unknown || h->blamed != 0)) {
+        f->blamed |= h->unknown ? 0 : h->blamed;
         mark(r, f);
-    } else if (h->blamed != 0) {
-        f->blamed |= h->blamed;
-        mark(r, f);
+    }
+    if (i != NULL) {
+        i->seqid = i->seqid == UINT32_MAX ? 1 : i->seqid + 1;
+        h->raised = i;
     }
     return 0;
 }
@@ -313,6 +363,10 @@ static uint32_t replied(struct plain_record *r, uint64_t file, uint64_t client, 
     uint32_t status = returned(r, file, client, request, request_len, h);
     if (status != PLAIN_HANDED_ON)
         reply_write(reply, status);
+    if (h->raised != NULL) {
+        put32(reply + REPLY_STATEID, h->raised->seqid);
+        memcpy(reply + REPLY_STATEID + OTHER, h->raised->other, OTHER_LEN);
+    }
     return status;
 }
 

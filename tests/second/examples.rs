@@ -30,6 +30,23 @@ fn report(device: &str, status: u32) -> String {
     format!("layoutreturn 7 1 24 {request}")
 }
 
+/// The layoutreturn line of client 1 for file 7 with a stateid and a body.
+fn returned(seqid: u32, other: &str, body: &str) -> String {
+    let length = body.len() / 2;
+    format!("layoutreturn 7 1 24 {:08x}{:08x}{:08x}{:08x}{:016x}{:016x}{seqid:08x}{other}{length:08x}{body}", 0, 4, 3, 1, 0, u64::MAX)
+}
+
+/// What is printed for a return that is accepted: the reply with this stateid.
+fn raised(seqid: u32, other: &str) -> String {
+    format!("0 {:08x}{:08x}{seqid:08x}{other}", 0, 1)
+}
+
+const X: &str = "515151515151515151515151";
+const Y: &str = "515151515151515151515152";
+/// A body without records, and one that ends inside its counts.
+const EMPTY: &str = "0000000000000000";
+const CUT: &str = "00000000";
+
 fn registered() -> String {
     format!("register 7 {A}{B}")
 }
@@ -232,6 +249,61 @@ fn counts_of_the_lists() {
     assert_eq!(last(&[&reported[..], &["counts"]].concat()), "1 0");
     assert_eq!(last(&[&reported[..], &["end", "counts"]].concat()), "1 1");
     assert_eq!(last(&["counts 1"]), "? 1");
+}
+
+/// Ticket 13: each accepted return raises the seqid; an older one gets 10024, a newer one or another's 10025; 0 is the latest.
+#[test]
+fn ordinary_returns() {
+    let history = [&registered(), "open 7 1", "open 7 2", &format!("stateid 7 1 {X}")];
+    let and = |more: &[&str]| last(&[&history[..], more].concat());
+    let of = |seqid: u32| returned(seqid, X, EMPTY);
+    assert_eq!(and(&[&of(1)]), raised(2, X));
+    assert_eq!(and(&[&of(0), &of(0)]), raised(3, X));
+    assert_eq!(and(&[&of(1), &of(1)]), "10024 00002728");
+    assert_eq!(and(&[&of(2)]), "10025 00002729");
+    assert_eq!(and(&[&of(u32::MAX)]), "10024 00002728");
+    assert_eq!(and(&[&of(0x8000_0002)]), "10024 00002728");
+    assert_eq!(and(&[&of(0x8000_0001)]), "10025 00002729");
+    assert_eq!(and(&[&returned(1, Y, EMPTY)]), "10025 00002729");
+    assert_eq!(and(&[&returned(1, X, CUT)]), "10036 00002734");
+    assert_eq!(and(&[&returned(1, X, CUT), &of(1)]), raised(2, X));
+    assert_eq!(and(&[&of(1).replace("layoutreturn 7 1", "layoutreturn 7 2")]), "10025 00002729");
+    assert_eq!(and(&[&of(1).replace("layoutreturn 7", "layoutreturn 8")]), "70 00000046");
+    for end in [&["close 7 1", "open 7 1"][..], &["restart", "reclaim 7 1", "end"]] {
+        assert_eq!(and(&[end, &[&of(0)]].concat()), "10025 00002729");
+        assert_eq!(and(&[end, &[&format!("stateid 7 1 {X}"), &of(1)]].concat()), raised(2, X));
+    }
+    assert_eq!(and(&["restart", &of(1)]), "10013 0000271d");
+}
+
+/// Ticket 13: a report out of grace marks and blames; in an old record it is read for form only.
+#[test]
+fn ordinary_reports() {
+    let reported = report(A, 5).replace(&format!("{:016x}{:032x}{:08x}", u64::MAX, 0, 68), &format!("{:016x}{:08x}{X}{:08x}", u64::MAX, 0, 68));
+    let set_up = format!("stateid 7 1 {X}");
+    let history = [&registered(), "open 7 1", &set_up, &reported];
+    assert_eq!(last(&history), raised(2, X));
+    assert_eq!(last(&[&history[..], &["resilver 1 1 lowest"]].concat()), "0 1 7:1");
+    assert_eq!(last(&[&["fresh old"], &history[..]].concat()), raised(2, X));
+    assert_eq!(last(&[&["fresh old"], &history[..], &["resilver 1 1 lowest"]].concat()), "0 0");
+}
+
+/// Ticket 13: the refusals of a set-up.
+#[test]
+fn set_ups() {
+    let history = [&registered(), "open 7 1", "open 7 2"];
+    let and = |more: &[&str]| last(&[&history[..], more].concat());
+    let (x, of_two) = (format!("stateid 7 1 {X}"), format!("stateid 7 2 {X}"));
+    assert_eq!(and(&["restart", &x]), "10013");
+    assert_eq!(and(&[&format!("stateid 8 1 {X}")]), "70");
+    assert_eq!(and(&[&format!("stateid 7 3 {X}")]), "10025");
+    assert_eq!(and(&[&x]), "0");
+    assert_eq!(and(&[&x, "stateid 7 1 -"]), "17");
+    assert_eq!(and(&[&x, &of_two]), "22");
+    assert_eq!(and(&[&x, "close 7 1", &of_two]), "0");
+    assert_eq!(and(&["stateid 7 1 -"]), "22");
+    assert_eq!(and(&["stateid 7 1 000000000000000000000000"]), "22");
+    assert_eq!(and(&["stateid 7 1 ffffffffffffffffffffffff"]), "22");
 }
 
 /// Ticket 2: one client's word does not stand for another's, and it keeps its own intent.

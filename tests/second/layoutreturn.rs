@@ -1,10 +1,20 @@
-//! LAYOUTRETURN requests (01, "LAYOUTRETURN"): reading a request and a report, and steps 1 to 5. Steps 6 and 7 are the ledger's.
+//! LAYOUTRETURN requests (01, "LAYOUTRETURN"): reading a request and a report, and steps 1 to 5. What step 4 asks of an ordinary stateid (Ticket 13), and steps 6 and 7, are the ledger's.
 
 use crate::ledger::Edition;
 use crate::refuse_if;
 
 /// A device id.
 pub type Device = [u8; 16];
+
+/// The part of a stateid that names it.
+pub type Name = [u8; 12];
+
+/// A stateid: its seqid, a number, and the twelve bytes after it, which RFC 8881 calls its other.
+#[derive(Clone, Copy, PartialEq, Eq)]
+pub struct Stateid {
+    pub seqid: u32,
+    pub other: Name,
+}
 
 /// What a LAYOUTRETURN is answered, if not 0.
 pub enum Other {
@@ -32,11 +42,8 @@ pub enum Kind {
 }
 
 impl Kind {
-    /// By the seqid, a number, and the twelve bytes after it.
-    fn of(stateid: [u8; 16]) -> Kind {
-        let (seqid, other) = stateid.split_at(4);
-        let number = seqid.iter().fold(0u32, |n, byte| n << 8 | u32::from(*byte));
-        match (number, other.iter().all(|byte| *byte == 0), other.iter().all(|byte| *byte == 0xff)) {
+    fn of(stateid: Stateid) -> Kind {
+        match (stateid.seqid, stateid.other == [0; 12], stateid.other == [0xff; 12]) {
             (0, true, _) => Kind::Anonymous,
             (1, true, _) => Kind::Current,
             (u32::MAX, _, true) => Kind::Bypass,
@@ -73,6 +80,7 @@ pub struct Statistic {
 const BADXDR: u32 = 10_036;
 const UNKNOWN_LAYOUTTYPE: u32 = 10_062;
 const BADIOMODE: u32 = 10_049;
+pub const OLD_STATEID: u32 = 10_024;
 pub const BAD_STATEID: u32 = 10_025;
 pub const GRACE: u32 = 10_013;
 pub const NO_GRACE: u32 = 10_033;
@@ -132,7 +140,7 @@ impl<'a> Xdr<'a> {
 struct Request {
     layout_type: u32,
     iomode: u32,
-    one_file: Option<([u8; 16], Vec<u8>)>,
+    one_file: Option<(Stateid, Vec<u8>)>,
 }
 
 fn read_request(request: &[u8]) -> Option<Request> {
@@ -142,7 +150,8 @@ fn read_request(request: &[u8]) -> Option<Request> {
     let one_file = match return_type {
         1 => {
             let (_offset, _length) = (xdr.hyper()?, xdr.hyper()?);
-            Some((xdr.opaque()?, xdr.counted_opaque(BODY_LIMIT)?))
+            let stateid = Stateid { seqid: xdr.unsigned()?, other: xdr.opaque()? };
+            Some((stateid, xdr.counted_opaque(BODY_LIMIT)?))
         }
         2 | 3 => None,
         _ => return None,
@@ -208,7 +217,7 @@ fn read_statistic(xdr: &mut Xdr) -> Option<Statistic> {
 }
 
 /// Step 5: a body that ends with its statistics, or `None` where it is malformed.
-fn read_report(body: &[u8]) -> Option<Report> {
+fn well_formed(body: &[u8]) -> Option<Report> {
     let mut xdr = Xdr::over(body);
     let errors = read_errors(&mut xdr)?;
     let (records, mut statistics) = (xdr.unsigned()?, Vec::new());
@@ -218,27 +227,41 @@ fn read_report(body: &[u8]) -> Option<Report> {
     xdr.end().map(|()| Report { errors, statistics })
 }
 
-/// Steps 1 to 3: the kind of stateid and the body of a file's return, or the answer.
-pub fn check(request: &[u8]) -> Result<(Kind, Vec<u8>), Other> {
+/// Step 5.
+pub fn read_report(body: &[u8]) -> Result<Report, u32> {
+    well_formed(body).ok_or(BADXDR)
+}
+
+/// Steps 1 to 3: the stateid, its kind and the body of a file's return, or the answer.
+pub fn check(request: &[u8]) -> Result<(Kind, Stateid, Vec<u8>), Other> {
     let request = read_request(request).ok_or(BADXDR)?;
     refuse_if(request.layout_type != FLEX_FILES, UNKNOWN_LAYOUTTYPE)?;
     refuse_if(!(1..=3).contains(&request.iomode), BADIOMODE)?;
     let (stateid, body) = request.one_file.ok_or(Other::HandedOn)?;
-    Ok((Kind::of(stateid), body))
+    Ok((Kind::of(stateid), stateid, body))
 }
 
-/// Steps 1 to 5: the report that goes on to step 6, or the answer.
-pub fn judge(edition: Edition, in_grace: bool, room: usize, request: &[u8]) -> Result<Report, Other> {
+/// A file's return that goes on behind what step 4 says of its kind, with its body.
+pub enum Return {
+    /// In grace, with the all-zero stateid.
+    Anonymous(Vec<u8>),
+    /// Ticket 13: out of grace, with a stateid that the ledger has to know.
+    Ordinary(Stateid, Vec<u8>),
+}
+
+/// Steps 1 to 3, and step 4 as far as edition, phase and kind decide it.
+pub fn judge(edition: Edition, in_grace: bool, room: usize, request: &[u8]) -> Result<Return, Other> {
     if room < 24 {
         return Err(Other::NoRoom);
     }
-    let (kind, body) = check(request)?;
+    let (kind, stateid, body) = check(request)?;
     refuse_if(edition == Edition::Old && kind == Kind::Anonymous, BAD_STATEID)?;
     match (in_grace, kind) {
-        (true, Kind::Anonymous) => Ok(read_report(&body).ok_or(BADXDR)?),
+        (true, Kind::Anonymous) => Ok(Return::Anonymous(body)),
         (true, _) => Err(GRACE.into()),
         (false, Kind::Anonymous) => Err(NO_GRACE.into()),
         (false, Kind::Bypass | Kind::Invalid) => Err(BAD_STATEID.into()),
-        (false, Kind::Current | Kind::Ordinary) => Err(Other::HandedOn),
+        (false, Kind::Current) => Err(Other::HandedOn),
+        (false, Kind::Ordinary) => Ok(Return::Ordinary(stateid, body)),
     }
 }

@@ -1,7 +1,7 @@
 //! The recovery record as its ledger (01, "The recovery record" and "The ledger"): rows by file number, and the calls on them.
 //! Each call is refused with its number, and then changes nothing, or is accepted.
 
-use crate::layoutreturn::{self, Device, Other, Report, BAD_STATEID, GRACE, NO_GRACE};
+use crate::layoutreturn::{self, read_report, Device, Name, Other, Report, Return, Stateid, BAD_STATEID, GRACE, NO_GRACE, OLD_STATEID};
 use crate::refuse_if;
 use std::collections::{BTreeMap, BTreeSet};
 
@@ -28,6 +28,8 @@ struct Row {
     proxy: Option<Device>,
     intents: BTreeSet<u64>,
     reclaimed: BTreeSet<u64>,
+    /// Ticket 13: the layout stateids of clients with an intent, as they are now.
+    stateids: BTreeMap<u64, Stateid>,
     marked: bool,
     blamed: BTreeSet<usize>,
 }
@@ -62,6 +64,18 @@ impl Row {
         self.marked |= !lost.is_empty();
         for client in lost {
             self.intents.remove(&client);
+            self.stateids.remove(&client);
+        }
+    }
+
+    /// Ticket 13, step 4: the stateid that this client holds, if the request's is it.
+    fn holds(&self, client: u64, given: Stateid) -> Result<Stateid, u32> {
+        let latest = *self.stateids.get(&client).ok_or(BAD_STATEID)?;
+        refuse_if(latest.other != given.other, BAD_STATEID)?;
+        match age(latest.seqid, given.seqid) {
+            Age::Newer => Err(BAD_STATEID),
+            Age::Older => Err(OLD_STATEID),
+            Age::Latest => Ok(latest),
         }
     }
 
@@ -89,6 +103,30 @@ impl Row {
         }
         totals
     }
+}
+
+/// Ticket 13: what a seqid is beside the latest one.
+enum Age {
+    Latest,
+    Older,
+    Newer,
+}
+
+/// On the circle of all 2^32 seqids, zero among them: so many steps from the one that is given on to the latest. 0 asks for the latest.
+fn age(latest: u32, given: u32) -> Age {
+    const CIRCLE: u64 = 1 << 32;
+    let behind = (u64::from(latest) + CIRCLE - u64::from(given)) % CIRCLE;
+    match behind {
+        _ if given == 0 => Age::Latest,
+        0 => Age::Latest,
+        1..=0x7fff_ffff => Age::Older,
+        _ => Age::Newer,
+    }
+}
+
+/// Ticket 13: by one, and after the last one comes 1.
+fn raised(seqid: u32) -> u32 {
+    seqid.checked_add(1).unwrap_or(1)
 }
 
 /// By place, all bytes that one request's statistics say were read and written.
@@ -171,6 +209,7 @@ impl Ledger {
         let row = self.row(file)?;
         refuse_if(!row.intents.contains(&client), BAD_STATEID)?;
         refuse_if(in_grace && !row.reclaimed.contains(&client), BAD_STATEID)?;
+        row.stateids.remove(&client);
         row.intents.remove(&client);
         Ok(())
     }
@@ -222,14 +261,53 @@ impl Ledger {
     pub fn restart(&mut self) -> Result<(), u32> {
         self.in_grace = true;
         self.rows.values_mut().for_each(|row| row.reclaimed.clear());
+        self.rows.values_mut().for_each(|row| row.stateids.clear());
         Ok(())
     }
 
-    pub fn layoutreturn(&mut self, file: u64, client: u64, room: usize, request: &[u8]) -> Result<Totals, Other> {
-        let report = layoutreturn::judge(self.edition, self.in_grace, room, request)?;
+    /// Ticket 13: a stateid for a client's intent.
+    pub fn set_up_stateid(&mut self, file: u64, client: u64, other: &[u8]) -> Result<(), u32> {
+        self.not_in_grace()?;
+        let used: Vec<Name> = self.rows.values().flat_map(|row| row.stateids.values()).map(|stateid| stateid.other).collect();
+        let row = self.row(file)?;
+        row.intents.get(&client).ok_or(BAD_STATEID)?;
+        refuse_if(row.stateids.contains_key(&client), EXIST)?;
+        let other: Name = other.try_into().map_err(|_| INVAL)?;
+        refuse_if(other == [0; 12] || other == [0xff; 12], INVAL)?;
+        refuse_if(used.contains(&other), INVAL)?;
+        row.stateids.insert(client, Stateid { seqid: 1, other });
+        Ok(())
+    }
+
+    /// A LAYOUTRETURN: the stateid of its reply, and its totals.
+    pub fn layoutreturn(&mut self, file: u64, client: u64, room: usize, request: &[u8]) -> Result<(Stateid, Totals), Other> {
+        match layoutreturn::judge(self.edition, self.in_grace, room, request)? {
+            Return::Anonymous(body) => Ok((Stateid { seqid: 0, other: [0; 12] }, self.anonymous(file, client, &body)?)),
+            Return::Ordinary(stateid, body) => Ok(self.ordinary(file, client, stateid, &body)?),
+        }
+    }
+
+    /// Steps 5 to 7 in grace.
+    fn anonymous(&mut self, file: u64, client: u64, body: &[u8]) -> Result<Totals, u32> {
+        let report = read_report(body)?;
         let row = self.row(file)?;
         refuse_if(!row.intents.contains(&client), RECLAIM_BAD)?;
         Ok(row.take(&report))
+    }
+
+    /// Ticket 13: the rest of step 4, and steps 5 and 7. In an old record the body is read for form only.
+    fn ordinary(&mut self, file: u64, client: u64, given: Stateid, body: &[u8]) -> Result<(Stateid, Totals), u32> {
+        let edition = self.edition;
+        let row = self.row(file)?;
+        let latest = row.holds(client, given)?;
+        let report = read_report(body)?;
+        let next = Stateid { seqid: raised(latest.seqid), ..latest };
+        row.stateids.insert(client, next);
+        let totals = match edition {
+            Edition::Current => row.take(&report),
+            Edition::Old => Totals::default(),
+        };
+        Ok((next, totals))
     }
 
     /// The files that need repair, each with its source.
@@ -250,5 +328,26 @@ impl Ledger {
     fn marked_rows(&self, direction: Direction, wanted: impl Fn(&Row) -> bool) -> Vec<(u64, u8)> {
         let rows = self.rows.iter().filter(|(_, row)| row.marked && wanted(row));
         rows.map(|(file, row)| (*file, row.source(direction))).collect()
+    }
+}
+
+#[cfg(test)]
+mod tests {
+    use super::*;
+
+    /// What no list of calls reaches in a reasonable time.
+    #[test]
+    fn seqids_near_the_ends() {
+        assert_eq!([raised(1), raised(u32::MAX - 1), raised(u32::MAX)], [2, u32::MAX, 1]);
+        let half = 1 << 31;
+        for latest in [1, 2, half - 1, half, half + 1, u32::MAX - 1, u32::MAX] {
+            let of = |behind: u32| age(latest, latest.wrapping_sub(behind));
+            assert!(matches!([of(0), age(latest, 0)], [Age::Latest, Age::Latest]));
+            assert!(latest == 1 || matches!(of(1), Age::Older));
+            assert!(latest == half - 1 || matches!(of(half - 1), Age::Older));
+            assert!(latest == half || matches!(of(half), Age::Newer));
+            assert!(latest == half + 1 || matches!(of(half + 1), Age::Newer));
+            assert!(latest == u32::MAX || matches!(of(u32::MAX), Age::Newer));
+        }
     }
 }

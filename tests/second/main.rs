@@ -14,7 +14,7 @@ mod examples;
 
 use epochs::Epochs;
 use layout::{list, Extent, Kind};
-use layoutreturn::Other;
+use layoutreturn::{Other, Stateid};
 use ledger::{Edition, Ledger, Totals};
 use std::io::{self, BufRead, Write};
 use words::{bytes, direction, node, number, room, split, MAX_BODY, MAX_LINE, MAX_LIST, MAX_REQUEST};
@@ -56,12 +56,16 @@ impl Desk {
             ("forget", [f]) => Some(answered(self.ledger.forget(number(f)?))),
             ("addproxy", [f, d]) => Some(answered(self.ledger.add_proxy(number(f)?, &bytes(d, MAX_REQUEST)?))),
             ("removeproxy", [f]) => Some(answered(self.ledger.remove_proxy(number(f)?))),
+            ("stateid", [f, c, o]) => {
+                let (file, client, other) = (number(f)?, number(c)?, bytes(o, MAX_REQUEST)?);
+                Some(answered(self.ledger.set_up_stateid(file, client, &other)))
+            }
             ("end", []) => Some(answered(self.ledger.end_of_grace())),
             ("restart", []) => Some(answered(self.ledger.restart())),
             ("layoutreturn", [f, c, r, q]) => {
                 let (file, client, room, request) = (number(f)?, number(c)?, room(r)?, bytes(q, MAX_REQUEST)?);
                 let call = self.ledger.layoutreturn(file, client, room, &request);
-                self.totals = *call.as_ref().unwrap_or(&Totals::default());
+                self.totals = call.as_ref().map_or(Totals::default(), |(_, totals)| *totals);
                 Some(said(call))
             }
             ("request", [q]) => Some(asked(&bytes(q, MAX_REQUEST)?)),
@@ -115,10 +119,13 @@ fn answered(call: Result<(), u32>) -> String {
     call.err().unwrap_or(0).to_string()
 }
 
-/// The line for a LAYOUTRETURN: the number and the bytes of the reply that were written.
-fn said(call: Result<Totals, Other>) -> String {
+/// The line for a LAYOUTRETURN: the number and the bytes of the reply that were written, for 0 with a stateid.
+fn said(call: Result<(Stateid, Totals), Other>) -> String {
     match call {
-        Ok(_) => format!("0 {:08x}{:08x}{:032x}", 0, 1, 0),
+        Ok((stateid, _)) => {
+            let other: String = stateid.other.iter().map(|byte| format!("{byte:02x}")).collect();
+            format!("0 {:08x}{:08x}{:08x}{other}", 0, 1, stateid.seqid)
+        }
         Err(Other::Status(status)) => format!("{status} {status:08x}"),
         Err(Other::NoRoom) => "28".to_string(),
         Err(Other::HandedOn) => "handed on".to_string(),
@@ -128,7 +135,7 @@ fn said(call: Result<Totals, Other>) -> String {
 /// The line for a request: what it is, and where the body of a file's return lies, behind 52 bytes.
 fn asked(request: &[u8]) -> String {
     match layoutreturn::check(request) {
-        Ok((kind, body)) => format!("{} 52 {}", kind.name(), body.len()),
+        Ok((kind, _, body)) => format!("{} 52 {}", kind.name(), body.len()),
         Err(Other::Status(status)) => format!("refused {status}"),
         Err(_) => "handed on".to_string(),
     }

@@ -2,7 +2,7 @@
 
 use crate::ledger::Direction;
 
-/// Bytes of a LAYOUTRETURN request, a mirror list or a proxy's device.
+/// Bytes of a LAYOUTRETURN request, a mirror list, a proxy's device or a stateid's other.
 pub const MAX_REQUEST: usize = 16_384;
 /// Bytes of a layout body or a commit list.
 pub const MAX_BODY: usize = 65_536;

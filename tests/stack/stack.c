@@ -11,7 +11,7 @@ enum { STACK = 256 * 1024, FILES = 64, LIMIT = 2048 };
 static _Alignas(64) unsigned char stack[STACK];
 static ucontext_t here, there;
 static struct sc_record record, before;
-static uint8_t mirrors[64], proxy[16], request[52 + 4 + 60 + 4], bulk[16], reply[24], sources[FILES];
+static uint8_t mirrors[64], proxy[16], other[12], request[52 + 4 + 60 + 4], ordinary[sizeof request], bulk[16], reply[24], sources[FILES];
 static uint64_t files[FILES], count, waiting, waiting_offered, read_bytes[SC_PLACES], written_bytes[SC_PLACES];
 static uint32_t read_over, written_over;
 static volatile uint32_t answer;
@@ -36,6 +36,9 @@ static void forget(void) { answer = sc_record_forget(&record, 5); }
 static void add_proxy(void) { answer = sc_record_add_proxy(&record, 13, proxy, sizeof proxy); }
 static void add_mirror(void) { answer = sc_record_add_proxy(&record, 13, mirrors + 48, 16); }
 static void remove_proxy(void) { answer = sc_record_remove_proxy(&record, 13); }
+static void set_up(void) { answer = sc_record_set_up_stateid(&record, 7, 1, other, sizeof other); }
+static void set_up_again(void) { answer = sc_record_set_up_stateid(&record, 10, 1, other, sizeof other); }
+static void returns(void) { answer = layoutreturn(ordinary, sizeof ordinary); }
 static void restart(void) { answer = sc_record_restart(&record); }
 static void reclaim(void) { answer = sc_record_reclaim(&record, 7, 1); }
 static void reports(void) { answer = layoutreturn(request, sizeof request); }
@@ -91,6 +94,7 @@ static void start(void) { sc_epochs_fresh(&epochs); sc_epochs_join(&epochs, 3); 
 static const struct { const char *what; void (*call)(void); uint32_t answer; } calls[] = {
     {"register", enter, 0}, {"open", open_file, 0}, {"close", close_file, 0}, {"forget", forget, 0},
     {"add proxy", add_proxy, 0}, {"add proxy, a mirror", add_mirror, SC_INVAL}, {"remove proxy", remove_proxy, 0}, {"remove proxy, none", remove_proxy, SC_NOENT},
+    {"stateid", set_up, 0}, {"stateid, in use", set_up_again, SC_INVAL}, {"LAYOUTRETURN, ordinary", returns, 0}, {"LAYOUTRETURN, older", returns, SC_OLD_STATEID},
     {"restart", restart, 0},
     {"reclaim", reclaim, 0}, {"LAYOUTRETURN", reports, 0}, {"LAYOUTRETURN, handed on", handed_on, SC_HANDED_ON},
     {"end of grace", end_grace, 0}, {"resilver list", resilver, 0}, {"offered for copying", offered, 0},
@@ -135,8 +139,8 @@ static void put32(uint8_t *p, uint32_t x)
         p[i] = (uint8_t)(x >> (24 - 8 * i));
 }
 
-/* files 7, 10, 13 .. with four mirrors each, 7 with a proxy too; seven clients have opened 7, one of them 10; a request with an error of mirror 1, and one
- * for all files */
+/* files 7, 10, 13 .. with four mirrors each, 7 with a proxy too; seven clients have opened 7, one of them 10; a request with an error of mirror 1, the
+ * same with a stateid, and one for all files */
 static void prepare(void)
 {
     for (int i = 0; i < 4; i++)
@@ -157,6 +161,10 @@ static void prepare(void)
     put32(request + 56 + 32, 1);
     memcpy(request + 56 + 36, mirrors + 16, 16);
     put32(request + 56 + 52, 5);
+    memset(other, 0x55, sizeof other);
+    memcpy(ordinary, request, sizeof ordinary);
+    put32(ordinary + 32, 1);
+    memcpy(ordinary + 36, other, sizeof other);
     memcpy(bulk, request, sizeof bulk);
     put32(bulk + 12, 2);
 }

@@ -6,7 +6,8 @@ use crate::commits::commit;
 use crate::lines::{at_the_limits, dressed, spoilt};
 use crate::merges::{merge_list, merge_size};
 use crate::random::{hex, Device, Random};
-use crate::requests::request;
+use crate::requests::{request, request_of};
+use crate::stateids::{names, Held, Name};
 use std::io::{self, Write};
 
 pub struct Campaigns<W: Write> {
@@ -15,6 +16,7 @@ pub struct Campaigns<W: Write> {
     calls: u64,
     /// Whether a console asks for the counts after each call.
     polled: bool,
+    held: Held,
 }
 
 /// The numbers that one campaign's calls draw from.
@@ -22,6 +24,7 @@ struct Pool {
     files: Vec<u64>,
     clients: Vec<u64>,
     devices: Vec<Device>,
+    names: Vec<Name>,
 }
 
 type Done = io::Result<()>;
@@ -30,7 +33,7 @@ type Done = io::Result<()>;
 const ONCE_MORE: &str = "# once more";
 
 /// How often each call of a walk is made.
-const WALK: [(u64, &str); 15] = [
+const WALK: [(u64, &str); 17] = [
     (9, "register"),
     (16, "open"),
     (11, "reclaim"),
@@ -42,6 +45,8 @@ const WALK: [(u64, &str); 15] = [
     (3, "end"),
     (3, "restart"),
     (20, "layoutreturn"),
+    (10, "stateid"),
+    (16, "ordinary"),
     (7, "resilver"),
     (6, "offered"),
     (8, "counts"),
@@ -50,7 +55,7 @@ const WALK: [(u64, &str); 15] = [
 
 impl<W: Write> Campaigns<W> {
     pub fn new(seed: u64, out: W) -> Campaigns<W> {
-        Campaigns { r: Random::new(seed), out, calls: 0, polled: false }
+        Campaigns { r: Random::new(seed), out, calls: 0, polled: false, held: Held::default() }
     }
 
     fn raw(&mut self, line: &[u8]) -> Done {
@@ -61,6 +66,7 @@ impl<W: Write> Campaigns<W> {
 
     /// Writes a call, now and then in other dress, or with a spoilt one before it that must change nothing; and what a console asks for after it.
     fn call(&mut self, line: &str) -> Done {
+        self.held.note(line);
         match self.r.below(200) {
             0 => {
                 let dressed = dressed(&mut self.r, line);
@@ -92,7 +98,7 @@ impl<W: Write> Campaigns<W> {
     }
 
     fn pool(&mut self, files: usize, clients: usize, devices: usize) -> Pool {
-        Pool { files: self.r.numbers(files), clients: self.r.numbers(clients), devices: self.r.devices(devices) }
+        Pool { files: self.r.numbers(files), clients: self.r.numbers(clients), devices: self.r.devices(devices), names: names(&mut self.r) }
     }
 
     /// A mirror list: mostly good, else empty, too long, with a device twice, or not of whole ids.
@@ -162,6 +168,32 @@ impl<W: Write> Campaigns<W> {
         Ok(())
     }
 
+    /// A stateid is set up, mostly for an intent that has none.
+    fn set_up_stateid(&mut self, pool: &Pool, file: u64, client: u64) -> Done {
+        let (file, client) = self.held.without(&mut self.r, (file, client));
+        let name = hex(&self.held.name(&mut self.r, &pool.names));
+        self.call(&format!("stateid {file} {client} {name}"))
+    }
+
+    /// A return with an ordinary stateid, mostly of a client that holds one, which raises it if the request is sound.
+    fn ordinary(&mut self, pool: &Pool, file: u64, client: u64) -> Done {
+        if self.held.in_grace() && self.r.percent(75) {
+            return self.layoutreturn(pool, file, client);
+        }
+        let (file, client) = self.held.holder(&mut self.r, (file, client));
+        let stateid = self.held.stateid(&mut self.r, (file, client), &pool.names);
+        let room = self.r.weighted(&[(95, 24), (1, 0), (1, 23), (2, 25), (1, 100)]);
+        let (request, sound) = request_of(&mut self.r, &pool.devices, &stateid, 40);
+        self.call(&format!("layoutreturn {file} {client} {room} {}", hex(&request)))?;
+        if sound && room >= 24 {
+            self.held.returned((file, client), &stateid);
+        }
+        if self.r.percent(40) {
+            self.call("totals")?;
+        }
+        Ok(())
+    }
+
     /// A listing into slices that have room for about so many: from one direction, or from both, one right after the other.
     fn listing(&mut self, name: &str, about: u64) -> Done {
         let room = |r: &mut Random| r.pick(&[0, 1, 2, about.saturating_sub(1), about, about, about + 1, 64, 64, 64, 100]);
@@ -189,6 +221,9 @@ impl<W: Write> Campaigns<W> {
         match self.r.weighted(&WALK) {
             "register" => self.register(pool, file),
             "layoutreturn" => self.layoutreturn(pool, file, client),
+            "stateid" if self.held.in_grace() && self.r.percent(75) => self.call(&format!("reclaim {file} {client}")),
+            "stateid" => self.set_up_stateid(pool, file, client),
+            "ordinary" => self.ordinary(pool, file, client),
             "addproxy" => self.add_proxy(pool, file),
             name @ ("open" | "reclaim" | "close") => self.call(&format!("{name} {file} {client}")),
             name @ ("repaired" | "forget" | "removeproxy") => self.call(&format!("{name} {file}")),
@@ -206,6 +241,8 @@ impl<W: Write> Campaigns<W> {
             4 | 5 => self.call(&format!("close {file} {client}")),
             6 => self.listing("resilver", 2),
             7 if self.r.percent(20) => self.call("restart"),
+            8 if self.r.percent(30) => self.ordinary(pool, file, client),
+            8 if self.r.percent(20) => self.set_up_stateid(pool, file, client),
             _ => self.layoutreturn(pool, file, client),
         }
     }
@@ -441,6 +478,48 @@ impl<W: Write> Campaigns<W> {
         self.proxy_step(pool, file)
     }
 
+    /// Stateids that are set up, raised by returns, and end with their intents: closed and opened again, lost at the end of grace, or by a restart; returns
+    /// that name older and newer ones, those of others and those that have ended; and what the reports of returns leave.
+    fn stateids(&mut self) -> Done {
+        let clients = 1 + self.r.size(4);
+        let pool = self.pool(3, clients, 5);
+        self.fresh()?;
+        for file in &pool.files {
+            let (mirrors, proxied) = (2 + self.r.size(3), self.r.percent(40));
+            self.register_first(&pool, *file, mirrors, proxied)?;
+        }
+        self.open_all(&pool)?;
+        for _ in 0..2 + self.r.size(6) {
+            self.set_up_stateid(&pool, pool.files[0], pool.clients[0])?;
+        }
+        for _ in 0..100 {
+            self.stateid_step(&pool)?;
+        }
+        Ok(())
+    }
+
+    fn stateid_step(&mut self, pool: &Pool) -> Done {
+        let (file, client) = (self.r.pick(&pool.files), self.r.pick(&pool.clients));
+        match self.r.below(100) {
+            0..=17 => self.set_up_stateid(pool, file, client),
+            18..=71 => self.ordinary(pool, file, client),
+            72..=79 => self.call(&format!("open {file} {client}")),
+            80..=83 => self.call(&format!("close {file} {client}")),
+            84..=86 => {
+                self.call(&format!("close {file} {client}"))?;
+                self.call(&format!("open {file} {client}"))
+            }
+            87 => self.grace(pool),
+            88 | 89 => self.layoutreturn(pool, file, client),
+            90 | 91 => self.call(&format!("repaired {file}")),
+            92 => self.call(&format!("forget {file}")),
+            93 => self.register(pool, file),
+            94 => self.proxy_step(pool, file),
+            95 => self.open_all(pool),
+            _ => self.listings(2),
+        }
+    }
+
     /// Every client opens every file, and now and then one closes it again.
     fn open_all(&mut self, pool: &Pool) -> Done {
         for file in &pool.files {
@@ -457,13 +536,14 @@ impl<W: Write> Campaigns<W> {
     /// Another campaign on the record, with a console that asks for the counts after each call (Ticket 8).
     fn console(&mut self) -> Done {
         self.polled = true;
-        match self.r.below(7) {
+        match self.r.below(8) {
             0 => self.walk()?,
             1 => self.intents()?,
             2 => self.table()?,
             3 => self.all_lost()?,
             4 => self.reports()?,
             5 => self.returning()?,
+            6 => self.stateids()?,
             _ => self.proxies()?,
         }
         self.polled = false;
@@ -476,6 +556,7 @@ impl<W: Write> Campaigns<W> {
         let (files, clients, devices) = (1 + self.r.size(2), 1 + self.r.size(3), 3 + self.r.size(3));
         let pool = self.pool(files, clients, devices);
         let fresh = self.fresh_line();
+        self.held.note(fresh);
         self.raw(fresh.as_bytes())?;
         for file in &pool.files {
             let (mirrors, proxied) = (1 + self.r.size(devices - 1), self.r.percent(40));
@@ -485,6 +566,7 @@ impl<W: Write> Campaigns<W> {
         for _ in 0..self.r.below(12) {
             self.walk_step(&pool)?;
         }
+        self.held.note("restart");
         self.raw(b"restart")?;
         for _ in 0..self.r.below(6) {
             self.restartable_step(&pool)?;
@@ -504,6 +586,8 @@ impl<W: Write> Campaigns<W> {
             0..=3 => self.call(&format!("reclaim {file} {client}")),
             4..=6 => self.call(&format!("close {file} {client}")),
             7 => self.call(&format!("repaired {file}")),
+            8 if self.r.percent(15) => self.ordinary(pool, file, client),
+            8 if self.r.percent(10) => self.set_up_stateid(pool, file, client),
             8 => self.layoutreturn(pool, file, client),
             _ => self.call("restart"),
         }
@@ -594,6 +678,7 @@ impl<W: Write> Campaigns<W> {
                 format!("close {file} {client}"),
                 format!("addproxy {file} {}", hex(&pool.devices[1])),
                 format!("removeproxy {file}"),
+                format!("stateid {file} {client} {}", hex(&pool.names[0])),
                 format!("join {node}"),
                 format!("start {node}"),
                 "restart".to_string(),
@@ -639,7 +724,8 @@ impl<W: Write> Campaigns<W> {
     }
 
     pub fn run(mut self, calls: u64) -> Done {
-        const KINDS: [(u64, u32); 15] = [(30, 0), (12, 1), (10, 2), (6, 3), (50, 4), (10, 5), (18, 6), (10, 7), (24, 8), (60, 9), (12, 10), (18, 11), (30, 12), (40, 13), (40, 14)];
+        const KINDS: [(u64, u32); 16] =
+            [(30, 0), (12, 1), (10, 2), (6, 3), (50, 4), (10, 5), (18, 6), (10, 7), (24, 8), (60, 9), (12, 10), (18, 11), (30, 12), (40, 13), (45, 14), (45, 15)];
         self.limits()?;
         while self.calls < calls {
             match self.r.weighted(&KINDS) {
@@ -657,6 +743,7 @@ impl<W: Write> Campaigns<W> {
                 11 => self.merges()?,
                 12 => self.commits()?,
                 13 => self.proxies()?,
+                15 => self.stateids()?,
                 _ => self.console()?,
             }
         }

@@ -151,8 +151,8 @@ fn field(r: &mut Random, right: u32, wrong: &[u32]) -> u32 {
     }
 }
 
-/// The fixed part and the body with its padding; the length that it states may be off. `often` is how many of a hundred stateids are special.
-fn request_with(r: &mut Random, body: &[u8], often: u64) -> Vec<u8> {
+/// The fixed part with the stateid, and the body with its padding; the length that it states may be off.
+fn request_with(r: &mut Random, body: &[u8], stateid: &[u8]) -> Vec<u8> {
     let mut q = Vec::new();
     let reclaim = r.pick(&[0, 0, 0, 1]);
     put(&mut q, field(r, reclaim, &[2, 256, 0x0100_0000, 0xffff_ffff]));
@@ -165,7 +165,7 @@ fn request_with(r: &mut Random, body: &[u8], often: u64) -> Vec<u8> {
         return q;
     }
     put_range(r, &mut q);
-    q.extend(stateid(r, often));
+    q.extend(stateid);
     let length = body.len() as u32;
     put(&mut q, field(r, length, &[length.wrapping_sub(1), length + 1, length.wrapping_sub(4), length + 4, 0, 0xffff_fffc, 0xffff_ffff]));
     q.extend(body);
@@ -179,28 +179,45 @@ fn request_with(r: &mut Random, body: &[u8], often: u64) -> Vec<u8> {
     q
 }
 
-/// A request that names these devices: mostly sound, else with wrong counts, of an edge's size, or damaged; `often` of a hundred with a special stateid.
+/// A request that names these devices, `often` of a hundred with a special stateid.
 pub fn request(r: &mut Random, devices: &[Device], often: u64) -> Vec<u8> {
-    let body = match r.below(20) {
-        0..=11 => body(r, devices, 0),
-        12..=14 => body(r, devices, 8),
-        15 => {
+    let stateid = stateid(r, often);
+    request_of(r, devices, &stateid, 20).0
+}
+
+/// A request with this stateid: eight of `kinds` with a body of wrong counts, of an edge's size, or damaged, the others with a sound one; and whether
+/// it is known to be sound.
+pub fn request_of(r: &mut Random, devices: &[Device], stateid: &[u8], kinds: u64) -> (Vec<u8>, bool) {
+    let kind = r.below(kinds);
+    let body = match kind {
+        0..=2 => body(r, devices, 8),
+        3 => {
             let off = r.size(12);
             sized_body(r, devices, BODY_LIMIT - 8 + off)
         }
-        16 => {
+        4 => {
             let small = r.size(120);
             sized_body(r, devices, small)
         }
-        _ => {
+        5..=7 => {
             let mut body = body(r, devices, 0);
             damage(r, &mut body);
             body
         }
+        _ => body(r, devices, 0),
     };
-    let mut request = request_with(r, &body, often);
+    let mut request = request_with(r, &body, stateid);
+    let sound = kind > 7 && body.len() <= BODY_LIMIT && fixed_part_is_right(&request, body.len());
     if r.percent(8) {
         damage(r, &mut request);
+        return (request, false);
     }
-    request
+    (request, sound)
+}
+
+/// Whether a request is a file's return of a body of so many bytes, which is a multiple of four, and is right up to that body.
+fn fixed_part_is_right(request: &[u8], body: usize) -> bool {
+    let number = |at: usize| request.get(at..at + 4).map(|bytes| u32::from_be_bytes(bytes.try_into().expect("4 bytes")));
+    let right = |at: usize, wanted: &[u32]| number(at).is_some_and(|number| wanted.contains(&number));
+    right(0, &[0, 1]) && right(4, &[4]) && right(8, &[1, 2, 3]) && right(12, &[1]) && right(48, &[body as u32]) && request.len() == 52 + body
 }
