@@ -1,3 +1,5 @@
--- Deciding: where a body is read, it is the body of the request. OneWalk: one walk of the report gives the outcome that is defined.
+-- Deciding: where a body is read, it is the body of the request. OneWalk: one walk of the report gives the outcome that is defined. Raising: a stateid may be
+-- raised first.
 pub mod Deciding
 mod OneWalk
+mod Raising

@@ -326,12 +326,12 @@ pub fn answer(
     o
 }
 
-// The file afterwards.
+// The file afterwards; the stateid is raised first, which takes fewer copies.
 pub fn apply(f: File, o: Outcome) -> File
     ensures { λ r. ⌜ r ≡ fileAfter f o ⌝ }
 {
     let change = o.change;
     let t = o.stateid;
-    let g = f.apply(change);
-    g.raised(o.client, t)
+    let g = f.raised(o.client, t);
+    g.apply(change)
 }
