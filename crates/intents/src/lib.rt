@@ -154,15 +154,35 @@ impl Intent {
         stated(own) && own.has_other(t)
     }
 
-    // The place once the client has the stateid `t`.
-    pub(crate) fn state(mut self, client: u64, t: Stateid) -> Intent
+    // The place once the client has the stateid `t`; by its fields and the stateid's, so that the compiler stores no more than what changes.
+    pub(crate) fn state(self, client: u64, t: Stateid) -> Intent
         ensures { λ r. ⌜ r ≡ statedIf client t self ⌝ }
     {
         if self.is(client) {
-            self.stateid = t;
-            return self;
+            let given = Stateid {
+                high: t.high,
+                low: t.low,
+                seqid: t.seqid,
+            };
+            return Intent {
+                client: self.client,
+                stateid: given,
+                taken: self.taken,
+                reclaimed: self.reclaimed,
+            };
         }
-        self
+        let t = self.stateid;
+        let own = Stateid {
+            high: t.high,
+            low: t.low,
+            seqid: t.seqid,
+        };
+        Intent {
+            client: self.client,
+            stateid: own,
+            taken: self.taken,
+            reclaimed: self.reclaimed,
+        }
     }
 }
 

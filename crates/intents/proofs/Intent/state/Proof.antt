@@ -11,7 +11,7 @@ returns : tie.Need-returns
 returns c = rw (sym (c .before .is .ensures) ∙ c .if1 .taken)
 
 returns-2 : tie.Need-returns-2
-returns-2 c = rw (sym (c .before .is .ensures) ∙ c .if1 .left)
+returns-2 c = rw (sym (c .before .before .is .ensures) ∙ c .before .if1 .left)
 
 pub state-spec : {M : Type 1} → statement M
 state-spec = tie.close (tie.spec is-requires returns returns-2)
