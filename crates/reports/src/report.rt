@@ -1,6 +1,6 @@
 // The error report of a LAYOUTRETURN, which is its body: ff_layoutreturn4 of RFC 8435 (paper 01, "LAYOUTRETURN", step 5).
 // In order: `start` and `next`, by which every caller walks the error records up to the statistics records; a device error of a record; `statistics`, for
-// one that wants the statistics records alone; `check`, the status of step 5. What C calls of it stands in crate `wire`.
+// one that wants the statistics records alone; `check`, the status of step 5. What C calls of it stands in crate `flexfiles`.
 use crate::cursor::Cursor;
 use crate::cursor::begin;
 use crate::cursor::none;

@@ -1,4 +1,5 @@
-// For C: the check of a LAYOUTRETURN's body and the walks of its device errors and of its statistics records, from crate `reports`.
+// For C: the check of the body of a flexible files LAYOUTRETURN (RFC 8435), which is a report, and the walks of its device errors and of its statistics records,
+// from crate `reports`. Paper 01, "LAYOUTRETURN"; Ticket 3.
 // In this order: the check; the cursor of three numbers and the walk of the device errors; the cursor of two and the walk of the statistics records.
 use reports::cursor::Cursor;
 use reports::report::Entry;
@@ -8,7 +9,7 @@ ghost use mathlib.Core.Path.{_≡_};
 ghost use Prim.Native.Nat.{_≤_};
 ghost use Rattle.reports.specs.Report.{reportOf, statusOf};
 ghost use Rattle.reports.specs.ReportSteps.{deviceAt};
-ghost use Rattle.wire.specs.Handed.{errorGiven, firstAt, resumedAt, handed, resumedTail, handedStatistic};
+ghost use Rattle.flexfiles.specs.Handed.{errorGiven, firstAt, resumedAt, handed, resumedTail, handedStatistic};
 
 // Step 5, as `check` answers it.
 #[no_mangle]

@@ -18,11 +18,11 @@ use Rattle.reports.specs.declared.statistics.Item.{Item}
 use Rattle.reports.specs.declared.statistics.Item.the-variants as item
 use Rattle.reports.proofs.StatisticsWalk as statistics
 use Rattle.reports.proofs.StatisticsWalk.{unrolled, goes-forward, stated}
-use Rattle.wire.specs.Handed.{firstAt, Numbers, resumedAt, numbersOf, handed, StatisticNumbers, resumedTail, statisticNumbers, handedStatistic}
-use Rattle.wire.specs.declared.report.ErrorCursor.{ErrorCursor}
-use Rattle.wire.specs.declared.report.Answer.{Answer}
-use Rattle.wire.specs.declared.report.Answer.the-variants.{Error, Done}
-use Rattle.wire.proofs.First.{errorsOn, at-records, first-walks, first-onward, first-ends}
+use Rattle.flexfiles.specs.Handed.{firstAt, Numbers, resumedAt, numbersOf, handed, StatisticNumbers, resumedTail, statisticNumbers, handedStatistic}
+use Rattle.flexfiles.specs.declared.ErrorCursor.{ErrorCursor}
+use Rattle.flexfiles.specs.declared.Answer.{Answer}
+use Rattle.flexfiles.specs.declared.Answer.the-variants.{Error, Done}
+use Rattle.flexfiles.proofs.FirstError.{errorsOn, at-records, first-walks, first-onward, first-ends}
 
 -- what C is handed, from the cursor that its numbers are
 pub handed-is : (s : List ℕ) (at r d : ℕ) {c : ErrorCursor} {f g : Answer} → c ≡ resumedAt s at r d → f ≡ firstAt s c → f ≡ g → handed s at r d ≡ numbersOf at r d g

@@ -3,13 +3,13 @@ use Prim.Native.Nat.{_-_}
 use lib.ListN.{length}
 use mathlib.Core.Path.{_≡_, refl, sym, _∙_}
 use Rattle.reports.proofs.Reports.{goes-on}
-use Rattle.wire.specs.Handed.{recordsAt, firstAt}
-use Rattle.wire.specs.declared.report.ErrorCursor.{ErrorCursor}
-use Rattle.wire.proofs.First.{first-error, first-last, first-malformed, first-record}
+use Rattle.flexfiles.specs.Handed.{recordsAt, firstAt}
+use Rattle.flexfiles.specs.declared.ErrorCursor.{ErrorCursor}
+use Rattle.flexfiles.proofs.FirstError.{first-error, first-last, first-malformed, first-record}
 use native.Mathlib.Omega.{arith}
 use borrow.Author.Needs.{needs}
-use Rattle.wire.proofs.report.first.Statement.{statement}
-use Rattle.wire.proofs.report.first.Tie as tie
+use Rattle.flexfiles.proofs.first.Statement.{statement}
+use Rattle.flexfiles.proofs.first.Tie as tie
 
 abbrev Inv-loop : tie.InvT-loop
 Inv-loop s at₀ records₀ devices₀ at records devices =

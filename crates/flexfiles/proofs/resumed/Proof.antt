@@ -1,10 +1,10 @@
 -- By computing which cursor three numbers are.
 use borrow.Author.Tests.{eq-eqb, ne-eqb}
-use Rattle.wire.specs.Handed.{resumedAt}
+use Rattle.flexfiles.specs.Handed.{resumedAt}
 use native.Mathlib.Omega.{arith}
 use borrow.Author.Needs.{needs}
-use Rattle.wire.proofs.report.resumed.Statement.{statement}
-use Rattle.wire.proofs.report.resumed.Tie as tie
+use Rattle.flexfiles.proofs.resumed.Statement.{statement}
+use Rattle.flexfiles.proofs.resumed.Tie as tie
 
 start-requires : tie.Need-start-requires
 start-requires c κs = search needs

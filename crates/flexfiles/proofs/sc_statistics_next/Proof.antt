@@ -1,11 +1,11 @@
 -- Rests on the laws of the statistics record at a cursor.
 use mathlib.Core.Path.{sym, _∙_}
 use Rattle.reports.proofs.StatisticsWalk.{goes-forward}
-use Rattle.wire.proofs.Handed.{statistic-is}
+use Rattle.flexfiles.proofs.Handed.{statistic-is}
 use native.Mathlib.Omega.{arith}
 use borrow.Author.Needs.{needs}
-use Rattle.wire.proofs.report.sc_statistics_next.Statement.{statement}
-use Rattle.wire.proofs.report.sc_statistics_next.Tie as tie
+use Rattle.flexfiles.proofs.sc_statistics_next.Statement.{statement}
+use Rattle.flexfiles.proofs.sc_statistics_next.Tie as tie
 
 resumed-tail-requires : tie.Need-resumed-tail-requires
 resumed-tail-requires c κs = search needs

@@ -1,8 +1,8 @@
 -- By the cases of a device error.
 use mathlib.Core.Path.{sym, _∙_}
 use borrow.Author.Needs.{needs}
-use Rattle.wire.proofs.report.error_at.Statement.{statement}
-use Rattle.wire.proofs.report.error_at.Tie as tie
+use Rattle.flexfiles.proofs.error_at.Statement.{statement}
+use Rattle.flexfiles.proofs.error_at.Tie as tie
 
 device-requires : tie.Need-device-requires
 device-requires c κs = search needs

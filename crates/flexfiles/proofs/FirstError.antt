@@ -20,10 +20,10 @@ use Rattle.reports.specs.declared.report.Reading.{Reading}
 use Rattle.reports.specs.declared.report.Reading.the-variants as reading
 use Rattle.reports.proofs.ReportModel.{none-named, named-twice}
 use Rattle.reports.proofs.Reports.{goes-on, device-read-as, device-missing, errors-named, record-turn, last-turn, bad-turn}
-use Rattle.wire.specs.Handed.{errorGiven, firstBy, recordsAt, firstStep, firstPast, firstAt}
-use Rattle.wire.specs.declared.report.ErrorCursor.{ErrorCursor}
-use Rattle.wire.specs.declared.report.Answer.{Answer}
-use Rattle.wire.specs.declared.report.Answer.the-variants.{Error, Done}
+use Rattle.flexfiles.specs.Handed.{errorGiven, firstBy, recordsAt, firstStep, firstPast, firstAt}
+use Rattle.flexfiles.specs.declared.ErrorCursor.{ErrorCursor}
+use Rattle.flexfiles.specs.declared.Answer.{Answer}
+use Rattle.flexfiles.specs.declared.Answer.the-variants.{Error, Done}
 
 -- ---- what the code's tests say
 module _ (s : List ℕ) (c : ErrorCursor) where

@@ -1,10 +1,10 @@
 -- By the cases of the first device error from a cursor on.
 use mathlib.Core.Path.{sym, _∙_}
-use Rattle.wire.proofs.Handed.{handed-is}
+use Rattle.flexfiles.proofs.Handed.{handed-is}
 use native.Mathlib.Omega.{arith}
 use borrow.Author.Needs.{needs}
-use Rattle.wire.proofs.report.sc_report_next.Statement.{statement}
-use Rattle.wire.proofs.report.sc_report_next.Tie as tie
+use Rattle.flexfiles.proofs.sc_report_next.Statement.{statement}
+use Rattle.flexfiles.proofs.sc_report_next.Tie as tie
 
 resumed-requires : tie.Need-resumed-requires
 resumed-requires c κs = search needs

@@ -17,9 +17,9 @@ use Rattle.reports.specs.declared.report.Reading.{Reading}
 use Rattle.reports.specs.declared.report.Reading.the-variants as reading
 use Rattle.reports.specs.declared.statistics.Item.{Item}
 use Rattle.reports.specs.declared.statistics.Item.the-variants as item
-use Rattle.wire.specs.declared.report.ErrorCursor.{ErrorCursor}
-use Rattle.wire.specs.declared.report.Answer.{Answer}
-use Rattle.wire.specs.declared.report.Answer.the-variants.{Error, Done}
+use Rattle.flexfiles.specs.declared.ErrorCursor.{ErrorCursor}
+use Rattle.flexfiles.specs.declared.Answer.{Answer}
+use Rattle.flexfiles.specs.declared.Answer.the-variants.{Error, Done}
 
 -- ---- the first device error from a cursor on
 -- the one at a cursor where some are to come

@@ -12,8 +12,8 @@ use lib.ListN.{take, drop}
 use Rattle.reports.specs.Statistics.{Statistic}
 use Rattle.reports.specs.Report.{Whole, DeviceError, reportOf, statusOf}
 use Rattle.reports.specs.declared.cursor.Cursor.{Cursor}
-use Rattle.wire.specs.declared.report.ErrorCursor.{ErrorCursor}
-use Rattle.wire.specs.Handed.{Numbers, handed, StatisticNumbers, handedStatistic}
+use Rattle.flexfiles.specs.declared.ErrorCursor.{ErrorCursor}
+use Rattle.flexfiles.specs.Handed.{Numbers, handed, StatisticNumbers, handedStatistic}
 
 -- the next call gets the cursor that the last one left
 pub data Calls {C N X : Type 0} (call : C → N) (answer : N → ℕ) (left : N → C) (sees : N → X) : C → List X → (last : ℕ) → Type 0 where

@@ -17,13 +17,13 @@ use Rattle.reports.specs.declared.statistics.Item.the-variants as item
 use Rattle.reports.proofs.Statuses.{named-status, counted-status, errors-status, statistics-status}
 use Rattle.reports.proofs.StatisticsWalk.{goes-forward}
 use Rattle.reports.proofs.Walk.{errors-whole, statistics-whole}
-use Rattle.wire.specs.Handed.{firstAt, Numbers, resumedAt, numbersOf, handed, StatisticNumbers, resumedTail, statisticNumbers, handedStatistic}
-use Rattle.wire.specs.declared.report.ErrorCursor.{ErrorCursor}
-use Rattle.wire.specs.declared.report.Answer.{Answer}
-use Rattle.wire.specs.declared.report.Answer.the-variants.{Error, Done}
-use Rattle.wire.specs.Walk.{Calls, ends, gives, errorCall, errorsLeft, seen, statisticCall, statisticsLeft, seenStatistic, HandsOut, HandedOut}
-use Rattle.wire.proofs.First.{errorsOn, first-onward, first-ends}
-use Rattle.wire.proofs.Handed.{handed-begins, resumes, afterHanded, handed-over, statistics-begin, tail-resumes, afterStatistic, statistic-over}
+use Rattle.flexfiles.specs.Handed.{firstAt, Numbers, resumedAt, numbersOf, handed, StatisticNumbers, resumedTail, statisticNumbers, handedStatistic}
+use Rattle.flexfiles.specs.declared.ErrorCursor.{ErrorCursor}
+use Rattle.flexfiles.specs.declared.Answer.{Answer}
+use Rattle.flexfiles.specs.declared.Answer.the-variants.{Error, Done}
+use Rattle.flexfiles.specs.Walk.{Calls, ends, gives, errorCall, errorsLeft, seen, statisticCall, statisticsLeft, seenStatistic, HandsOut, HandedOut}
+use Rattle.flexfiles.proofs.FirstError.{errorsOn, first-onward, first-ends}
+use Rattle.flexfiles.proofs.Handed.{handed-begins, resumes, afterHanded, handed-over, statistics-begin, tail-resumes, afterStatistic, statistic-over}
 
 -- ---- any calls: `from` is the half of the report from a cursor on, `whole` one that holds xs, and `size` what is left
 record Laws {C N X : Type 0} (call : C → N) (answer : N → ℕ) (left : N → C) (sees : N → X) (adding : X → Report → Report) (whole : List X → Report) (from : C → Report) (size : C → ℕ) : Type 0 where

@@ -1,10 +1,10 @@
 -- By computing which cursor two numbers are.
 use borrow.Author.Tests.{eq-eqb, ne-eqb}
-use Rattle.wire.specs.Handed.{resumedTail}
+use Rattle.flexfiles.specs.Handed.{resumedTail}
 use native.Mathlib.Omega.{arith}
 use borrow.Author.Needs.{needs}
-use Rattle.wire.proofs.report.resumed_tail.Statement.{statement}
-use Rattle.wire.proofs.report.resumed_tail.Tie as tie
+use Rattle.flexfiles.proofs.resumed_tail.Statement.{statement}
+use Rattle.flexfiles.proofs.resumed_tail.Tie as tie
 
 statistics-requires : tie.Need-statistics-requires
 statistics-requires c κs = search needs
