@@ -36,7 +36,7 @@ ghost use Rattle.files.specs.Head.{freshHead};
 ghost use Rattle.capi.specs.Place.{isNumbered, soughtIn, userIn};
 ghost use Rattle.capi.specs.SetUp.{barredBy, setUpFile, setUpWith};
 ghost use Rattle.capi.specs.Asked.{listingBy};
-ghost use Rattle.capi.specs.Lent.{columnOf, maskOf};
+ghost use Rattle.capi.specs.Lent.{columnOf};
 ghost use Rattle.capi.specs.LayoutReturn.{begunOf, bodyRead, returnedIn, stateidFor};
 ghost use Rattle.capi.specs.Whole.{restartVerdict, endVerdict, forgetVerdict, emptiedFile, eachFile, endedEach, refusedWith, admittedOf, isVacantPlace, roomSought, isBelow, enteredFiles, pulledFiles, slid, lastSought};
 
@@ -137,8 +137,8 @@ fn without_file(
         × (now (reply .exit) ≡ replyBy status noStateid (now (reply .entry)))
         × (now (read .exit) ≡ columnOf (noTotals .read .bytes) (now (read .entry)))
         × (now (written .exit) ≡ columnOf (noTotals .written .bytes) (now (written .entry)))
-        × (now («read_over» .exit) ≡ maskOf (noTotals .read .over))
-        × (now («written_over» .exit) ≡ maskOf (noTotals .written .over)) ⌝ }
+        × (now («read_over» .exit) ≡ noTotals .read .over)
+        × (now («written_over» .exit) ≡ noTotals .written .over) ⌝ }
 {
     layoutreturn::reply(status, Stateid::none(), reply);
     let t = Totals::none();
@@ -166,8 +166,8 @@ fn answered(
         × (now (reply .exit) ≡ replyBy (o .status) (o .stateid) (now (reply .entry)))
         × (now (read .exit) ≡ columnOf (o .totals .read .bytes) (now (read .entry)))
         × (now (written .exit) ≡ columnOf (o .totals .written .bytes) (now (written .entry)))
-        × (now («read_over» .exit) ≡ maskOf (o .totals .read .over))
-        × (now («written_over» .exit) ≡ maskOf (o .totals .written .over)) ⌝ }
+        × (now («read_over» .exit) ≡ o .totals .read .over)
+        × (now («written_over» .exit) ≡ o .totals .written .over) ⌝ }
 {
     let d = to_read(head, len);
     let o = layoutreturn::answer(d, f, number, head, client, request, reply);
@@ -619,8 +619,8 @@ fn with_file(
         × (now (reply .exit) ≡ replyBy s (stateidFor file len client (now (request .entry)) (now (r .entry))) (now (reply .entry)))
         × (now (read .exit) ≡ columnOf (returnedIn file len client (now (request .entry)) (now (r .entry)) .totals .read .bytes) (now (read .entry)))
         × (now (written .exit) ≡ columnOf (returnedIn file len client (now (request .entry)) (now (r .entry)) .totals .written .bytes) (now (written .entry)))
-        × (now («read_over» .exit) ≡ maskOf (returnedIn file len client (now (request .entry)) (now (r .entry)) .totals .read .over))
-        × (now («written_over» .exit) ≡ maskOf (returnedIn file len client (now (request .entry)) (now (r .entry)) .totals .written .over)) ⌝ }
+        × (now («read_over» .exit) ≡ returnedIn file len client (now (request .entry)) (now (r .entry)) .totals .read .over)
+        × (now («written_over» .exit) ≡ returnedIn file len client (now (request .entry)) (now (r .entry)) .totals .written .over) ⌝ }
 {
     let i = position(r, file);
     let s = answered(
@@ -661,8 +661,8 @@ pub extern "C" fn sc_record_layoutreturn(
         × (now (reply .exit) ≡ replyAfter file client (now (request .entry)) (now (reply .entry)) (now (r .entry)))
         × (now (read .exit) ≡ columnOf (layoutreturnOf file client (now (request .entry)) (now (reply .entry)) (now (r .entry)) .totals .read .bytes) (now (read .entry)))
         × (now (written .exit) ≡ columnOf (layoutreturnOf file client (now (request .entry)) (now (reply .entry)) (now (r .entry)) .totals .written .bytes) (now (written .entry)))
-        × (now («read_over» .exit) ≡ maskOf (layoutreturnOf file client (now (request .entry)) (now (reply .entry)) (now (r .entry)) .totals .read .over))
-        × (now («written_over» .exit) ≡ maskOf (layoutreturnOf file client (now (request .entry)) (now (reply .entry)) (now (r .entry)) .totals .written .over)) ⌝ }
+        × (now («read_over» .exit) ≡ layoutreturnOf file client (now (request .entry)) (now (reply .entry)) (now (r .entry)) .totals .read .over)
+        × (now («written_over» .exit) ≡ layoutreturnOf file client (now (request .entry)) (now (reply .entry)) (now (r .entry)) .totals .written .over) ⌝ }
 {
     let b = begin(r.head, request, reply.len());
     if b.wanted {

@@ -2,11 +2,8 @@
 use mirroring::mirrors::PLACES;
 use mirroring::totals::Sums;
 ghost use mathlib.Core.Path.{_≡_};
-ghost use mathlib.Core.Bool.{cond};
-ghost use Prim.Native.Nat.{_<_};
 ghost use lib.ListN.{length, getD};
-ghost use Rattle.masks.specs.Mask.{plus};
-ghost use Rattle.capi.specs.Lent.{columnOf, maskOf};
+ghost use Rattle.capi.specs.Lent.{columnOf};
 
 // The sum at a place, or 0 past the last.
 fn sum(sums: [u64; PLACES], at: usize) -> u64
@@ -44,34 +41,11 @@ fn column(sums: [u64; PLACES], lent: &mut [u64])
     }
 }
 
-// A set with a place, if its flag is up.
-fn raised(mask: u32, place: u32, up: bool) -> u32
-    requires { ⌜ place < 32 ⌝ }
-    ensures { λ r. ⌜ r ≡ cond up (plus mask place) mask ⌝ }
-{
-    if up { masks::with(mask, place) } else { mask }
-}
-
-// The set of the places whose flag is 1.
-fn mask(flags: [u64; PLACES]) -> u32
-    ensures { λ r. ⌜ r ≡ maskOf flags ⌝ }
-{
-    let mut m: u32 = 0;
-    let mut i: usize = 0;
-    while i < PLACES {
-        let up = flags[i] == 1;
-        m = raised(m, i as u32, up);
-        i += 1;
-    }
-    m
-}
-
 // Sums by place are written to a lent slice, and their flags answered.
 pub(crate) fn hand_out(sums: Sums, lent: &mut [u64]) -> u32
-    ensures { λ r. ⌜ (r ≡ maskOf (sums .over)) × (now (lent .exit) ≡ columnOf (sums .bytes) (now (lent .entry))) ⌝ }
+    ensures { λ r. ⌜ (r ≡ sums .over) × (now (lent .exit) ≡ columnOf (sums .bytes) (now (lent .entry))) ⌝ }
 {
     let bytes = sums.bytes;
-    let flags = sums.over;
     column(bytes, lent);
-    mask(flags)
+    sums.over
 }

@@ -1,10 +1,11 @@
 -- DEFINITION. The totals of bytes read and written of one report, by mirror (Rules 3.11), in this order: a sum as it is told; a device's sum; the totals of
 -- some mirrors and a proxy.
 use mathlib.Core.List.{List, [], _∷_, _++_, map}
-use mathlib.Core.Bool.{cond}
+use mathlib.Core.Bool.{Bool, cond}
 use Prim.Native.Nat.{ℕ, _+_}
-use lib.ListN.{replicate}
+use lib.ListN.{replicate, getD}
 use lib.Dec.{ltb}
+use Rattle.masks.specs.Mask.{setOf}
 use Rattle.places.specs.Lists.{fill}
 use Rattle.reports.specs.Device.{Device, halves}
 use Rattle.reports.specs.Statistics.{Statistic}
@@ -16,15 +17,16 @@ use Rattle.mirroring.specs.declared.totals.Totals.{Totals}
 abbrev pub most : ℕ
 most = 18446744073709551615
 
--- a sum that would pass 2^64 - 1 stays at that number and is flagged by 1, and every other by 0
+-- a sum that would pass 2^64 - 1 stays at that number
+abbrev pub passes : ℕ → Bool
+passes n = ltb most n
+
 abbrev pub cut : ℕ → ℕ
-cut n = cond (ltb most n) most n
+cut n = cond (passes n) most n
 
-abbrev pub passes : ℕ → ℕ
-passes n = cond (ltb most n) 1 0
-
+-- sums by place, as they are told, and the set of the places whose sum passes, as a mask: bit k is place k's
 abbrev pub cutSums : List ℕ → Sums
-cutSums ns = record { bytes = map cut ns; over = map passes ns }
+cutSums ns = record { bytes = map cut ns; over = setOf 32 (λ k. passes (getD ns k 0)) }
 
 -- the sum of what `g` takes of each record of a device
 unfoldable pub sumOf : (Statistic → ℕ) → Device → List Statistic → ℕ

@@ -10,12 +10,11 @@ ghost use Prim.Native.Nat.{_<_};
 // The largest sum.
 const MOST: u64 = 18446744073709551615;
 
-// A sum of bytes for each mirror, by place, and 1 where it passed 2^64 - 1, at which it stays; a place without a mirror has none. A flag is as wide as a
-// sum, since the compiler packs bytes into one number and takes them out again at each record.
+// A sum of bytes for each mirror, by place, and the set of the places where it passed 2^64 - 1, at which it stays; a place without a mirror has none.
 #[repr(C)]
 pub struct Sums {
     pub bytes: [u64; PLACES],
-    pub over: [u64; PLACES],
+    pub over: u32,
 }
 
 // What was read from each mirror, and what was written to it.
@@ -35,11 +34,16 @@ fn grown_by(more: u64, sum: u64) -> u64
     sum + more
 }
 
-// The sum's flag by then.
-fn passed_by(more: u64, sum: u64, over: u64) -> u64
-    ensures { λ r. ⌜ r ≡ passedBy more sum over ⌝ }
+// The flags by then, of the sum at a place.
+fn passed_by(more: u64, sum: u64, over: u32, at: usize) -> u32
+    requires { ⌜ at < 5 ⌝ }
+    ensures { λ r. ⌜ r ≡ passedBy more sum over at ⌝ }
 {
-    if MOST - sum < more { 1 } else { over }
+    if MOST - sum < more {
+        masks::with(over, at as u32)
+    } else {
+        over
+    }
 }
 
 impl Sums {
@@ -47,11 +51,7 @@ impl Sums {
         ensures { λ r. ⌜ r ≡ cutSums noSums ⌝ }
     {
         let bs = [0u64; PLACES];
-        let fs = [0u64; PLACES];
-        Sums {
-            bytes: bs,
-            over: fs,
-        }
+        Sums { bytes: bs, over: 0 }
     }
 
     // One record more of the mirror at a place.
@@ -60,10 +60,9 @@ impl Sums {
         ensures { λ r. ⌜ r ≡ countedAt at n self ⌝ }
     {
         let sum = self.bytes[at];
-        let over = self.over[at];
-        let f = passed_by(n, sum, over);
+        let f = passed_by(n, sum, self.over, at);
         let b = grown_by(n, sum);
-        self.over[at] = f;
+        self.over = f;
         self.bytes[at] = b;
         self
     }

@@ -11,7 +11,7 @@ use Rattle.mirroring.specs.Totals.{noTotals}
 use Rattle.layoutreturn.specs.LayoutReturn.{decisionOf, replyBy}
 use Rattle.recovery.specs.LayoutReturn.{returning, layoutreturnOf, replyAfter}
 use Rattle.recovery.specs.declared.returns.Returned.{Returned}
-use Rattle.capi.specs.Lent.{columnOf, maskOf}
+use Rattle.capi.specs.Lent.{columnOf}
 use Rattle.capi.specs.LayoutReturn.{begunOf, returnedIn, stateidFor}
 use Rattle.capi.proofs.Types.{begun}
 use Rattle.capi.proofs.Fields.{files, head, parts}
@@ -37,15 +37,15 @@ sc-record-layoutreturn-spec 𝓤 H 𝓜 𝓖 𝓡 =
     (λ r n i s r′ o. (s ≡ returnedIn n (i .0) (i .1 .0) (i .1 .1 .0) r .status) × (r′ ≡ returnedIn n (i .0) (i .1 .0) (i .1 .1 .0) r .after) × (o .1 .1 .1 .0 ≡ replyBy s (stateidFor n (i .0) (i .1 .0) (i .1 .1 .0) r) (i .1 .1 .1 .0))
     × (o .1 .1 .1 .1 .0 ≡ columnOf (returnedIn n (i .0) (i .1 .0) (i .1 .1 .0) r .totals .read .bytes) (i .1 .1 .1 .1 .0))
     × (o .1 .1 .1 .1 .1 .0 ≡ columnOf (returnedIn n (i .0) (i .1 .0) (i .1 .1 .0) r .totals .written .bytes) (i .1 .1 .1 .1 .1 .0))
-    × (o .1 .1 .1 .1 .1 .1 .0 ≡ maskOf (returnedIn n (i .0) (i .1 .0) (i .1 .1 .0) r .totals .read .over))
-    × (o .1 .1 .1 .1 .1 .1 .1 .0 ≡ maskOf (returnedIn n (i .0) (i .1 .0) (i .1 .1 .0) r .totals .written .over)))
+    × (o .1 .1 .1 .1 .1 .1 .0 ≡ returnedIn n (i .0) (i .1 .0) (i .1 .1 .0) r .totals .read .over)
+    × (o .1 .1 .1 .1 .1 .1 .1 .0 ≡ returnedIn n (i .0) (i .1 .0) (i .1 .1 .0) r .totals .written .over))
     (λ l i s o. (s ≡ l .0) × (o .1 .1 .0 ≡ replyBy (l .0) noStateid (i .1 .1 .0)) × (o .1 .1 .1 .0 ≡ columnOf (noTotals .read .bytes) (i .1 .1 .1 .0)) × (o .1 .1 .1 .1 .0 ≡ columnOf (noTotals .written .bytes) (i .1 .1 .1 .1 .0))
-    × (o .1 .1 .1 .1 .1 .0 ≡ maskOf (noTotals .read .over)) × (o .1 .1 .1 .1 .1 .1 .0 ≡ maskOf (noTotals .written .over)))
+    × (o .1 .1 .1 .1 .1 .0 ≡ noTotals .read .over) × (o .1 .1 .1 .1 .1 .1 .0 ≡ noTotals .written .over))
     (λ r n i s r′ o. (s ≡ layoutreturnOf n (i .0) (i .1 .0) (i .1 .1 .0) r .status) × (r′ ≡ layoutreturnOf n (i .0) (i .1 .0) (i .1 .1 .0) r .after) × (o .1 .1 .0 ≡ replyAfter n (i .0) (i .1 .0) (i .1 .1 .0) r)
     × (o .1 .1 .1 .0 ≡ columnOf (layoutreturnOf n (i .0) (i .1 .0) (i .1 .1 .0) r .totals .read .bytes) (i .1 .1 .1 .0))
     × (o .1 .1 .1 .1 .0 ≡ columnOf (layoutreturnOf n (i .0) (i .1 .0) (i .1 .1 .0) r .totals .written .bytes) (i .1 .1 .1 .1 .0))
-    × (o .1 .1 .1 .1 .1 .0 ≡ maskOf (layoutreturnOf n (i .0) (i .1 .0) (i .1 .1 .0) r .totals .read .over))
-    × (o .1 .1 .1 .1 .1 .1 .0 ≡ maskOf (layoutreturnOf n (i .0) (i .1 .0) (i .1 .1 .0) r .totals .written .over)))
+    × (o .1 .1 .1 .1 .1 .0 ≡ layoutreturnOf n (i .0) (i .1 .0) (i .1 .1 .0) r .totals .read .over)
+    × (o .1 .1 .1 .1 .1 .1 .0 ≡ layoutreturnOf n (i .0) (i .1 .0) (i .1 .1 .0) r .totals .written .over))
     (record {
       if-wanted = λ r n i y r′ o w p.
           let so : returnedIn n (begunOf (decisionOf (r .head) (i .1 .0) (length (i .1 .1 .0))) .len) (i .0) (i .1 .0) r ≡ layoutreturnOf n (i .0) (i .1 .0) (i .1 .1 .0) r = wanted-so n (i .0) (i .1 .0) (i .1 .1 .0) r w in (
@@ -54,8 +54,8 @@ sc-record-layoutreturn-spec 𝓤 H 𝓜 𝓖 𝓡 =
             p .2 ∙ (λ j. replyBy ((p .0 ∙ ap (λ (a : Returned). a .status) so) j) (stateid-wanted n (i .0) (i .1 .0) (i .1 .1 .0) r w j) (i .1 .1 .0)),
             p .3 ∙ ap (λ (a : Returned). columnOf (a .totals .read .bytes) (i .1 .1 .1 .0)) so,
             p .4 ∙ ap (λ (a : Returned). columnOf (a .totals .written .bytes) (i .1 .1 .1 .1 .0)) so,
-            p .5 ∙ ap (λ (a : Returned). maskOf (a .totals .read .over)) so,
-            p .6 ∙ ap (λ (a : Returned). maskOf (a .totals .written .over)) so,
+            p .5 ∙ ap (λ (a : Returned). a .totals .read .over) so,
+            p .6 ∙ ap (λ (a : Returned). a .totals .written .over) so,
           );
       if-not = λ r n i y o w p.
           let so : returning (begunOf (decisionOf (r .head) (i .1 .0) (length (i .1 .1 .0))) .status) noTotals r ≡ layoutreturnOf n (i .0) (i .1 .0) (i .1 .1 .0) r = unwanted-so n (i .0) (i .1 .0) (i .1 .1 .0) r w in (
@@ -64,8 +64,8 @@ sc-record-layoutreturn-spec 𝓤 H 𝓜 𝓖 𝓡 =
             p .1 ∙ (λ j. replyBy (so j .status) (stateid-unwanted n (i .0) (i .1 .0) (i .1 .1 .0) r (decisionOf (r .head) (i .1 .0) (length (i .1 .1 .0))) w j) (i .1 .1 .0)),
             p .2 ∙ ap (λ (a : Returned). columnOf (a .totals .read .bytes) (i .1 .1 .1 .0)) so,
             p .3 ∙ ap (λ (a : Returned). columnOf (a .totals .written .bytes) (i .1 .1 .1 .1 .0)) so,
-            p .4 ∙ ap (λ (a : Returned). maskOf (a .totals .read .over)) so,
-            p .5 ∙ ap (λ (a : Returned). maskOf (a .totals .written .over)) so,
+            p .4 ∙ ap (λ (a : Returned). a .totals .read .over) so,
+            p .5 ∙ ap (λ (a : Returned). a .totals .written .over) so,
           );
     })
     𝓤 H 𝓜 𝓖 𝓡 code.env #f (b.name, (h.name, (e.name, tt))) (b.routine, (h.routine, (e.routine, tt))) (code.calls-capi·begin, (code.calls-capi·with-file, (code.calls-capi·without-file, tt))) (code.unfolded 𝓤 H 𝓜 𝓡)

@@ -12,7 +12,7 @@ use Rattle.layoutreturn.proofs.apply.Met as h-thm
 use Rattle.recovery.specs.declared.returns.Returned.{Returned}
 use Rattle.recovery.proofs.Returning.{returnedAt}
 use Rattle.capi.specs.Place.{soughtIn}
-use Rattle.capi.specs.Lent.{columnOf, maskOf}
+use Rattle.capi.specs.Lent.{columnOf}
 use Rattle.capi.specs.LayoutReturn.{bodyRead, returnedIn, stateidFor}
 use Rattle.capi.proofs.Types.{outcome}
 use Rattle.capi.proofs.Fields.{files, head, parts}
@@ -36,12 +36,12 @@ with-file-spec 𝓤 H 𝓜 𝓖 𝓡 =
     spec parts outcome args (decided parts outcome args fileAfter) w64 sought
     (λ l i s o. (s ≡ outcomeBy (l .1 .0) (l .1 .1 .0) (i .1 .0) (i .1 .1 .0) (l .0) (bodyRead (l .1 .1 .0) (i .0))) × (o .1 .1 .1 .0 ≡ replyBy (s .status) (s .stateid) (i .1 .1 .1 .0))
     × (o .1 .1 .1 .1 .0 ≡ columnOf (s .totals .read .bytes) (i .1 .1 .1 .1 .0)) × (o .1 .1 .1 .1 .1 .0 ≡ columnOf (s .totals .written .bytes) (i .1 .1 .1 .1 .1 .0))
-    × (o .1 .1 .1 .1 .1 .1 .0 ≡ maskOf (s .totals .read .over)) × (o .1 .1 .1 .1 .1 .1 .1 .0 ≡ maskOf (s .totals .written .over)))
+    × (o .1 .1 .1 .1 .1 .1 .0 ≡ s .totals .read .over) × (o .1 .1 .1 .1 .1 .1 .1 .0 ≡ s .totals .written .over))
     (λ r n i s r′ o. (s ≡ returnedIn n (i .0) (i .1 .0) (i .1 .1 .0) r .status) × (r′ ≡ returnedIn n (i .0) (i .1 .0) (i .1 .1 .0) r .after) × (o .1 .1 .1 .0 ≡ replyBy s (stateidFor n (i .0) (i .1 .0) (i .1 .1 .0) r) (i .1 .1 .1 .0))
     × (o .1 .1 .1 .1 .0 ≡ columnOf (returnedIn n (i .0) (i .1 .0) (i .1 .1 .0) r .totals .read .bytes) (i .1 .1 .1 .1 .0))
     × (o .1 .1 .1 .1 .1 .0 ≡ columnOf (returnedIn n (i .0) (i .1 .0) (i .1 .1 .0) r .totals .written .bytes) (i .1 .1 .1 .1 .1 .0))
-    × (o .1 .1 .1 .1 .1 .1 .0 ≡ maskOf (returnedIn n (i .0) (i .1 .0) (i .1 .1 .0) r .totals .read .over))
-    × (o .1 .1 .1 .1 .1 .1 .1 .0 ≡ maskOf (returnedIn n (i .0) (i .1 .0) (i .1 .1 .0) r .totals .written .over)))
+    × (o .1 .1 .1 .1 .1 .1 .0 ≡ returnedIn n (i .0) (i .1 .0) (i .1 .1 .0) r .totals .read .over)
+    × (o .1 .1 .1 .1 .1 .1 .1 .0 ≡ returnedIn n (i .0) (i .1 .0) (i .1 .1 .0) r .totals .written .over))
     (λ r n i s o long e.
     let so : returnedAt r (soughtIn n r) s ≡ returnedIn n (i .0) (i .1 .0) (i .1 .1 .0) r = ap (returnedAt r (soughtIn n r)) (e .0) ∙ sought-so n (i .0) (i .1 .0) (i .1 .1 .0) r long in
     let own : s .stateid ≡ stateidFor n (i .0) (i .1 .0) (i .1 .1 .0) r = ap (λ (x : Outcome). x .stateid) (e .0) ∙ sought-stateid n (i .0) (i .1 .0) (i .1 .1 .0) r long in (
@@ -50,8 +50,8 @@ with-file-spec 𝓤 H 𝓜 𝓖 𝓡 =
       e .1 ∙ ap (λ t. replyBy (s .status) t (i .1 .1 .1 .0)) own,
       e .2 ∙ ap (λ (a : Returned). columnOf (a .totals .read .bytes) (i .1 .1 .1 .1 .0)) so,
       e .3 ∙ ap (λ (a : Returned). columnOf (a .totals .written .bytes) (i .1 .1 .1 .1 .1 .0)) so,
-      e .4 ∙ ap (λ (a : Returned). maskOf (a .totals .read .over)) so,
-      e .5 ∙ ap (λ (a : Returned). maskOf (a .totals .written .over)) so,
+      e .4 ∙ ap (λ (a : Returned). a .totals .read .over) so,
+      e .5 ∙ ap (λ (a : Returned). a .totals .written .over) so,
     ))
     𝓤 H 𝓜 𝓖 𝓡 code.env #f (p.name, (g.name, (h.name, tt))) (p.routine, (g.routine, (h.routine, tt))) (code.calls-capi·position, (code.calls-capi·answered, (code.calls-layoutreturn·apply, tt))) (code.unfolded 𝓤 H 𝓜 𝓡)
     (p-thm.met 𝓤 H 𝓜 𝓖 𝓡, (g-thm.met 𝓤 H 𝓜 𝓖 𝓡, (h-thm.met 𝓤 H 𝓜 𝓖 𝓡, tt)))

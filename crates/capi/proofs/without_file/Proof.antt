@@ -5,7 +5,7 @@ use denote.Ref.{now}
 use Rattle.wire.specs.declared.stateid.Stateid.{Stateid}
 use Rattle.mirroring.specs.declared.totals.Totals.{Totals}
 use Rattle.layoutreturn.specs.LayoutReturn.{replyBy}
-use Rattle.capi.specs.Lent.{columnOf, maskOf}
+use Rattle.capi.specs.Lent.{columnOf}
 use Rattle.capi.proofs.without_file.Statement.{statement}
 use Rattle.capi.proofs.without_file.Tie as tie
 
@@ -39,8 +39,8 @@ returns c = (
   c .before .before .before .before .before .before .before .before .before .before .before .before .reply .ensures ∙ ap (λ (t : Stateid). replyBy (c .before .before .before .before .before .before .before .before .before .before .before .before .before .before .before .before .before .before .before .args .status) t (now (c .before .before .before .before .before .before .before .before .before .before .before .before .before .before .before .before .before .before .before .args .reply))) (c .before .before .before .before .before .before .before .before .before .before .before .before .before .before .none .ensures),
   c .before .before .before .before .before .before .hand-out .ensures .1 ∙ ap (λ (t : Totals). columnOf (t .read .bytes) (now (c .before .before .before .before .before .before .before .before .before .before .before .before .before .before .before .before .before .before .before .args .read))) (c .before .before .before .before .before .before .before .before .before .none2 .ensures),
   c .before .before .hand-out2 .ensures .1 ∙ ap (λ (t : Totals). columnOf (t .read .bytes) (now (c .before .before .before .before .before .before .before .before .before .before .before .before .before .before .before .before .before .before .before .args .written))) (c .before .before .before .before .before .before .before .before .before .none2 .ensures),
-  c .before .before .before .before .before .before .hand-out .ensures .0 ∙ ap (λ (t : Totals). maskOf (t .read .over)) (c .before .before .before .before .before .before .before .before .before .none2 .ensures),
-  c .before .before .hand-out2 .ensures .0 ∙ ap (λ (t : Totals). maskOf (t .read .over)) (c .before .before .before .before .before .before .before .before .before .none2 .ensures),
+  c .before .before .before .before .before .before .hand-out .ensures .0 ∙ ap (λ (t : Totals). t .read .over) (c .before .before .before .before .before .before .before .before .before .none2 .ensures),
+  c .before .before .hand-out2 .ensures .0 ∙ ap (λ (t : Totals). t .read .over) (c .before .before .before .before .before .before .before .before .before .none2 .ensures),
 )
 
 pub without-file-spec : {M : Type 1} → statement M

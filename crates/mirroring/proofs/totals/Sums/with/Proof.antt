@@ -9,12 +9,6 @@ mul-sum c = search needs
 element-copy-out-sum : tie.Need-element-copy-out-sum
 element-copy-out-sum c = search needs
 
-mul-over : tie.Need-mul-over
-mul-over c = search needs
-
-element-copy-out-over : tie.Need-element-copy-out-over
-element-copy-out-over c = search needs
-
 passed-by-requires : tie.Need-passed-by-requires
 passed-by-requires c κs = search needs
 
@@ -27,12 +21,6 @@ mul-self c = search needs
 element-write-self : tie.Need-element-write-self
 element-write-self c = search needs
 
-mul-self-2 : tie.Need-mul-self-2
-mul-self-2 c = search needs
-
-element-write-self-2 : tie.Need-element-write-self-2
-element-write-self-2 c = search needs
-
 returns : tie.Need-returns
 returns c = rw (c .grown-by .ensures, c .before .passed-by .ensures)
 
@@ -42,12 +30,8 @@ with-spec =
     (tie.spec
     mul-sum
     element-copy-out-sum
-    mul-over
-    element-copy-out-over
     passed-by-requires
     grown-by-requires
     mul-self
     element-write-self
-    mul-self-2
-    element-write-self-2
     returns)

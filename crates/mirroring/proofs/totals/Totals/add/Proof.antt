@@ -3,7 +3,7 @@ use mathlib.Core.Path.{_≡_}
 use Prim.Native.Nat.{_-_}
 use lib.ListN.{length}
 use Rattle.places.proofs.Loops.{mapped-length}
-use Rattle.mirroring.proofs.Summing.{Counting-both, both-none, both-more, both-all, Five}
+use Rattle.mirroring.proofs.Summing.{Counting-both, both-none, both-more, both-all, Held}
 use native.Mathlib.Omega.{arith}
 use borrow.Author.Needs.{needs}
 use Rattle.mirroring.proofs.totals.Totals.add.Statement.{statement}
@@ -18,14 +18,14 @@ abbrev μ-loop : tie.MeasureT-loop
 mirrors-long : (c : tie.Start Inv-loop μ-loop) → length (c .args .t2) ≡ 5
 mirrors-long c = search (mapped-length, needs)
 
-read-five : (c : tie.Start Inv-loop μ-loop) → Five (c .args .self .read)
-read-five c = record { bytes = search needs; over = search needs }
+read-held : (c : tie.Start Inv-loop μ-loop) → Held (c .args .self .read)
+read-held c = record { bytes = search needs; over = search needs }
 
-written-five : (c : tie.Start Inv-loop μ-loop) → Five (c .args .self .written)
-written-five c = record { bytes = search needs; over = search needs }
+written-held : (c : tie.Start Inv-loop μ-loop) → Held (c .args .self .written)
+written-held c = record { bytes = search needs; over = search needs }
 
 loop-holds : tie.Need-loop-holds Inv-loop μ-loop
-loop-holds c = both-none _ _ _ _ _ _
+loop-holds c = both-none _ _ _ _ _ _ (read-held c) (written-held c)
 
 mul-m : tie.Need-mul-m Inv-loop μ-loop
 mul-m c = omega arith
@@ -48,12 +48,12 @@ loop-less c = omega arith
 loop-again : tie.Need-loop-again Inv-loop μ-loop
 loop-again c =
     let s = c .before .before .before .before .before in
-    both-more (c .before .before .before .before .loop .inv) (read-five s) (written-five s) (omega arith) _ (c .before .is .ensures) _ (c .with .ensures)
+    both-more (c .before .before .before .before .loop .inv) (read-held s) (written-held s) (omega arith) _ (c .before .is .ensures) _ (c .with .ensures)
 
 returns : tie.Need-returns Inv-loop μ-loop
 returns c =
     let s = c .before .before in
-    both-all (s .args .t2) (s .args .high) (s .args .low) (s .args .read) (s .args .written) (s .args .self) (c .before .loop .inv) (mirrors-long s) (read-five s) (written-five s) (omega arith)
+    both-all (s .args .t2) (s .args .high) (s .args .low) (s .args .read) (s .args .written) (s .args .self) (c .before .loop .inv) (mirrors-long s) (read-held s) (written-held s) (omega arith)
 
 pub add-spec : {M : Type 1} → statement M
 add-spec =
