@@ -172,10 +172,10 @@ one-blamed i j k q true xs ys f e = has-with k i ys ∙ rw q (by (eqb i j) (sym 
 one-blamed i j k q false xs ys f e = f i e
 
 -- the same report blames more where more was blamed, and takes no blame away
-blame-more : (w v : Row) → v .mirrors ≡ w .mirrors → v .proxy ≡ w .proxy → (zs : List DeviceError) (xs ys : List ℕ) → ((p : ℕ) → has p xs ≡ true → has p ys ≡ true) → (i : ℕ) → has i (blame w zs xs) ≡ true → has i (blame v zs ys) ≡ true
+blame-more : (w v : Row) → v .mirrors ≡ w .mirrors → (zs : List DeviceError) (xs ys : List ℕ) → ((p : ℕ) → has p xs ≡ true → has p ys ≡ true) → (i : ℕ) → has i (blame w zs xs) ≡ true → has i (blame v zs ys) ≡ true
 unfolding blame
-blame-more w v m q [] xs ys f i e = f i e
-blame-more w v m q (z ∷ zs) xs ys f i e = blame-more w v m q zs _ _ (λ p h. one-blamed p _ _ (ap₂ (copyPlace (deviceOf z)) m q) (isFault z) xs ys f h) i e
+blame-more w v m [] xs ys f i e = f i e
+blame-more w v m (z ∷ zs) xs ys f i e = blame-more w v m zs _ _ (λ p h. one-blamed p _ _ (ap (copyPlace (deviceOf z)) m) (isFault z) xs ys f h) i e
 
 blame-stays : (v : Row) (zs : List DeviceError) (ys : List ℕ) (i : ℕ) → has i ys ≡ true → has i (blame v zs ys) ≡ true
 unfolding blame
@@ -206,7 +206,7 @@ module _ {w v : Row} (h : Worse w v) (xs : List DeviceError) where
     intents = h .intents;
     reclaims = h .reclaims;
     marked = λ q. q;
-    blamed = λ i q. blame-more w v (h .mirrors) (h .proxy) xs (w .blamed) (v .blamed) (h .blamed) i q;
+    blamed = λ i q. blame-more w v (h .mirrors) xs (w .blamed) (v .blamed) (h .blamed) i q;
     sound = record { no-blame = λ q. true-false q };
   }
   both-reported false false false e = h

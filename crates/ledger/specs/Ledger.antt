@@ -108,7 +108,7 @@ abbrev pub names : Row → Device → Bool
 names w d = isCopy d (w .mirrors) (w .proxy)
 
 abbrev pub placeIn : Row → Device → ℕ
-placeIn w d = copyPlace d (w .mirrors) (w .proxy)
+placeIn w d = copyPlace d (w .mirrors)
 
 abbrev pub isStranger : Row → DeviceError → Bool
 isStranger w x = not (names w (deviceOf x))

@@ -96,8 +96,8 @@ placesWith k (proxyAt d) = suc k
 
 -- where the code finds a device
 pub record Placed (d : Device) (ms : List Mirror) (ds : List Device) (p : Proxy) : Type 0 where
-  pub at : first (isDevice d) ms ≡ At (copyPlace d ds p)
-  pub inside : copyPlace d ds p < placesWith 4 p
+  pub at : first (isDevice d) ms ≡ At (copyPlace d ds)
+  pub inside : copyPlace d ds < placesWith 4 p
 
 -- the same if there are k places before the proxy's
 record PlacedBefore (k : ℕ) (d : Device) (ms : List Mirror) (ds : List Device) (p : Proxy) : Type 0 where

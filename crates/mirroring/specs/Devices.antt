@@ -64,5 +64,5 @@ unfoldable pub isCopy : Device → List Device → Proxy → Bool
 isCopy d ds p = cond (isMirror d ds) true (isProxy d p)
 
 -- and its place: that of the mirror, or 4, which is the proxy's
-unfoldable pub copyPlace : Device → List Device → Proxy → ℕ
-copyPlace d ds p = cond (isMirror d ds) (placeOf d ds) 4
+unfoldable pub copyPlace : Device → List Device → ℕ
+copyPlace d ds = cond (isMirror d ds) (placeOf d ds) 4
