@@ -24,6 +24,7 @@
 --     Placed           a function that is handed the record, a place and a struct: the same
 --     Sliced           a function that is lent a slice of structs: the same; an element of the slice; a part of an array in a record; the call of such a function
 --     Within           the call of a function that is handed the record where it lies
+--     Inside           the call of a function that is handed one element of an array in the record
 --     Shown            what is shown of the arguments to a function before they are handed on: numbers, `&[uW]`, and lengths
 --     Again            a slice that is lent again for a call, and comes back
 --     Rounds           a loop by its turns
@@ -36,6 +37,7 @@ pub mod Cleared
 pub mod Drawn
 pub mod Each
 pub mod Headed
+pub mod Inside
 pub mod Listed
 pub mod Lists
 pub mod Onward
