@@ -11,6 +11,9 @@
 --     Drawn            f(r: &mut T, at, s)  { let i = p(r, at);  if i < N { g(&mut r.list[at..i + 1]);  r.list[i] = e(); } }
 --     Slid             f(s: &mut [F])  { each element moves down over the one before it }
 --     Onward           f(s: &mut [F])  { g(s) }
+-- One element of the array:
+--     Written          f(r: &mut T, at, s)  { if at < N { r.list[at] = g(s); } }
+--     Lent             f(r: &mut T, i, s)  { if i < N { p(&mut r.list[i], s.at, s); } }, where p may be one of `Written.antt`'s or `Drawn.antt`'s over the element
 -- Calls that lend the record to such a function:
 --     Headed           f(r: &mut T) -> u32  { let s = g(r.head);  r.head = s.head;  if s.status == 0 { h(r); }  s.status }
 --     Passed           a CHANGE of crate walks' `Changed`:  if s.status == 0 { h(r, i, s); }
@@ -38,6 +41,7 @@ pub mod Drawn
 pub mod Each
 pub mod Headed
 pub mod Inside
+pub mod Lent
 pub mod Listed
 pub mod Lists
 pub mod Onward
@@ -53,3 +57,4 @@ pub mod Slid
 pub mod Sought
 pub mod Tallied
 pub mod Within
+pub mod Written
