@@ -143,15 +143,12 @@ impl Intent {
         }
     }
 
-    // Whether the place has the `other` of `t`.
+    // Whether the place has the `other` of `t`; the `other` first, by which most places differ.
     pub(crate) fn uses(self, t: Stateid) -> bool
         ensures { λ r. ⌜ r ≡ usesOther t self ⌝ }
     {
-        if !self.taken {
-            return false;
-        }
         let own = self.stateid;
-        stated(own) && own.has_other(t)
+        own.has_other(t) && self.taken && stated(own)
     }
 
     // The place once the client has the stateid `t`; by its fields and the stateid's, so that the compiler stores no more than what changes.
@@ -239,6 +236,15 @@ pub fn busy(intents: [Intent; 8]) -> bool
 {
     let x = intents[0];
     x.taken
+}
+
+// The same once that at `at` has gone.
+pub fn busy_without(intents: [Intent; 8], at: usize) -> bool
+    ensures { λ r. ⌜ r ≡ firstTaken (leftOut noIntent at intents) ⌝ }
+{
+    let x = intents[0];
+    let y = intents[1];
+    either(at == 0, y.taken, x.taken)
 }
 
 // The intents without that at `at`: those after it move down one place.
