@@ -19,8 +19,10 @@ use Rattle.intents.specs.declared.Intent.{Intent}
 use Rattle.mirroring.specs.declared.blame.Change.{Change}
 use Rattle.files.specs.Counts.{standing, movedBy}
 use Rattle.files.specs.declared.counts.Standing.{Standing}
+use Rattle.files.specs.declared.file.Closing.{Closing}
 use Rattle.files.specs.declared.file.File.{File}
 use Rattle.files.specs.declared.file.FileAnswered.{FileAnswered}
+use Rattle.files.specs.declared.file.Opening.{Opening}
 use Rattle.files.specs.declared.head.Head.{Head}
 use Rattle.places.specs.declared.Found.{Found}
 use Rattle.places.specs.declared.Found.the-variants.{At, Nothing}
@@ -101,6 +103,14 @@ opens c h f Nothing = takes c h f (first isFree (f .intents))
 unfoldable pub openedFile : FileNumber → Head → Client → File → FileAnswered
 openedFile n h c f = cond (h .grace) (fileAnswered 10013 h f) (ofFile n h f (opens c h f (first (isIntent c) (f .intents))))
 
+-- the same in two steps, for code that changes the intents where they lie: what is decided, s, and then the file that has the new intent at its place; there is no
+-- place 8, which is where an open that finds its intent held puts it
+abbrev pub withBegun : ℕ → Opening → File → File
+withBegun at s f = withIntents (set (f .intents) at (intentOf (s .client))) f
+
+abbrev pub openedBy : Opening → File → FileAnswered
+openedBy s f = fileAnswered (s .status) (s .head) (cond (eqb (s .status) 0) (withBegun (s .at) s f) f)
+
 abbrev pub reclaims : Client → Head → File → Found → FileAnswered
 reclaims c h f Nothing = fileAnswered 10034 h f
 reclaims c h f (At i) = fileAnswered 0 h (withIntents (map (reclaimedIf c) (f .intents)) f)
@@ -117,6 +127,13 @@ leaves h f (At i) =
 
 unfoldable pub closedFile : FileNumber → Head → Client → File → FileAnswered
 closedFile n h c f = ofFile n h f (leaves h f (first (isIntent c) (f .intents)))
+
+-- the same in two steps, as for open
+abbrev pub withEnded : ℕ → Closing → File → File
+withEnded at s f = withIntents (leftOut noIntent at (f .intents)) f
+
+abbrev pub closedBy : Closing → File → FileAnswered
+closedBy s f = fileAnswered (s .status) (s .head) (cond (eqb (s .status) 0) (withEnded (s .at) s f) f)
 
 abbrev pub mendedFile : File → File
 mendedFile f = withMark false (withMirrors (map unblamed (f .mirrors)) f)

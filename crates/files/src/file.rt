@@ -12,7 +12,8 @@ use places::Found;
 use wire::stateid::Stateid;
 ghost use mathlib.Core.Path.{_≡_};
 ghost use mathlib.Core.Bool.{true, cond};
-ghost use Rattle.files.specs.File.{noFile, blankFile, fileOf, isFile, isVacant, fileAnswered, openedFile, reclaimedFile, closedFile, repairedFile, forgettable, proxyAddedFile, proxyRemovedFile, statedFile, usesStateid, raisedFile, restartedFile, endedFile, isListed, isReady, sourceOf, changedFile, standingOf, countedHead, headAfter};
+ghost use Rattle.intents.specs.Intents.{intentOf};
+ghost use Rattle.files.specs.File.{noFile, blankFile, fileOf, isFile, isVacant, fileAnswered, openedBy, openedFile, reclaimedFile, closedBy, closedFile, repairedFile, forgettable, proxyAddedFile, proxyRemovedFile, statedFile, usesStateid, raisedFile, restartedFile, endedFile, isListed, isReady, sourceOf, changedFile, standingOf, countedHead, headAfter};
 
 // The wide fields stand first. A place of the record is a file's if `used`.
 #[repr(C)]
@@ -30,6 +31,32 @@ pub struct FileAnswered {
     pub status: u32,
     pub head: Head,
     pub file: File,
+}
+
+// What open decides: the status, what stands beside the files afterwards, the place of a new intent, which is 8 for none, and its client.
+#[repr(C)]
+pub struct Opening {
+    pub status: u32,
+    pub head: Head,
+    pub at: usize,
+    pub client: u64,
+}
+
+impl Opening {
+    // The new intent.
+    pub fn intent(self) -> Intent
+        ensures { λ r. ⌜ r ≡ intentOf (self .client) ⌝ }
+    {
+        Intent::new(self.client)
+    }
+}
+
+// What close decides: the status, what stands beside the files afterwards, and the place of the intent that goes.
+#[repr(C)]
+pub struct Closing {
+    pub status: u32,
+    pub head: Head,
+    pub at: usize,
 }
 
 impl File {
@@ -90,29 +117,67 @@ impl File {
         }
     }
 
-    // Open for writing: 10013 in grace; 70; held already: 0, no change; 28 if 8 are held.
-    pub fn open(mut self, number: u64, head: Head, client: u64) -> FileAnswered
-        ensures { λ r. ⌜ r ≡ openedFile number head client self ⌝ }
+    // Open for writing, decided: 10013 in grace; 70; held already: 0, no change; 28 if 8 are held.
+    pub fn opening(self, number: u64, head: Head, client: u64) -> Opening
+        ensures { λ r. ⌜ openedBy r self ≡ openedFile number head client self ⌝ }
     {
         if head.grace {
-            return self.answered(statuses::GRACE, head);
+            return Opening {
+                status: statuses::GRACE,
+                head,
+                at: 8,
+                client,
+            };
         }
         if !self.is(number) {
-            return self.answered(statuses::STALE, head);
+            return Opening {
+                status: statuses::STALE,
+                head,
+                at: 8,
+                client,
+            };
         }
         let old = self.intents;
         if let Found::At(_) = intents::holding(old, client) {
-            return self.answered(0, head);
+            return Opening {
+                status: 0,
+                head,
+                at: 8,
+                client,
+            };
         }
-        let Found::At(i) = intents::room(old) else {
-            return self.answered(statuses::NOSPC, head);
+        let Found::At(at) = intents::room(old) else {
+            return Opening {
+                status: statuses::NOSPC,
+                head,
+                at: 8,
+                client,
+            };
         };
-        let x = Intent::new(client);
-        let xs = intents::placed(old, i, x);
         let was = self.standing();
         let is = Standing::of(was.listed, true);
+        let next = head.moved(was, is);
+        Opening {
+            status: 0,
+            head: next,
+            at,
+            client,
+        }
+    }
+
+    // Open for writing, with the file afterwards.
+    pub fn open(mut self, number: u64, head: Head, client: u64) -> FileAnswered
+        ensures { λ r. ⌜ r ≡ openedFile number head client self ⌝ }
+    {
+        let s = self.opening(number, head, client);
+        if s.status != 0 {
+            return self.answered(s.status, s.head);
+        }
+        let old = self.intents;
+        let x = s.intent();
+        let xs = intents::placed(old, s.at, x);
         self.intents = xs;
-        self.answered(0, head.moved(was, is))
+        self.answered(0, s.head)
     }
 
     // Reclaim: 10033 not in grace; 70; 10034 no intent; again: 0, no change.
@@ -134,26 +199,55 @@ impl File {
         self.answered(0, head)
     }
 
-    // Close: 70; 10025 no intent, or in grace and not reclaimed.
+    // Close, decided: 70; 10025 no intent, or in grace and not reclaimed.
+    pub fn closing(self, number: u64, head: Head, client: u64) -> Closing
+        ensures { λ r. ⌜ closedBy r self ≡ closedFile number head client self ⌝ }
+    {
+        if !self.is(number) {
+            return Closing {
+                status: statuses::STALE,
+                head,
+                at: 8,
+            };
+        }
+        let old = self.intents;
+        let Found::At(at) = intents::holding(old, client) else {
+            return Closing {
+                status: statuses::BAD_STATEID,
+                head,
+                at: 8,
+            };
+        };
+        let reclaimed = intents::is_reclaimed(old, at);
+        if head.grace && !reclaimed {
+            return Closing {
+                status: statuses::BAD_STATEID,
+                head,
+                at: 8,
+            };
+        }
+        let was = self.standing();
+        let is = Standing::of(was.listed, intents::busy_without(old, at));
+        let next = head.moved(was, is);
+        Closing {
+            status: 0,
+            head: next,
+            at,
+        }
+    }
+
+    // Close, with the file afterwards.
     pub fn close(mut self, number: u64, head: Head, client: u64) -> FileAnswered
         ensures { λ r. ⌜ r ≡ closedFile number head client self ⌝ }
     {
-        if !self.is(number) {
-            return self.answered(statuses::STALE, head);
+        let s = self.closing(number, head, client);
+        if s.status != 0 {
+            return self.answered(s.status, s.head);
         }
         let old = self.intents;
-        let Found::At(i) = intents::holding(old, client) else {
-            return self.answered(statuses::BAD_STATEID, head);
-        };
-        let reclaimed = intents::is_reclaimed(old, i);
-        if head.grace && !reclaimed {
-            return self.answered(statuses::BAD_STATEID, head);
-        }
-        let xs = intents::without(old, i);
-        let was = self.standing();
-        let is = Standing::of(was.listed, intents::busy(xs));
+        let xs = intents::without(old, s.at);
         self.intents = xs;
-        self.answered(0, head.moved(was, is))
+        self.answered(0, s.head)
     }
 
     // Repaired: 70; 22 not marked; 10008 an intent is open. Its answers are written out: through the helper the compiler copies a file that stays.
