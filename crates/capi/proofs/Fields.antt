@@ -1,4 +1,4 @@
--- The fields that a walk goes to: the files of a record, with what is known of them as a list, and its head, both together, and a file's flag and number.
+-- The fields that a walk goes to: the files of a record, with what is known of them as a list, and its head, both together; a file's intents, its flag and its number.
 use mathlib.Core.Path.{refl}
 use native.Mathlib.Omega.{arith}
 use denote.Builtin.{u64, bool}
@@ -10,7 +10,8 @@ use Rattle.walks.proofs.Changed.{Parts}
 use Rattle.walks.proofs.Element.{Elements, Kept, Inner}
 use Rattle.records.proofs.Lists.{Lists}
 use Rattle.records.proofs.Tallied.{Apart}
-use Rattle.files.specs.File.{noFile}
+use Rattle.intents.proofs.Intent as X
+use Rattle.files.specs.File.{noFile, withIntents}
 use Rattle.files.proofs.file.File as F
 use Rattle.files.proofs.file.File.Laws as F′
 use Rattle.files.proofs.head.Head as B
@@ -55,6 +56,21 @@ apart = record { lists = filed; list-kept = λ r h. refl; head-kept = λ r fs. r
 
 abbrev pub parts : Parts T.the-type
 parts = record { F = file; list = files; small = tt; none = noFile; H = heading; head = head }
+
+-- a file's intents
+unfoldable pub intents : Elements F.the-type X.the-type
+intents = record {
+  k = 2;
+  n = 8;
+  d = 128;
+  list = λ f. f .intents;
+  over = λ f xs. withIntents xs f;
+  keeps = λ f. refl;
+  found = refl;
+  room = λ i l. record { fits = omega arith };
+  cut = λ M 𝓤 H A W q f xs a. cut-records 𝓤 H A q (row F.the-type) X.the-type 8 128 f (withIntents xs f) (f .intents) xs a
+      (put-at 𝓤 H A W q F.the-type F′.the-laws 2 128 refl refl a f (withIntents xs f) (F.struct .as-values f) xs refl refl);
+}
 
 unfoldable pub used : Kept F.the-type bool
 used = record { k = 3; d = 384; get = λ f. f .used; found = refl; cut = λ M 𝓤 H A W q f a. look-at 𝓤 H A W q F.the-type F′.the-laws 3 384 refl refl a f (F.struct .as-values f) refl }

@@ -1,4 +1,4 @@
--- The record, its head, a file, a stateid, what a call on a record or a file answers, and what a listing carries, as the laws of `walks` and `records` take them.
+-- The record, its head, a file, an intent, a stateid, what a call on a record or a file answers, what open and close decide, and what a listing carries, as the laws of `walks` and `records` take them.
 use denote.Enum.Declared.{field as enum-field}
 use denote.Struct.Declared.{field}
 use denote.Struct.Field.{u64-field, usize-field, bool-field}
@@ -6,6 +6,7 @@ use denote.Struct.Laws as LL
 use mathlib.Core.List.{[], _∷_}
 use Rattle.walks.proofs.Types.{Rec, Headed, Stored, stored-as}
 use Rattle.records.proofs.Listed as listed-by
+use Rattle.records.proofs.Lent.{Sited}
 use Rattle.records.proofs.Parted.{Parting}
 use Rattle.mirroring.proofs.blame.Change as C
 use Rattle.mirroring.proofs.blame.Change.Laws as C′
@@ -13,12 +14,17 @@ use Rattle.mirroring.proofs.totals.Totals as U
 use Rattle.mirroring.proofs.totals.Totals.Laws as U′
 use Rattle.wire.proofs.stateid.Stateid as S
 use Rattle.wire.proofs.stateid.Stateid.Laws as S′
+use Rattle.intents.proofs.Intent as X
+use Rattle.intents.proofs.Intent.Laws as X′
 use Rattle.layoutreturn.specs.declared.Outcome.{Outcome}
 use Rattle.layoutreturn.proofs.Outcome as O
 use Rattle.files.specs.declared.file.FileAnswered.{FileAnswered}
+use Rattle.files.specs.declared.file.Opening.{Opening}
 use Rattle.files.proofs.file.File as F
 use Rattle.files.proofs.file.File.Laws as F′
 use Rattle.files.proofs.file.FileAnswered as A
+use Rattle.files.proofs.file.Opening as P
+use Rattle.files.proofs.file.Opening.Laws as P′
 use Rattle.files.proofs.head.Head as B
 use Rattle.files.proofs.head.Head.Laws as B′
 use Rattle.mirroring.proofs.source.Direction as E
@@ -42,11 +48,32 @@ heading = record { T = B.the-type; laws = B′.the-laws; plain = B′.the-plain;
 abbrev pub file : Rec
 file = record { T = F.the-type; laws = F′.the-laws; plain = F′.the-plain; lowers = F′.lowers }
 
+abbrev pub intent : Rec
+intent = record { T = X.the-type; laws = X′.the-laws; plain = X′.the-plain; lowers = X′.lowers }
+
 abbrev pub stateid : Rec
 stateid = record { T = S.the-type; laws = S′.the-laws; plain = S′.the-plain; lowers = S′.lowers }
 
 abbrev pub file-answered : Stored heading file
 file-answered = record { name = A.the-type .name; D = FileAnswered; status = λ s. s .status; head = λ s. s .head; rec = λ s. s .file; one = A.the-type .to-one }
+
+-- what open decides, as a struct, and with its place
+abbrev pub opened : Rec
+opened = record { T = P.the-type; laws = P′.the-laws; plain = P′.the-plain; lowers = P′.lowers }
+
+abbrev pub opening : Sited heading
+opening = record {
+  name = P.the-type .name;
+  D = Opening;
+  others = u64-field ∷ [];
+  status = λ s. s .status;
+  head = λ s. s .head;
+  at = λ s. s .at;
+  rest = λ s. (s .client, tt);
+  one = P.the-type .to-one;
+  laws = (LL.u64-laws, tt);
+  plain = (LL.u64-plain, tt);
+}
 
 abbrev pub outcome : Headed heading
 outcome = record {

@@ -11,6 +11,7 @@ mod totals;
 
 use files::file::File;
 use files::file::FileAnswered;
+use files::file::Opening;
 use files::head::Edition;
 use files::head::Head;
 use layoutreturn::Decision;
@@ -31,9 +32,10 @@ ghost use Rattle.mirroring.specs.Totals.{noTotals};
 ghost use Prim.Native.Nat.{_<_};
 ghost use lib.ListN.{length};
 ghost use Rattle.files.specs.declared.head.Edition.the-variants.{Current, Old};
-ghost use Rattle.files.specs.File.{restartedFile};
+ghost use Rattle.files.specs.File.{restartedFile, withBegun};
 ghost use Rattle.files.specs.Head.{freshHead};
 ghost use Rattle.capi.specs.Place.{isNumbered, soughtIn, userIn};
+ghost use Rattle.capi.specs.OneFile.{begunAt};
 ghost use Rattle.capi.specs.SetUp.{barredBy, setUpFile, setUpWith};
 ghost use Rattle.capi.specs.Asked.{listingBy};
 ghost use Rattle.capi.specs.Lent.{columnOf};
@@ -439,6 +441,25 @@ fn pull(r: &mut Record, at: usize, s: Verdict)
     }
 }
 
+// ---- One intent, in its file, in the record.
+// A new intent, at its place among the file's.
+fn begin_intent(f: &mut File, at: usize, s: Opening)
+    ensures { λ _. ⌜ now (f .exit) ≡ withBegun at s (now (f .entry)) ⌝ }
+{
+    if at < 8 {
+        f.intents[at] = s.intent();
+    }
+}
+
+// The same on the file at a place.
+fn begin_on_file(r: &mut Record, i: usize, s: Opening)
+    ensures { λ _. ⌜ now (r .exit) ≡ begunAt (now (r .entry)) i s ⌝ }
+{
+    if i < 64 {
+        begin_intent(&mut r.files[i], s.at, s);
+    }
+}
+
 // ---- The calls.
 // Fresh: the record is written whole, whatever it held.
 #[no_mangle]
@@ -476,8 +497,10 @@ pub extern "C" fn sc_record_open(r: &mut Record, file: u64, client: u64) -> u32
     ensures { λ s. ⌜ (s ≡ openOf file client (now (r .entry)) .status) × (now (r .exit) ≡ openOf file client (now (r .entry)) .after) ⌝ }
 {
     let i = position(r, file);
-    let s = File::open(r.files[i], file, r.head, client);
-    r.files[i] = s.file;
+    let s = File::opening(r.files[i], file, r.head, client);
+    if s.status == 0 {
+        begin_on_file(r, i, s);
+    }
     r.head = s.head;
     s.status
 }

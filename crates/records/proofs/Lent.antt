@@ -8,9 +8,8 @@
 -- what f does to the record, its MIR, the walk from its end, and
 --     spec         the theorem of f from that of p, at any Y that is what is done (`Gives`) where the list has N elements
 -- Assumes nothing.
-use mathlib.Core.Path.{_≡_, refl, sym, _∙_, ap}
+use mathlib.Core.Path.{_≡_, refl, sym, _∙_}
 use Prim.Native.Nat.{ℕ, _<_, _^_}
-use mathlib.Core.Bool.{Bool}
 use mathlib.Core.List.{[], _∷_, List}
 use lib.Dec.{T as Tᵇ, ltb, ltb→lt}
 use lib.ListN.{getD, length}
@@ -47,8 +46,7 @@ use Rattle.walks.proofs.Cited.{Callee, Theorem₁, theorem₁}
 use Rattle.records.proofs.Inside.{calls-one}
 use Rattle.records.proofs.Within as w
 use Rattle.records.proofs.Placed as placed
-use Rattle.records.proofs.Lists.{ty, mutRef, holds, fails}
-use Rattle.records.proofs.Headed.{if-called}
+use Rattle.records.proofs.Lists.{ty, mutRef, put-past}
 
 -- ---- a struct with a place
 abbrev pub to-sited : (Fs : List Field) (D : Type 0) → (D → ℕ) → (D → Denots (rows Fs)) → D → Denots (rows (usize-field ∷ Fs))
@@ -86,9 +84,9 @@ module _ {T F : Declared} (Hc : Rec) (El : Elements T F) (St : Sited Hc) (cs : L
   abbrev sval : K .D → Val
   sval s = LL.val K KL s
 
-  -- what f does to the record
+  -- what f does to the record: nothing past the end of the list
   abbrev lends : T .D → ℕ → K .D → T .D
-  lends h i s = if-called (ltb i (El .n)) (put-elem El h i (Z (getD (El .list h) i none) (St .at s) s)) h
+  lends h i s = put-elem El h i (Z (getD (El .list h) i none) (St .at s) s)
 
   -- the contract of p
   abbrev ls : List Lead
@@ -168,8 +166,8 @@ module _ {T F : Declared} (Hc : Rec) (El : Elements T F) (St : Sited Hc) (cs : L
           (λ _ _ _. and-then ! (load ! (from ! (stop !)) (look ! 6 refl)) (and-then ! (load ! (from ! (fld ! refl (stop !))) (look-in ! 18 (sub ! 2 refl (whole !)))) (and-then ! (load ! (from ! (stop !)) (look ! 18 refl)) (no-more !)))) (λ u v x′ e v-is. drops ! $
           land-last ! (from ! (stop !)) (init ! 12 refl (nothing-lawful 𝓤 H A W .typed v _ v-is .0)) $
           exec ! C Λ En finish (atRet En Post) $ forget ! 14 refl $ forget ! 12 refl $ forget ! 10 refl $ forget ! 8 refl $ forget ! 6 refl $ forget ! 4 refl $
-          finishes (put-elem El h₀ i₀ (Z (getD (El .list h₀) i₀ none) (St .at s₀) s₀)) (ap (λ (t : Bool). if-called t (put-elem El h₀ i₀ (Z (getD (El .list h₀) i₀ none) (St .at s₀) s₀)) h₀) (sym (holds (ltb i₀ (El .n)) hit)))))
-          (λ miss. skips ! $ exec ! C Λ En finish (atRet En Post) $ forget ! 14 refl $ finishes h₀ (ap (λ (t : Bool). if-called t (put-elem El h₀ i₀ (Z (getD (El .list h₀) i₀ none) (St .at s₀) s₀)) h₀) (sym (fails (ltb i₀ (El .n)) miss))))
+          finishes (put-elem El h₀ i₀ (Z (getD (El .list h₀) i₀ none) (St .at s₀) s₀)) refl))
+          (λ miss. skips ! $ exec ! C Λ En finish (atRet En Post) $ forget ! 14 refl $ finishes h₀ (sym (put-past El h₀ i₀ (Z (getD (El .list h₀) i₀ none) (St .at s₀) s₀) long miss)))
         where
           in-list : Tᵇ (ltb i₀ (El .n)) → i₀ < El .n
           in-list hit = ltb→lt i₀ (El .n) hit

@@ -8,7 +8,6 @@
 -- Assumes nothing.
 use mathlib.Core.Path.{_≡_, refl, sym, _∙_, ap, subst}
 use Prim.Native.Nat.{ℕ, _<_, _^_}
-use mathlib.Core.Bool.{Bool}
 use mathlib.Core.List.{[], _∷_, List}
 use lib.Dec.{T as Tᵇ, ltb, ltb→lt}
 use lib.ListN.{length}
@@ -41,8 +40,7 @@ use Rattle.walks.proofs.Types.{Rec}
 use Rattle.walks.proofs.Cited.{Theorem₁, theorem₁}
 use Rattle.walks.proofs.Called as g
 use Rattle.records.proofs.Placed as placed
-use Rattle.records.proofs.Lists.{ty, mutRef, holds, fails}
-use Rattle.records.proofs.Headed.{if-called}
+use Rattle.records.proofs.Lists.{ty, mutRef, put-past}
 
 module _ {T : Declared} (Fc Sc : Rec) (El : Elements T (Fc .T)) (cs : LL.Copyables (Sc .T .parts)) (small : Tᵇ (ltb (size (ty (Fc .T))) (2 ^ bits w64))) (n-small : Tᵇ (ltb (El .n) (2 ^ bits w64))) (n-some : 0 < El .n) (none : Fc .T .D)
     (G : Sc .T .D → Fc .T .D) (Y : T .D → ℕ → Sc .T .D → T .D) where
@@ -55,9 +53,9 @@ module _ {T : Declared} (Fc Sc : Rec) (El : Elements T (Fc .T)) (cs : LL.Copyabl
   abbrev sval : K .D → Val
   sval s = LL.val K (Sc .laws) s
 
-  -- what f does to the record
+  -- what f does to the record: nothing past the end of the list
   abbrev writes : T .D → ℕ → K .D → T .D
-  writes h at s = if-called (ltb at (El .n)) (put-elem El h at (G s)) h
+  writes h at s = put-elem El h at (G s)
 
   -- the contract of g
   abbrev ls : List Lead
@@ -134,8 +132,8 @@ module _ {T : Declared} (Fc Sc : Rec) (El : Elements T (Fc .T)) (cs : LL.Copyabl
           assigns ! (bin ! (load ! (from ! (stop !)) (look ! 6 refl)) (load ! (from ! (stop !)) (look ! 8 refl)) tt) (from ! (stop !)) (init ! 4 refl (tt, tt)) $
           assigns-last ! (of-opd ! (load ! (from ! (stop !)) (look ! 10 refl))) (from ! (hop ! (look ! 4 refl) (stop !))) (store-elem El 𝓤 H A W h₀ at₀ none b o (in-list hit) (Fc .laws) (Fc .plain) ! 0 y refl (subst (Is (row F) y) (LL.tells F (Fc .laws) y _ is) is)) $
           exec ! C Λ En finish (atRet En Post) $ forget ! 12 refl $ forget ! 10 refl $ forget ! 8 refl $ forget ! 6 refl $ forget ! 4 refl $
-          finishes (put-elem El h₀ at₀ y) (ap (put-elem El h₀ at₀) y-so ∙ ap (λ (t : Bool). if-called t (put-elem El h₀ at₀ (G s₀)) h₀) (sym (holds (ltb at₀ (El .n)) hit)))))
-          (λ miss. skips ! $ exec ! C Λ En finish (atRet En Post) $ forget ! 12 refl $ finishes h₀ (ap (λ (t : Bool). if-called t (put-elem El h₀ at₀ (G s₀)) h₀) (sym (fails (ltb at₀ (El .n)) miss))))
+          finishes (put-elem El h₀ at₀ y) (ap (put-elem El h₀ at₀) y-so)))
+          (λ miss. skips ! $ exec ! C Λ En finish (atRet En Post) $ forget ! 12 refl $ finishes h₀ (sym (put-past El h₀ at₀ (G s₀) long miss)))
         where
           in-list : Tᵇ (ltb at₀ (El .n)) → at₀ < El .n
           in-list hit = ltb→lt at₀ (El .n) hit
