@@ -1,4 +1,4 @@
--- The fields that a walk goes to: the files of a record, with what is known of them as a list, and its head, both together; a file's intents, its flag and its number.
+-- The fields that a walk goes to: the files of a record, with what is known of them as a list, and its head, both together; a file's intents, its flag and its number; an intent's flag.
 use mathlib.Core.Path.{refl}
 use native.Mathlib.Omega.{arith}
 use denote.Builtin.{u64, bool}
@@ -11,6 +11,7 @@ use Rattle.walks.proofs.Element.{Elements, Kept, Inner}
 use Rattle.records.proofs.Lists.{Lists}
 use Rattle.records.proofs.Tallied.{Apart}
 use Rattle.intents.proofs.Intent as X
+use Rattle.intents.proofs.Intent.Laws as X′
 use Rattle.files.specs.File.{noFile, withIntents}
 use Rattle.files.proofs.file.File as F
 use Rattle.files.proofs.file.File.Laws as F′
@@ -77,3 +78,6 @@ used = record { k = 3; d = 384; get = λ f. f .used; found = refl; cut = λ M �
 
 unfoldable pub number : Kept F.the-type u64
 number = record { k = 0; d = 0; get = λ f. f .number; found = refl; cut = λ M 𝓤 H A W q f a. look-at 𝓤 H A W q F.the-type F′.the-laws 0 0 refl refl a f (F.struct .as-values f) refl }
+
+unfoldable pub taken : Kept X.the-type bool
+taken = record { k = 2; d = 24; get = λ x. x .taken; found = refl; cut = λ M 𝓤 H A W q x a. look-at 𝓤 H A W q X.the-type X′.the-laws 2 24 refl refl a x (X.struct .as-values x) refl }

@@ -18,8 +18,10 @@ use Rattle.intents.proofs.Intent as X
 use Rattle.intents.proofs.Intent.Laws as X′
 use Rattle.layoutreturn.specs.declared.Outcome.{Outcome}
 use Rattle.layoutreturn.proofs.Outcome as O
+use Rattle.files.specs.declared.file.Closing.{Closing}
 use Rattle.files.specs.declared.file.FileAnswered.{FileAnswered}
 use Rattle.files.specs.declared.file.Opening.{Opening}
+use Rattle.files.proofs.file.Closing as Q
 use Rattle.files.proofs.file.File as F
 use Rattle.files.proofs.file.File.Laws as F′
 use Rattle.files.proofs.file.FileAnswered as A
@@ -57,7 +59,7 @@ stateid = record { T = S.the-type; laws = S′.the-laws; plain = S′.the-plain;
 abbrev pub file-answered : Stored heading file
 file-answered = record { name = A.the-type .name; D = FileAnswered; status = λ s. s .status; head = λ s. s .head; rec = λ s. s .file; one = A.the-type .to-one }
 
--- what open decides, as a struct, and with its place
+-- what open and close decide; that of open also as a struct
 abbrev pub opened : Rec
 opened = record { T = P.the-type; laws = P′.the-laws; plain = P′.the-plain; lowers = P′.lowers }
 
@@ -74,6 +76,9 @@ opening = record {
   laws = (LL.u64-laws, tt);
   plain = (LL.u64-plain, tt);
 }
+
+abbrev pub closing : Sited heading
+closing = record { name = Q.the-type .name; D = Closing; others = []; status = λ s. s .status; head = λ s. s .head; at = λ s. s .at; rest = λ s. tt; one = Q.the-type .to-one; laws = tt; plain = tt }
 
 abbrev pub outcome : Headed heading
 outcome = record {

@@ -148,27 +148,28 @@ registered-so n m r h = rw (sought-place n r h) (by-phase (r .head .grace) refl)
 
 -- ---- forget
 -- what the turns of `slide` make, those before it being done
-slides-after : (p : List File) (x : File) (ys : List File) → slides noFile (length ys) (length p) (p ++ x ∷ ys) ≡ p ++ slid (x ∷ ys)
-unfolding slid
-slides-after p x [] = refl
-slides-after p x (y ∷ ys) =
-    ap (λ (zs : List File). slides noFile (length ys) (suc (length p)) zs) (ap (λ (z : File). set (p ++ x ∷ y ∷ ys) (length p) z) next ∙ set-append-seam p x (y ∷ ys) y)
-    ∙ ap (λ (n : ℕ). slides noFile (length ys) n (p ++ y ∷ y ∷ ys)) (sym (one-more y))
-    ∙ ap (λ (zs : List File). slides noFile (length ys) (length (p ++ (y ∷ []))) zs) (sym (append-snoc p y (y ∷ ys)))
-    ∙ slides-after (p ++ (y ∷ [])) y ys ∙ append-snoc p y (slid (y ∷ ys))
-  where
-    one-more : (z : File) → length (p ++ (z ∷ [])) ≡ suc (length p)
-    one-more z = let e : length (p ++ (z ∷ [])) ≡ length p + 1 = length-append p (z ∷ []) in omega (arith, e)
+module _ {A : Type 0} (none : A) where
+  slides-after : (p : List A) (x : A) (ys : List A) → slides none (length ys) (length p) (p ++ x ∷ ys) ≡ p ++ slid (x ∷ ys)
+  unfolding slid
+  slides-after p x [] = refl
+  slides-after p x (y ∷ ys) =
+      ap (λ (zs : List A). slides none (length ys) (suc (length p)) zs) (ap (λ (z : A). set (p ++ x ∷ y ∷ ys) (length p) z) next ∙ set-append-seam p x (y ∷ ys) y)
+      ∙ ap (λ (n : ℕ). slides none (length ys) n (p ++ y ∷ y ∷ ys)) (sym (one-more y))
+      ∙ ap (λ (zs : List A). slides none (length ys) (length (p ++ (y ∷ []))) zs) (sym (append-snoc p y (y ∷ ys)))
+      ∙ slides-after (p ++ (y ∷ [])) y ys ∙ append-snoc p y (slid (y ∷ ys))
+    where
+      one-more : (z : A) → length (p ++ (z ∷ [])) ≡ suc (length p)
+      one-more z = let e : length (p ++ (z ∷ [])) ≡ length p + 1 = length-append p (z ∷ []) in omega (arith, e)
 
-    next : getD (p ++ x ∷ y ∷ ys) (suc (length p)) noFile ≡ y
-    next = ap (λ (zs : List File). getD zs (suc (length p)) noFile) (sym (append-snoc p x (y ∷ ys))) ∙ getD-at (p ++ (x ∷ [])) y ys noFile (suc (length p)) (one-more x)
+      next : getD (p ++ x ∷ y ∷ ys) (suc (length p)) none ≡ y
+      next = ap (λ (zs : List A). getD zs (suc (length p)) none) (sym (append-snoc p x (y ∷ ys))) ∙ getD-at (p ++ (x ∷ [])) y ys none (suc (length p)) (one-more x)
 
-pub slid-so : (fs : List File) → slides noFile (length fs - 1) 0 fs ≡ slid fs
-unfolding slid
-slid-so [] = refl
-slid-so (f ∷ fs) = let e : suc (length fs) - 1 ≡ length fs = omega arith in rw e (slides-after [] f fs)
+  pub slid-so : (xs : List A) → slides none (length xs - 1) 0 xs ≡ slid xs
+  unfolding slid
+  slid-so [] = refl
+  slid-so (x ∷ xs) = let e : suc (length xs) - 1 ≡ length xs = omega arith in rw e (slides-after [] x xs)
 
-pub slid-long : (fs : List File) → length (slid fs) ≡ length fs
+pub slid-long : {A : Type 0} (xs : List A) → length (slid xs) ≡ length xs
 unfolding slid
 slid-long [] = refl
 slid-long (x ∷ []) = refl
@@ -224,9 +225,9 @@ last-run fs (suc t) i e =
     by true m = omega arith
     by false m = omega arith
 
-set-past : (p zs : List File) (n : ℕ) → set (p ++ zs) (length p + n) blankFile ≡ p ++ set zs n blankFile
-set-past [] zs n = let e : 0 + n ≡ n = omega arith in rw e refl
-set-past (x ∷ p) zs n = let e : suc (length p) + n ≡ suc (length p + n) = omega arith in rw e (ap (_∷_ x) (set-past p zs n))
+pub set-past : {A : Type 0} (e : A) (p zs : List A) (n : ℕ) → set (p ++ zs) (length p + n) e ≡ p ++ set zs n e
+set-past e [] zs n = let q : 0 + n ≡ n = omega arith in rw q refl
+set-past e (x ∷ p) zs n = let q : suc (length p) + n ≡ suc (length p + n) = omega arith in rw q (ap (_∷_ x) (set-past e p zs n))
 
 pub pulled-so : (r : Record) (at : ℕ) (v : Verdict) → length (r .files) ≡ 64 → draws files blankFile slid r at (lastSought r at) ≡ pulledFiles r at v
 unfolding files lastSought pulledFiles pulled lastIn
@@ -246,7 +247,7 @@ pulled-so r at v long = by (ltb at 64) refl
         let front : length (take at fs) ≡ at = length-take-le at fs (omega (arith, l, long)) in
         rw (far, lt-ltb (at + m) 64 (omega (arith, few, left, long, l)), k)
         (ap (λ zs. withFiles zs r) (ap (λ (n : ℕ). set (take at fs ++ (slid (take (suc m) (drop at fs)) ++ drop (suc m) (drop at fs))) (n + m) blankFile) (sym front)
-        ∙ set-past (take at fs) (slid (take (suc m) (drop at fs)) ++ drop (suc m) (drop at fs)) m
+        ∙ set-past blankFile (take at fs) (slid (take (suc m) (drop at fs)) ++ drop (suc m) (drop at fs)) m
         ∙ ap (λ zs. take at fs ++ zs) (subst (λ (zs : List File). set (slid (take (suc (run zs)) zs) ++ drop (suc (run zs)) zs) (run zs) blankFile ≡ pulled zs) (sym here) (run-pulled (getD fs at noFile) (drop (suc at) fs)))))
 
     by : (b : Bool) → ltb at 64 ≡ b → draws files blankFile slid r at (lastIn fs (63 - at) at) ≡ withFiles (withoutFile at fs) r

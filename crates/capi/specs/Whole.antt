@@ -72,8 +72,8 @@ enteredFiles r at s = withFiles (enter (s .file) (r .files)) r
 abbrev pub forgetVerdict : ℕ → Head → File → Verdict
 forgetVerdict n h f = verdict (forgettable n h f) h
 
--- each file over the one before it
-unfoldable pub slid : List File → List File
+-- each over the one before it
+unfoldable pub slid : {A : Type 0} → List A → List A
 slid [] = []
 slid (x ∷ []) = x ∷ []
 slid (x ∷ y ∷ ys) = y ∷ slid (y ∷ ys)

@@ -9,18 +9,20 @@ mod counts;
 mod listing;
 mod totals;
 
+use files::file::Closing;
 use files::file::File;
 use files::file::FileAnswered;
 use files::file::Opening;
 use files::head::Edition;
 use files::head::Head;
+use intents::Intent;
 use layoutreturn::Decision;
 use layoutreturn::Outcome;
 use mirroring::totals::Totals;
 use recovery::record::Record;
 use wire::stateid::Stateid;
 ghost use mathlib.Core.Path.{_≡_};
-ghost use mathlib.Core.Bool.{not};
+ghost use mathlib.Core.Bool.{not, false};
 ghost use Rattle.recovery.specs.Calls.{listed};
 ghost use Rattle.recovery.specs.Counts.{counts, countsOf};
 ghost use Rattle.recovery.specs.Record.{freshAs, fresh, registerOf, openOf, reclaimOf, closeOf, repairedOf, addProxyOf, removeProxyOf, setUpOf, forgetOf, endOf, restartOf};
@@ -32,10 +34,10 @@ ghost use Rattle.mirroring.specs.Totals.{noTotals};
 ghost use Prim.Native.Nat.{_<_};
 ghost use lib.ListN.{length};
 ghost use Rattle.files.specs.declared.head.Edition.the-variants.{Current, Old};
-ghost use Rattle.files.specs.File.{restartedFile, withBegun};
+ghost use Rattle.files.specs.File.{restartedFile, withBegun, withEnded};
 ghost use Rattle.files.specs.Head.{freshHead};
 ghost use Rattle.capi.specs.Place.{isNumbered, soughtIn, userIn};
-ghost use Rattle.capi.specs.OneFile.{begunAt};
+ghost use Rattle.capi.specs.OneFile.{begunAt, lastMoved, endedAt};
 ghost use Rattle.capi.specs.SetUp.{barredBy, setUpFile, setUpWith};
 ghost use Rattle.capi.specs.Asked.{listingBy};
 ghost use Rattle.capi.specs.Lent.{columnOf};
@@ -460,6 +462,59 @@ fn begin_on_file(r: &mut Record, i: usize, s: Opening)
     }
 }
 
+// Whether a place, taken or free, stays where it is when one before it ends: none does.
+fn stays(taken: bool) -> bool
+    ensures { λ z. ⌜ z ≡ false ⌝ }
+{
+    false
+}
+
+// The last place that moves, from `at` on.
+fn last_moved(f: &File, at: usize) -> usize
+    ensures { λ i. ⌜ i ≡ lastMoved at ⌝ }
+{
+    let mut i = at;
+    while i < 7 {
+        if stays(f.intents[i + 1].taken) {
+            break;
+        }
+        i += 1;
+    }
+    i
+}
+
+// The intents of a slice, each moved down over the one before it.
+fn slide_intents(xs: &mut [Intent])
+    ensures { λ _. ⌜ now (xs .exit) ≡ slid (now (xs .entry)) ⌝ }
+{
+    let mut i: usize = 1;
+    while i < xs.len() {
+        xs[i - 1] = xs[i];
+        i += 1;
+    }
+}
+
+// The file's intents without that at `at`: those after it move down one place, and the last place is free.
+fn end_intent(f: &mut File, at: usize, s: Closing)
+    ensures { λ _. ⌜ now (f .exit) ≡ withEnded at s (now (f .entry)) ⌝ }
+{
+    let i = last_moved(f, at);
+    if i < 8 {
+        let end = i + 1;
+        slide_intents(&mut f.intents[at..end]);
+        f.intents[i] = Intent::none();
+    }
+}
+
+// The same on the file at a place.
+fn end_on_file(r: &mut Record, i: usize, s: Closing)
+    ensures { λ _. ⌜ now (r .exit) ≡ endedAt (now (r .entry)) i s ⌝ }
+{
+    if i < 64 {
+        end_intent(&mut r.files[i], s.at, s);
+    }
+}
+
 // ---- The calls.
 // Fresh: the record is written whole, whatever it held.
 #[no_mangle]
@@ -521,8 +576,10 @@ pub extern "C" fn sc_record_close(r: &mut Record, file: u64, client: u64) -> u32
     ensures { λ s. ⌜ (s ≡ closeOf file client (now (r .entry)) .status) × (now (r .exit) ≡ closeOf file client (now (r .entry)) .after) ⌝ }
 {
     let i = position(r, file);
-    let s = File::close(r.files[i], file, r.head, client);
-    r.files[i] = s.file;
+    let s = File::closing(r.files[i], file, r.head, client);
+    if s.status == 0 {
+        end_on_file(r, i, s);
+    }
     r.head = s.head;
     s.status
 }

@@ -10,4 +10,4 @@ use Rattle.capi.proofs.slide.Code as code
 
 pub slide-spec : {M : Type 1} → stated.statement M
 unfolding code.routine
-slide-spec 𝓤 H 𝓜 𝓖 𝓡 = slides-by.spec file tt noFile slid slid-so 𝓤 H 𝓜 𝓖 𝓡 code.env #f tt tt tt (code.unfolded 𝓤 H 𝓜 𝓡) tt
+slide-spec 𝓤 H 𝓜 𝓖 𝓡 = slides-by.spec file tt noFile slid (slid-so noFile) 𝓤 H 𝓜 𝓖 𝓡 code.env #f tt tt tt (code.unfolded 𝓤 H 𝓜 𝓡) tt
