@@ -1,4 +1,4 @@
--- The fields that a walk goes to: the files of a record, with what is known of them as a list, and its head, both together; a file's intents, its flag and its number; an intent's flag.
+-- The fields that a walk goes to: the files of a record, with what is known of them as a list, and its head, both together; a file's intents, its mark, its flag and its number; an intent's flag.
 use mathlib.Core.Path.{refl}
 use native.Mathlib.Omega.{arith}
 use denote.Builtin.{u64, bool}
@@ -8,11 +8,12 @@ use borrow.Struct.Inner.{cut-record}
 use borrow.Struct.Items.{cut-records}
 use Rattle.walks.proofs.Changed.{Parts}
 use Rattle.walks.proofs.Element.{Elements, Kept, Inner}
+use Rattle.records.proofs.Gathered.{Flagged}
 use Rattle.records.proofs.Lists.{Lists}
 use Rattle.records.proofs.Tallied.{Apart}
 use Rattle.intents.proofs.Intent as X
 use Rattle.intents.proofs.Intent.Laws as X′
-use Rattle.files.specs.File.{noFile, withIntents}
+use Rattle.files.specs.File.{noFile, withIntents, withMark}
 use Rattle.files.proofs.file.File as F
 use Rattle.files.proofs.file.File.Laws as F′
 use Rattle.files.proofs.head.Head as B
@@ -71,6 +72,16 @@ intents = record {
   room = λ i l. record { fits = omega arith };
   cut = λ M 𝓤 H A W q f xs a. cut-records 𝓤 H A q (row F.the-type) X.the-type 8 128 f (withIntents xs f) (f .intents) xs a
       (put-at 𝓤 H A W q F.the-type F′.the-laws 2 128 refl refl a f (withIntents xs f) (F.struct .as-values f) xs refl refl);
+}
+
+unfoldable pub marked : Flagged F.the-type
+marked = record {
+  k = 4;
+  d = 385;
+  get = λ f. f .marked;
+  over = λ f z. withMark z f;
+  found = refl;
+  cut = λ M 𝓤 H A W q f z a. put-at 𝓤 H A W q F.the-type F′.the-laws 4 385 refl refl a f (withMark z f) (F.struct .as-values f) z refl refl;
 }
 
 unfoldable pub used : Kept F.the-type bool

@@ -4,12 +4,14 @@ use mathlib.Core.List.{List, [], _∷_, map}
 use mathlib.Core.Bool.{Bool, true, false, not, cond}
 use Prim.Native.Nat.{ℕ, zero, suc, _+_, _-_}
 use lib.Dec.{leb}
-use lib.ListN.{getD}
+use lib.ListN.{getD, set}
 use Rattle.statuses.specs.Names.{Bytes, Status, FileNumber}
 use Rattle.walks.specs.Seek.{seek}
 use Rattle.mirroring.specs.Mirrors.{enrolledOf}
 use Rattle.mirroring.specs.declared.enrol.Enrolled.{Enrolled}
-use Rattle.files.specs.File.{noFile, blankFile, fileOf, isFile, isVacant, fileAnswered, forgettable}
+use Rattle.intents.specs.Intents.{noIntent, isKept, isLost, stayedIntent}
+use Rattle.intents.specs.declared.Intent.{Intent}
+use Rattle.files.specs.File.{noFile, blankFile, fileOf, isFile, isVacant, fileAnswered, forgettable, withIntents, withMark}
 use Rattle.files.specs.declared.file.File.{File}
 use Rattle.files.specs.declared.file.FileAnswered.{FileAnswered}
 use Rattle.files.specs.declared.head.Head.{Head}
@@ -39,6 +41,20 @@ emptiedFile f = blankFile
 
 unfoldable pub eachFile : (File → File) → Record → Record
 eachFile g r = withFiles (map g (r .files)) r
+
+-- a file's intents at the end of grace, in t turns from the place i on, when n stay so far: the place is emptied, one that stays goes to the place n, and one
+-- that is lost marks the file
+abbrev pub emptiedAt : ℕ → File → File
+emptiedAt i f = withIntents (set (f .intents) i noIntent) f
+
+abbrev pub movedTo : ℕ → Intent → File → File
+movedTo n x f = withIntents (set (f .intents) n (stayedIntent x)) f
+
+unfoldable pub gathered : ℕ → ℕ → ℕ → File → File
+gathered zero i n f = f
+gathered (suc t) i n f =
+    cond (isKept (getD (f .intents) i noIntent)) (gathered t (i + 1) (n + 1) (movedTo n (getD (f .intents) i noIntent) (emptiedAt i f)))
+    (cond (isLost (getD (f .intents) i noIntent)) (gathered t (i + 1) n (withMark true (emptiedAt i f))) (gathered t (i + 1) n (emptiedAt i f)))
 
 -- each file after the end of grace, and each of them counted
 unfoldable pub endedEach : Record → Record

@@ -34,7 +34,7 @@ ghost use Rattle.mirroring.specs.Totals.{noTotals};
 ghost use Prim.Native.Nat.{_<_};
 ghost use lib.ListN.{length};
 ghost use Rattle.files.specs.declared.head.Edition.the-variants.{Current, Old};
-ghost use Rattle.files.specs.File.{restartedFile, withBegun, withEnded};
+ghost use Rattle.files.specs.File.{restartedFile, endedFile, withBegun, withEnded};
 ghost use Rattle.files.specs.Head.{freshHead};
 ghost use Rattle.capi.specs.Place.{isNumbered, soughtIn, userIn};
 ghost use Rattle.capi.specs.OneFile.{begunAt, lastMoved, endedAt};
@@ -288,13 +288,35 @@ fn restart_each(r: &mut Record)
     }
 }
 
+// A file after the end of grace, where it lies: the intents that stay go to the front, in their order, the places after them are free, and a file that loses
+// one is marked. No place is read after it was written, so that no load waits for a store.
+fn end_file(f: &mut File)
+    ensures { λ _. ⌜ now (f .exit) ≡ endedFile (now (f .entry)) ⌝ }
+{
+    let mut n: usize = 0;
+    let mut i: usize = 0;
+    while i < 8 {
+        let x = f.intents[i];
+        f.intents[i] = Intent::none();
+        if Intent::stays(x) {
+            f.intents[n] = Intent::settled(x);
+            n += 1;
+        } else {
+            if Intent::goes(x) {
+                f.marked = true;
+            }
+        }
+        i += 1;
+    }
+}
+
 // Each file after the end of grace, and each of them counted.
 fn end_each(r: &mut Record)
     ensures { λ _. ⌜ now (r .exit) ≡ endedEach (now (r .entry)) ⌝ }
 {
     let mut i: usize = 0;
     while i < 64 {
-        r.files[i] = File::ended(r.files[i]);
+        end_file(&mut r.files[i]);
         r.head = File::counted(r.files[i], r.head);
         i += 1;
     }

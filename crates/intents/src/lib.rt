@@ -100,7 +100,7 @@ impl Intent {
     }
 
     // Whether it stays at the end of grace.
-    pub(crate) fn stays(self) -> bool
+    pub fn stays(self) -> bool
         ensures { λ r. ⌜ r ≡ isKept self ⌝ }
     {
         self.taken && self.reclaimed
@@ -117,6 +117,20 @@ impl Intent {
             taken: there,
             reclaimed: there,
         }
+    }
+
+    // Whether it was not reclaimed, so that the end of grace drops it.
+    pub fn goes(self) -> bool
+        ensures { λ r. ⌜ r ≡ isLost self ⌝ }
+    {
+        self.taken && !self.reclaimed
+    }
+
+    // The intent of one that stays.
+    pub fn settled(self) -> Intent
+        ensures { λ r. ⌜ r ≡ stayedIntent self ⌝ }
+    {
+        Intent::stayed(self.client, true)
     }
 
     // The place once the client has reclaimed.

@@ -2,7 +2,8 @@
 -- A use is one proof file of about 20 to 35 lines, which names the law, the types and what the generated modules have.
 -- Loops over the array:
 --     Each             f(r: &mut T)  { for each i:  r.list[i] = g(r.list[i]) }
---     Tallied          f(r: &mut T)  { for each i:  r.list[i] = g(r.list[i]);  r.head = e(r.list[i], r.head) }
+--     Tallied          f(r: &mut T)  { for each i:  g(&mut r.list[i]);  r.head = e(r.list[i], r.head) }
+--     Gathered         f(r: &mut T)  { for each i:  let x = r.list[i];  r.list[i] = e();  if t(x) { r.list[n] = g(x);  n = n + 1; } else { if u(x) { r.flag = true; } } }
 --     Reached          f(r: &T, at) -> usize  { how far the array goes from a place on, before a place that a test says }
 --     Listed           f(r: &T, a, b, count) -> u32  { for each i, several times over:  c = g(r.list[i % N], i, c, a, b), with two slices that are lent again at each turn }
 --     Sought           f(r: &T, key) -> usize  { the first i where t(r.list[i], key), or N }
@@ -39,6 +40,7 @@ pub mod Beside
 pub mod Cleared
 pub mod Drawn
 pub mod Each
+pub mod Gathered
 pub mod Headed
 pub mod Inside
 pub mod Lent
