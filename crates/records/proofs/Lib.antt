@@ -26,6 +26,7 @@
 -- What these rest on, beside crate walks:
 --     Alone            a function whose one parameter is the record: its contract, and how its walk ends
 --     Placed           a function that is handed the record, a place and a struct: the same
+--     Relayed          a function that hands the record, a number and its arguments on for good: the same; the call of such a function; where rows of locals stand
 --     Sliced           a function that is lent a slice of structs: the same; an element of the slice; a part of an array in a record; the call of such a function
 --     Within           the call of a function that is handed the record where it lies
 --     Inside           the call of a function that is handed one element of an array in the record
@@ -52,6 +53,7 @@ pub mod Passed
 pub mod Placed
 pub mod Raised
 pub mod Reached
+pub mod Relayed
 pub mod Rounds
 pub mod Shown
 pub mod Sliced
