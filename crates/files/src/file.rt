@@ -409,22 +409,21 @@ impl File {
         self
     }
 
-    // The file once a report has changed it: step 7 of a LAYOUTRETURN.
-    pub fn apply(mut self, change: Change) -> File
+    // The file once a report has changed it: step 7 of a LAYOUTRETURN. By its fields, as after a restart.
+    pub fn apply(self, change: Change) -> File
         ensures { λ r. ⌜ r ≡ changedFile change self ⌝ }
     {
-        if change.unknown {
-            self.marked = true;
-            return self;
+        let old = self.mirrors;
+        let ms = mirroring::mirrors::with_blame(old, blamed_by(change));
+        let xs = self.intents;
+        let marked = marked_if(marks(change), self.marked);
+        File {
+            number: self.number,
+            mirrors: ms,
+            intents: xs,
+            used: self.used,
+            marked,
         }
-        if change.failed {
-            let old = self.mirrors;
-            let ms = mirroring::mirrors::with_blame(old, change.blamed);
-            self.mirrors = ms;
-            self.marked = true;
-            return self;
-        }
-        self
     }
 
     // What stands beside the files then: a report that marks a file enters it on the lists, unless it is there.
@@ -516,11 +515,11 @@ impl File {
     }
 }
 
-// The mark of a file that has lost an intent, or that it had.
-fn marked_if(lost: bool, marked: bool) -> bool
-    ensures { λ r. ⌜ r ≡ cond lost true marked ⌝ }
+// The mark of a file that is marked now, as one that has lost an intent is, or the mark that it had.
+fn marked_if(now: bool, marked: bool) -> bool
+    ensures { λ r. ⌜ r ≡ cond now true marked ⌝ }
 {
-    lost || marked
+    now || marked
 }
 
 // Whether a report marks a file.
@@ -528,4 +527,17 @@ fn marks(change: Change) -> bool
     ensures { λ r. ⌜ r ≡ cond (change .unknown) true (change .failed) ⌝ }
 {
     change.unknown || change.failed
+}
+
+// The places that a report blames: one that names an unknown device blames none.
+fn blamed_by(change: Change) -> u32
+    ensures { λ r. ⌜ r ≡ cond (change .unknown) 0 (cond (change .failed) (change .blamed) 0) ⌝ }
+{
+    if change.unknown {
+        return 0;
+    }
+    if change.failed {
+        return change.blamed;
+    }
+    0
 }

@@ -166,7 +166,7 @@ impl Intent {
     }
 
     // The place once the client has the stateid `t`; by its fields and the stateid's, so that the compiler stores no more than what changes.
-    pub(crate) fn state(self, client: u64, t: Stateid) -> Intent
+    pub fn state(self, client: u64, t: Stateid) -> Intent
         ensures { λ r. ⌜ r ≡ statedIf client t self ⌝ }
     {
         if self.is(client) {
@@ -219,14 +219,18 @@ pub fn holding(intents: [Intent; 8], client: u64) -> Found
     Found::Nothing
 }
 
-// Whether the client has an intent.
+// Whether the client has an intent; its places are counted, without a branch.
 pub fn held(intents: [Intent; 8], client: u64) -> bool
     ensures { λ r. ⌜ r ≡ isFound (first (isIntent client) intents) ⌝ }
 {
-    match holding(intents, client) {
-        Found::At(_) => true,
-        Found::Nothing => false,
+    let mut n: usize = 0;
+    let mut i: usize = 0;
+    while i < 8 {
+        let x = intents[i];
+        n += one_if(x.is(client));
+        i += 1;
     }
+    n != 0
 }
 
 // The first free place.

@@ -1,5 +1,6 @@
 -- Deciding: where a body is read, it is the body of the request. OneWalk: one walk of the report gives the outcome that is defined. Raising: a stateid may be
--- raised first.
+-- raised first. Refusing: a return that is refused leaves the file as it is.
 pub mod Deciding
 mod OneWalk
 mod Raising
+pub mod Refusing

@@ -3,6 +3,7 @@
 // afterwards.
 use files::file::File;
 use files::head::Head;
+use intents::Intent;
 use mirroring::blame::Assessment;
 use mirroring::blame::Change;
 use mirroring::totals::Totals;
@@ -12,8 +13,10 @@ use wire::seqid::Age;
 use wire::stateid::Stateid;
 ghost use mathlib.Core.Path.{_≡_};
 ghost use Rattle.reports.specs.Report.{reportOf};
-ghost use Rattle.layoutreturn.specs.LayoutReturn.{outOfGrace, phaseOf, decisionOf, outcomeWith, byAge, byStateid, heldOn, outcomeBy, replyBy, fileAfter};
-ghost use Rattle.layoutreturn.specs.OneWalk.{readsBody, isOrdinary, lengthOf, unreadStatus, ownIf, barredBy, refusedBy, takenBy, assessedBy, raisedIf};
+ghost use Rattle.intents.specs.Intents.{isStated, statedIf};
+ghost use Rattle.files.specs.File.{changedFile};
+ghost use Rattle.layoutreturn.specs.LayoutReturn.{outOfGrace, phaseOf, decisionOf, outcomeWith, byAge, byStateid, outcomeBy, replyBy, fileAfter};
+ghost use Rattle.layoutreturn.specs.OneWalk.{readsBody, isOrdinary, lengthOf, unreadStatus, lateOn, anonymousClaim, ordinaryClaim, claimBy, takenBy, assessedBy, raisedIf};
 
 // What is known of a request before any file is looked at.
 pub enum Decision {
@@ -149,14 +152,6 @@ impl Outcome {
     }
 }
 
-// The client's stateid on the file, or none.
-fn held(f: File, client: u64) -> Stateid
-    ensures { λ r. ⌜ r ≡ heldOn client f ⌝ }
-{
-    let xs = f.intents;
-    intents::stateid_of(xs, client)
-}
-
 // What the seqid's age says: 10024 older, 10025 newer.
 fn by_age(age: Age) -> u32
     ensures { λ r. ⌜ r ≡ byAge age ⌝ }
@@ -181,36 +176,18 @@ fn by_stateid(t: Stateid, own: Stateid) -> u32
     by_age(wire::seqid::age_of(own.seqid, t.seqid))
 }
 
-// The client's stateid where the return is ordinary, so that it is looked up once.
-fn own_if(f: File, client: u64, returning: bool) -> Stateid
-    ensures { λ r. ⌜ r ≡ ownIf client f returning ⌝ }
-{
-    if returning {
-        return held(f, client);
-    }
-    Stateid::none()
+// What a file says of a return's client: the status of step 4, which an ordinary return may meet; that of step 6, which an anonymous one may; and the client's
+// stateid there, where the return is ordinary.
+struct Claim {
+    barred: u32,
+    late: u32,
+    own: Stateid,
 }
 
-// Step 4 on the file, of an ordinary return: 70; 10025; 10024.
-fn barred(f: File, number: u64, own: Stateid, t: Stateid, returning: bool) -> u32
-    ensures { λ r. ⌜ r ≡ barredBy number own t f returning ⌝ }
+// Step 6: 70; 10034.
+fn late(f: File, number: u64, client: u64) -> u32
+    ensures { λ r. ⌜ r ≡ lateOn number client f ⌝ }
 {
-    if returning {
-        if f.is(number) {
-            return by_stateid(t, own);
-        }
-        return statuses::STALE;
-    }
-    0
-}
-
-// Step 6, of an anonymous return: 70; 10034.
-fn refused(f: File, number: u64, client: u64, returning: bool) -> u32
-    ensures { λ r. ⌜ r ≡ refusedBy number client f returning ⌝ }
-{
-    if returning {
-        return 0;
-    }
     if !f.is(number) {
         return statuses::STALE;
     }
@@ -219,6 +196,50 @@ fn refused(f: File, number: u64, client: u64, returning: bool) -> u32
         return 0;
     }
     statuses::RECLAIM_BAD
+}
+
+// Of an anonymous return.
+fn anonymous_claim(f: File, number: u64, client: u64) -> Claim
+    ensures { λ r. ⌜ r ≡ anonymousClaim number client f ⌝ }
+{
+    let none = Stateid::none();
+    Claim {
+        barred: 0,
+        late: late(f, number, client),
+        own: none,
+    }
+}
+
+// Of an ordinary return, for which the request's stateid is read and the client's is looked up, once: 70; 10025; 10024.
+fn ordinary_claim(f: File, number: u64, client: u64, request: &[u8]) -> Claim
+    ensures { λ r. ⌜ r ≡ ordinaryClaim number client (now (request .entry)) f ⌝ }
+{
+    if !f.is(number) {
+        let none = Stateid::none();
+        return Claim {
+            barred: statuses::STALE,
+            late: 0,
+            own: none,
+        };
+    }
+    let xs = f.intents;
+    let own = intents::stateid_of(xs, client);
+    let t = wire::stateid::in_request(request);
+    Claim {
+        barred: by_stateid(t, own),
+        late: 0,
+        own,
+    }
+}
+
+// By the kind of return.
+fn claimed(f: File, number: u64, client: u64, request: &[u8], returning: bool) -> Claim
+    ensures { λ r. ⌜ r ≡ claimBy number client (now (request .entry)) f returning ⌝ }
+{
+    if returning {
+        return ordinary_claim(f, number, client, request);
+    }
+    anonymous_claim(f, number, client)
 }
 
 // What is taken of a report that was assessed: an old record reads an ordinary return's for its form alone, and an anonymous one's may meet step 6.
@@ -241,26 +262,15 @@ fn taken(a: Assessment, head: Head, late: u32, returning: bool) -> Assessment
 }
 
 // Steps 4 to 7 on the file, with one walk of the report for both kinds of return.
-fn assessed(
-    f: File,
-    number: u64,
-    head: Head,
-    client: u64,
-    own: Stateid,
-    t: Stateid,
-    body: &[u8],
-    returning: bool,
-) -> Assessment
-    ensures { λ r. ⌜ r ≡ assessedBy number head client own t (reportOf (now (body .entry))) f returning ⌝ }
+fn assessed(f: File, c: Claim, head: Head, body: &[u8], returning: bool) -> Assessment
+    ensures { λ r. ⌜ r ≡ assessedBy head c (reportOf (now (body .entry))) f returning ⌝ }
 {
-    let status = barred(f, number, own, t, returning);
-    if status != 0 {
-        return Assessment::only(status);
+    if c.barred != 0 {
+        return Assessment::only(c.barred);
     }
-    let late = refused(f, number, client, returning);
     let ms = f.mirrors;
     let a = mirroring::blame::assess(ms, body);
-    taken(a, head, late, returning)
+    taken(a, head, c.late, returning)
 }
 
 // The stateid of the reply: the client's, raised, where an ordinary return is accepted.
@@ -289,12 +299,12 @@ fn outcome_by(d: Decision, f: File, number: u64, head: Head, client: u64, reques
         );
     }
     let returning = ordinary(d);
-    let t = wire::stateid::in_request(request);
     let body = wire::body::part(request, len_of(d));
-    let mine = own_if(f, client, returning);
-    let a = assessed(f, number, head, client, mine, t, body, returning);
+    let c = claimed(f, number, client, request, returning);
+    let a = assessed(f, c, head, body, returning);
     let change = a.change;
     let next = f.head_after(head, change);
+    let mine = c.own;
     let own = raised_if(mine, a.status, returning);
     Outcome::of(next, client, own, a)
 }
@@ -326,7 +336,7 @@ pub fn answer(
     o
 }
 
-// The file afterwards; the stateid is raised first, which takes fewer copies.
+// The file afterwards, by value; the stateid is raised first, which takes fewer copies.
 pub fn apply(f: File, o: Outcome) -> File
     ensures { λ r. ⌜ r ≡ fileAfter f o ⌝ }
 {
@@ -334,4 +344,26 @@ pub fn apply(f: File, o: Outcome) -> File
     let t = o.stateid;
     let g = f.raised(o.client, t);
     g.apply(change)
+}
+
+// The file afterwards, where it lies: as the report changes it; whether the client's stateid is raised; and each of the file's intents where it is.
+pub fn reported(f: File, o: Outcome) -> File
+    ensures { λ r. ⌜ r ≡ changedFile (o .change) f ⌝ }
+{
+    let change = o.change;
+    f.apply(change)
+}
+
+pub fn raises(o: Outcome) -> bool
+    ensures { λ r. ⌜ r ≡ isStated (o .stateid) ⌝ }
+{
+    let t = o.stateid;
+    intents::stated(t)
+}
+
+pub fn raised(x: Intent, o: Outcome) -> Intent
+    ensures { λ r. ⌜ r ≡ statedIf (o .client) (o .stateid) x ⌝ }
+{
+    let t = o.stateid;
+    x.state(o.client, t)
 }

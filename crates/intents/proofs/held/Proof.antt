@@ -1,24 +1,95 @@
--- By what `holding` finds.
-use mathlib.Core.Path.{sym, _∙_}
+-- The loop counts: `Counting` of the client's places holds at its head. There is one where the count is not 0.
+use mathlib.Core.Path.{_≡_, refl, sym, ap, _∙_}
+use mathlib.Core.Bool.{Bool, true, false, not, cond}
+use mathlib.Core.List.{List, [], _∷_}
+use Prim.Native.Nat.{_≤_, _<_, _-_, suc}
 use native.Mathlib.Omega.{arith}
+use lib.Dec.{eqb}
+use lib.ListN.{length}
 use borrow.Author.Needs.{needs}
+use borrow.Author.Tests.{ne-eqb}
+use Rattle.places.specs.Lists.{chosen}
+use Rattle.places.specs.Places.{first, bump, isFound}
+use Rattle.places.specs.declared.Found.{Found}
+use Rattle.places.specs.declared.Found.the-variants.{At, Nothing}
+use Rattle.places.proofs.Loops.{mapped-length, Counting, counting-none, counted}
+use Rattle.intents.specs.Intents.{noIntent, isIntent}
+use Rattle.intents.proofs.EndOfGrace.{one-most, counting-by}
 use Rattle.intents.proofs.held.Statement.{statement}
 use Rattle.intents.proofs.held.Tie as tie
 
-holding-requires : tie.Need-holding-requires
-holding-requires c κs = search needs
+bumped : (o : Found) → isFound (bump o) ≡ isFound o
+bumped (At i) = refl
+bumped Nothing = refl
 
-enum-told : tie.Need-enum-told
-enum-told c = search needs
+found-item : {A : Type 0} (b : Bool) (x : A) (u : List A) (o : Found) → not (eqb (length u) 0) ≡ isFound o → not (eqb (length (cond b (x ∷ u) u)) 0) ≡ isFound (cond b (At 0) (bump o))
+found-item true x u o e = ap not (ne-eqb (suc (length u)) 0 (λ q. omega (arith, q)))
+found-item false x u o e = e ∙ sym (bumped o)
 
-enum-told-2 : tie.Need-enum-told-2
-enum-told-2 c = search needs
+found-some : {A : Type 0} (p : A → Bool) (l : List A) → not (eqb (length (chosen p l)) 0) ≡ isFound (first p l)
+unfolding chosen first
+found-some p [] = refl
+found-some p (x ∷ xs) = found-item (p x) x (chosen p xs) (first p xs) (found-some p xs)
 
-returns : tie.Need-returns
-returns c = rw (sym (c .before .before .holding .ensures) ∙ c .enum-told .given .1)
+abbrev Inv-loop : tie.InvT-loop
+Inv-loop client intents n₀ i₀ n i = (n ≤ i) × (i ≤ 8) × Counting (isIntent client) intents i n
 
-returns-2 : tie.Need-returns-2
-returns-2 c = rw (sym (c .before .before .holding .ensures) ∙ c .enum-told2 .given .1)
+abbrev μ-loop : tie.MeasureT-loop
+μ-loop client intents n₀ i₀ n i = 8 - i
+
+long : (c : tie.Start Inv-loop μ-loop) → length (c .args .t1) ≡ 8
+long c = search (mapped-length, needs)
+
+loop-holds : tie.Need-loop-holds Inv-loop μ-loop
+loop-holds c = (omega arith, omega arith, counting-none _ _)
+
+mul-x : tie.Need-mul-x Inv-loop μ-loop
+mul-x c = omega arith
+
+array-copy-out-x : tie.Need-array-copy-out-x Inv-loop μ-loop
+array-copy-out-x c = omega arith
+
+is-requires : tie.Need-is-requires Inv-loop μ-loop
+is-requires c κs = search needs
+
+one-if-requires : tie.Need-one-if-requires Inv-loop μ-loop
+one-if-requires c κs = search needs
+
+add-n : tie.Need-add-n Inv-loop μ-loop
+add-n c = omega (arith, one-most (c .before .is .result) _ (c .one-if .ensures), c .before .before .before .before .loop .inv)
+
+add-i : tie.Need-add-i Inv-loop μ-loop
+add-i c = omega arith
+
+loop-less : tie.Need-loop-less Inv-loop μ-loop
+loop-less c = omega arith
+
+loop-again : tie.Need-loop-again Inv-loop μ-loop
+loop-again c = let l = c .before .before .before .before .loop .inv in
+    let h : c .before .before .before .before .loop .i < length (c .before .before .before .before .before .args .t1) = omega (arith, long (c .before .before .before .before .before)) in
+    let is = c .before .is in
+    let one = c .one-if .ensures in (
+      omega (arith, one-most (is .result) _ one, l .0),
+      omega arith,
+      counting-by (l .2) noIntent h (is .result) (is .ensures) _ one,
+    )
+
+returns : tie.Need-returns Inv-loop μ-loop
+returns c = rw (counted (c .before .loop .inv .2) (omega (arith, long (c .before .before)))) (found-some _ _)
 
 pub held-spec : {M : Type 1} → statement M
-held-spec = tie.close (tie.spec holding-requires enum-told enum-told-2 returns returns-2)
+held-spec =
+    tie.close
+    (tie.spec
+    Inv-loop
+    μ-loop
+    loop-holds
+    mul-x
+    array-copy-out-x
+    is-requires
+    one-if-requires
+    add-n
+    add-i
+    loop-less
+    loop-again
+    returns)

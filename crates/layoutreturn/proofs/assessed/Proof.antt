@@ -5,18 +5,12 @@ use borrow.Author.Needs.{needs}
 use Rattle.layoutreturn.proofs.assessed.Statement.{statement}
 use Rattle.layoutreturn.proofs.assessed.Tie as tie
 
-barred-requires : tie.Need-barred-requires
-barred-requires c κs = search needs
-
 only-requires : tie.Need-only-requires
 only-requires c κs = search needs
 
 returns : tie.Need-returns
 unfolding assessedBy
-returns c = rw (← c .before .before .barred .ensures, ne-eqb _ _ (c .before .if1 .taken)) (c .only .ensures)
-
-refused-requires : tie.Need-refused-requires
-refused-requires c κs = search needs
+returns c = rw (ne-eqb _ _ (c .before .if1 .taken)) (c .only .ensures)
 
 assess-requires : tie.Need-assess-requires
 assess-requires c κs = search needs
@@ -26,16 +20,8 @@ taken-requires c κs = search needs
 
 returns-2 : tie.Need-returns-2
 unfolding assessedBy
-returns-2 c = rw (← c .before .before .before .before .before .barred .ensures, eq-eqb _ _ (c .before .before .before .before .if1 .left), ← c .before .before .before .refused .ensures, ← c .before .assess .ensures) (c .taken .ensures)
+returns-2 c = rw (eq-eqb _ _ (c .before .before .before .if1 .left), ← c .before .assess .ensures) (c .taken .ensures)
 
 pub assessed-spec : {M : Type 1} → statement M
 assessed-spec =
-    tie.close
-    (tie.spec
-    barred-requires
-    only-requires
-    returns
-    refused-requires
-    assess-requires
-    taken-requires
-    returns-2)
+    tie.close (tie.spec only-requires returns assess-requires taken-requires returns-2)

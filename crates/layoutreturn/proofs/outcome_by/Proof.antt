@@ -27,17 +27,14 @@ returns c = c .of .ensures ∙ rw (c .before .only .ensures, c .before .before .
 ordinary-requires : tie.Need-ordinary-requires
 ordinary-requires c κs = search needs
 
-in-request-requires : tie.Need-in-request-requires
-in-request-requires c κs = search needs
-
 len-of-requires : tie.Need-len-of-requires
 len-of-requires c κs = search needs
 
 part-requires : tie.Need-part-requires
 part-requires c κs = search needs
 
-own-if-requires : tie.Need-own-if-requires
-own-if-requires c κs = search needs
+claimed-requires : tie.Need-claimed-requires
+claimed-requires c κs = search needs
 
 assessed-requires : tie.Need-assessed-requires
 assessed-requires c κs = search needs
@@ -52,7 +49,7 @@ of-requires-2 : tie.Need-of-requires-2
 of-requires-2 c κs = search needs
 
 returns-2 : tie.Need-returns-2
-returns-2 c = c .of2 .ensures ∙ rw (c .before .raised-if .ensures, c .before .before .head-after .ensures, c .before .before .before .before .assessed .ensures, c .before .before .before .before .before .own-if .ensures, c .before .before .before .before .before .before .part .ensures, c .before .before .before .before .before .before .before .len-of .ensures, c .before .before .before .before .before .before .before .before .in-request .ensures, c .before .before .before .before .before .before .before .before .before .ordinary .ensures) (outcome-assessed _ _ _ _ _ _ (sym (c .before .before .before .before .before .before .before .before .before .before .before .reads .ensures) ∙ not-false _ (c .before .before .before .before .before .before .before .before .before .before .if1 .left)))
+returns-2 c = c .of2 .ensures ∙ rw (c .before .raised-if .ensures, c .before .before .before .head-after .ensures, c .before .before .before .before .before .assessed .ensures, c .before .before .before .before .before .before .claimed .ensures, c .before .before .before .before .before .before .before .part .ensures, c .before .before .before .before .before .before .before .before .len-of .ensures, c .before .before .before .before .before .before .before .before .before .ordinary .ensures) (outcome-assessed _ _ _ _ _ _ (sym (c .before .before .before .before .before .before .before .before .before .before .before .reads .ensures) ∙ not-false _ (c .before .before .before .before .before .before .before .before .before .before .if1 .left)))
 
 pub outcome-by-spec : {M : Type 1} → statement M
 outcome-by-spec =
@@ -65,10 +62,9 @@ outcome-by-spec =
     of-requires
     returns
     ordinary-requires
-    in-request-requires
     len-of-requires
     part-requires
-    own-if-requires
+    claimed-requires
     assessed-requires
     head-after-requires
     raised-if-requires

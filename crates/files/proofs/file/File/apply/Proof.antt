@@ -1,24 +1,24 @@
--- Each return rewrites with the tests that led there.
-use Rattle.files.specs.File.{changedFile}
-use native.Mathlib.Omega.{arith}
+-- By what `blamed_by`, `with_blame`, `marks` and `marked_if` answer.
 use borrow.Author.Needs.{needs}
+use Rattle.files.proofs.Changing.{by-fields}
 use Rattle.files.proofs.file.File.apply.Statement.{statement}
 use Rattle.files.proofs.file.File.apply.Tie as tie
 
-returns : tie.Need-returns
-unfolding changedFile
-returns c = rw (c .if1 .taken)
+blamed-by-requires : tie.Need-blamed-by-requires
+blamed-by-requires c κs = search needs
 
 with-blame-requires : tie.Need-with-blame-requires
 with-blame-requires c κs = search needs
 
-returns-2 : tie.Need-returns-2
-unfolding changedFile
-returns-2 c = rw (c .before .before .before .if1 .left, c .before .before .if2 .taken, c .with-blame .ensures)
+marks-requires : tie.Need-marks-requires
+marks-requires c κs = search needs
 
-returns-3 : tie.Need-returns-3
-unfolding changedFile
-returns-3 c = rw (c .before .if1 .left, c .if2 .left)
+marked-if-requires : tie.Need-marked-if-requires
+marked-if-requires c κs = search needs
+
+returns : tie.Need-returns
+returns c = rw (c .marked-if .ensures, c .before .marks .ensures, c .before .before .before .with-blame .ensures, c .before .before .before .before .blamed-by .ensures) (by-fields _ _)
 
 pub apply-spec : {M : Type 1} → statement M
-apply-spec = tie.close (tie.spec returns with-blame-requires returns-2 returns-3)
+apply-spec =
+    tie.close (tie.spec blamed-by-requires with-blame-requires marks-requires marked-if-requires returns)
