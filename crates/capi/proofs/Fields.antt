@@ -84,6 +84,10 @@ marked = record {
   cut = λ M 𝓤 H A W q f z a. put-at 𝓤 H A W q F.the-type F′.the-laws 4 385 refl refl a f (withMark z f) (F.struct .as-values f) z refl refl;
 }
 
+pub intended : Lists intents
+unfolding intents
+intended = record { lists = λ f xs. refl; overs = λ f xs ys. refl }
+
 unfoldable pub used : Kept F.the-type bool
 used = record { k = 3; d = 384; get = λ f. f .used; found = refl; cut = λ M 𝓤 H A W q f a. look-at 𝓤 H A W q F.the-type F′.the-laws 3 384 refl refl a f (F.struct .as-values f) refl }
 

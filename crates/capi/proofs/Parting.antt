@@ -1,11 +1,16 @@
--- LAYOUTRETURN parted before any file is looked up is what the definition of crate recovery says of it, in this order: at the place that is sought; by the phase;
--- where a file is wanted; where none is.
+-- LAYOUTRETURN parted before any file is looked up is what the definition of crate recovery says of it, in this order: the file, changed in place where the return is
+-- accepted; at the place that is sought; by the phase; where a file is wanted; where none is.
 use mathlib.Core.Path.{_≡_, refl, sym, ap, subst, _∙_}
-use mathlib.Core.List.{List}
+use mathlib.Core.List.{List, map}
 use mathlib.Core.Bool.{Bool, true, false, cond}
-use Prim.Native.Nat.{ℕ}
-use lib.Dec.{ltb}
-use lib.ListN.{getD, length}
+use Prim.Native.Nat.{ℕ, _≤_}
+use native.Mathlib.Omega.{arith}
+use lib.Dec.{eqb, ltb}
+use lib.ListN.{getD, set, length}
+use lib.Seq.{set-getD, set-out}
+use borrow.Author.Tests.{ltb-false}
+use Rattle.records.proofs.Headed.{if-called}
+use Rattle.records.proofs.Amended.{amends}
 use Rattle.mirroring.specs.Totals.{noTotals}
 use Rattle.wire.specs.Request.{requestOf}
 use Rattle.wire.specs.Stateid.{noStateid}
@@ -13,19 +18,59 @@ use Rattle.wire.specs.declared.request.Kind.{Kind}
 use Rattle.wire.specs.declared.request.Kind.the-variants.{Anonymous, Bypass, Current, Invalid, Ordinary}
 use Rattle.wire.specs.declared.request.Request.{Request}
 use Rattle.wire.specs.declared.request.Request.the-variants as request
-use Rattle.files.specs.File.{noFile}
+use Rattle.intents.specs.Intents.{isStated, statedIf}
+use Rattle.files.specs.File.{noFile, withIntents, changedFile, raisedFile}
+use Rattle.files.specs.declared.file.File.{File}
 use Rattle.files.specs.declared.head.Head.{Head}
-use Rattle.layoutreturn.specs.LayoutReturn.{phaseOf, decided, decisionOf, outcomeBy}
+use Rattle.layoutreturn.specs.LayoutReturn.{phaseOf, decided, decisionOf, outcomeBy, fileAfter}
+use Rattle.layoutreturn.specs.declared.Outcome.{Outcome}
 use Rattle.layoutreturn.specs.declared.Decision.{Decision}
 use Rattle.layoutreturn.specs.declared.Decision.the-variants.{Answered, HandedOn, ReadBody, ReturnBody}
-use Rattle.recovery.specs.Record.{placeIn, fileAt}
+use Rattle.recovery.specs.Record.{withFiles, withHead, placeIn, fileAt}
 use Rattle.recovery.specs.LayoutReturn.{returning, returnedBy, layoutreturnOf, stateidBy}
 use Rattle.recovery.specs.declared.record.Record.{Record}
 use Rattle.recovery.proofs.Returning.{Placed, returnedAt, returned-at, stateid-at}
 use Rattle.capi.specs.Place.{soughtIn}
-use Rattle.capi.specs.LayoutReturn.{begunOf, bodyRead, outcomeIn, returnedIn, stateidFor}
+use Rattle.capi.specs.LayoutReturn.{begunOf, bodyRead, outcomeIn, returnedIn, stateidFor, raisedEach, changedFiles}
+use Rattle.capi.proofs.Fields.{files}
 use Rattle.capi.proofs.Places.{sought-place}
 
+-- ---- the file is what it is by value; where the return is refused, it stays
+abbrev pub report : File → Outcome → File
+report f o = changedFile (o .change) f
+
+abbrev pub raises : Outcome → Bool
+raises o = isStated (o .stateid)
+
+pub changed-so : (r : Record) (i : ℕ) (o : Outcome) → length (r .files) ≡ 64 → amends files noFile report raises raisedEach r i o ≡ changedFiles r i o
+unfolding files raisedEach changedFiles raisedFile
+changed-so r i o long = by (ltb i 64) refl (raises o)
+  where
+    g : File
+    g = report (getD (r .files) i noFile) o
+
+    h : File
+    h = withIntents (map (statedIf (o .client) (o .stateid)) (g .intents)) g
+
+    by : (b : Bool) → ltb i 64 ≡ b → (z : Bool) → if-called b (withFiles (set (r .files) i (if-called z h g)) r) r ≡ withFiles (set (r .files) i (cond z h g)) r
+    by true e true = refl
+    by true e false = refl
+    by false e z =
+        let l : 64 ≤ i = ltb-false i 64 e in
+        sym (ap (λ fs. withFiles fs r) (set-out (r .files) i (cond z h g) (omega (arith, long, l))))
+
+abbrev pub after-change : Record → ℕ → Outcome → Record
+after-change r i o = withHead (o .head) (if-called (eqb (o .status) 0) (changedFiles r i o) r)
+
+pub returned-so : (r : Record) (i : ℕ) (o : Outcome) → (eqb (o .status) 0 ≡ false → fileAfter (getD (r .files) i noFile) o ≡ getD (r .files) i noFile) → after-change r i o ≡ returnedAt r i o .after
+unfolding changedFiles
+returned-so r i o stays = by (eqb (o .status) 0) refl
+  where
+    by : (b : Bool) → eqb (o .status) 0 ≡ b → withHead (o .head) (if-called b (withFiles (set (r .files) i (fileAfter (getD (r .files) i noFile) o)) r) r) ≡ returnedAt r i o .after
+    by true e = refl
+    by false e = sym (ap (λ f. withHead (o .head) (withFiles (set (r .files) i f) r)) (stays e) ∙ ap (λ fs. withHead (o .head) (withFiles fs r)) (set-getD (r .files) i noFile))
+
+-- ---- at the place that is sought
 pub sought-so : (n len c : ℕ) (s : List ℕ) (r : Record) → length (r .files) ≡ 64 → returnedAt r (soughtIn n r) (outcomeIn n len c s r (getD (r .files) (soughtIn n r) noFile)) ≡ returnedIn n len c s r
 unfolding returnedIn
 sought-so n len c s r h = ap (λ i. returnedAt r i (outcomeIn n len c s r (getD (r .files) i noFile))) (sought-place n r h)

@@ -1,16 +1,21 @@
--- MODEL. LAYOUTRETURN in place, parted before any file is looked up: what is known of a request by what was decided; and a request whose body, of so many bytes, is
--- read, or an ordinary return, on its file's place. proofs/Parting.antt proves both together equal to `layoutreturnOf` and `replyAfter` of crate recovery.
+-- MODEL. LAYOUTRETURN in place, parted before any file is looked up: what is known of a request by what was decided; a request whose body, of so many bytes, is
+-- read, or an ordinary return, on its file's place; and what one that is accepted changes there. proofs/Parting.antt proves them together equal to `layoutreturnOf` and
+-- `replyAfter` of crate recovery.
 use mathlib.Core.Bool.{true, false, cond}
+use mathlib.Core.List.{map}
 use Prim.Native.Nat.{ℕ}
+use lib.ListN.{getD, set}
 use Rattle.statuses.specs.Names.{Bytes, Client, FileNumber}
 use Rattle.wire.specs.declared.stateid.Stateid.{Stateid}
+use Rattle.intents.specs.Intents.{statedIf}
+use Rattle.files.specs.File.{noFile, withIntents}
 use Rattle.files.specs.declared.file.File.{File}
 use Rattle.files.specs.declared.head.Head.{Head}
-use Rattle.layoutreturn.specs.LayoutReturn.{handedOnCode, outcomeBy}
+use Rattle.layoutreturn.specs.LayoutReturn.{handedOnCode, outcomeBy, fileAfter}
 use Rattle.layoutreturn.specs.declared.Decision.{Decision}
 use Rattle.layoutreturn.specs.declared.Decision.the-variants.{Answered, HandedOn, ReadBody, ReturnBody}
 use Rattle.layoutreturn.specs.declared.Outcome.{Outcome}
-use Rattle.recovery.specs.Record.{fileAt, onPlace}
+use Rattle.recovery.specs.Record.{withFiles, fileAt, onPlace}
 use Rattle.recovery.specs.LayoutReturn.{returning, answeredBy}
 use Rattle.recovery.specs.declared.record.Record.{Record}
 use Rattle.recovery.specs.declared.returns.Returned.{Returned}
@@ -38,3 +43,10 @@ returnedIn n len c s r =
 -- the stateid of the reply
 unfoldable pub stateidFor : FileNumber → ℕ → Client → Bytes → Record → Stateid
 stateidFor n len c s r = outcomeIn n len c s r (fileAt n r) .stateid
+
+-- ---- what a return that is accepted changes: the client's stateid in each intent of the file f, whatever its place; and the file at the place i
+unfoldable pub raisedEach : File → ℕ → Outcome → File
+raisedEach f i o = withIntents (map (statedIf (o .client) (o .stateid)) (f .intents)) f
+
+unfoldable pub changedFiles : Record → ℕ → Outcome → Record
+changedFiles r i o = withFiles (set (r .files) i (fileAfter (getD (r .files) i noFile) o)) r

@@ -41,7 +41,7 @@ ghost use Rattle.capi.specs.OneFile.{begunAt, lastMoved, endedAt};
 ghost use Rattle.capi.specs.SetUp.{barredBy, setUpFile, setUpWith};
 ghost use Rattle.capi.specs.Asked.{listingBy};
 ghost use Rattle.capi.specs.Lent.{columnOf};
-ghost use Rattle.capi.specs.LayoutReturn.{begunOf, bodyRead, returnedIn, stateidFor};
+ghost use Rattle.capi.specs.LayoutReturn.{begunOf, bodyRead, returnedIn, stateidFor, raisedEach, changedFiles};
 ghost use Rattle.capi.specs.Whole.{restartVerdict, endVerdict, forgetVerdict, emptiedFile, eachFile, endedEach, refusedWith, admittedOf, isVacantPlace, roomSought, isBelow, enteredFiles, pulledFiles, slid, lastSought};
 
 // ---- The place of a file.
@@ -703,6 +703,28 @@ pub extern "C" fn sc_record_restart(r: &mut Record) -> u32
     s.status
 }
 
+// A return that is accepted, on its file's place: what the report says, and then the client's stateid, in each of the file's intents, where it is raised.
+fn raise_each(f: &mut File, at: usize, s: Outcome)
+    ensures { λ _. ⌜ now (f .exit) ≡ raisedEach (now (f .entry)) at s ⌝ }
+{
+    let mut i: usize = 0;
+    while i < 8 {
+        f.intents[i] = layoutreturn::raised(f.intents[i], s);
+        i += 1;
+    }
+}
+
+fn change(r: &mut Record, at: usize, s: Outcome)
+    ensures { λ _. ⌜ now (r .exit) ≡ changedFiles (now (r .entry)) at s ⌝ }
+{
+    if at < 64 {
+        r.files[at] = layoutreturn::reported(r.files[at], s);
+        if layoutreturn::raises(s) {
+            raise_each(&mut r.files[at], at, s);
+        }
+    }
+}
+
 // LAYOUTRETURN for which a file is wanted, on that file's place: steps 5 to 7, or an ordinary return.
 fn with_file(
     r: &mut Record,
@@ -738,7 +760,9 @@ fn with_file(
         read_over,
         written_over,
     );
-    r.files[i] = layoutreturn::apply(r.files[i], s);
+    if s.status == 0 {
+        change(r, i, s);
+    }
     r.head = s.head;
     s.status
 }

@@ -3,7 +3,7 @@
 --     { let mut i: usize = 0;  while i < N { r.list[i] = g(r.list[i]);  i = i + 1; } }
 -- over a covered function  fn g(x: F) -> F   ensures { λ y. ⌜ y ≡ G x ⌝ },
 -- where `list` is a field of T that is an array of N structs F (`Element.antt`'s `Elements` of crate walks), and F is plain data. One F is copied out and one is copied in at each turn, of which the compiler leaves what G changes.
--- In this order: the turns, and that they are `map` of the list; the MIR of f, its contract, the loop with its invariant, the walk, and
+-- In this order: the turns, and that they are `map` of the list, which `EachBy.antt` has too; the MIR of f, its contract, the loop with its invariant, the walk, and
 --     spec         the theorem of f from that of g, at any Y that is the list mapped (`Gives`) where it has N elements
 -- Assumes nothing.
 use mathlib.Core.Path.{_≡_, refl, sym, _∙_, ap, subst}
@@ -57,7 +57,7 @@ module _ {T F : Declared} (El : Elements T F) (Ls : Lists El) (none : F .D) (G :
   abbrev turned : T .D → ℕ → F .D
   turned h i = G (getD (El .list h) i none)
 
-  abbrev turns : ℕ → ℕ → T .D → T .D
+  abbrev pub turns : ℕ → ℕ → T .D → T .D
   turns zero i h = h
   turns (suc t) i h = turns t (i + 1) (put-elem El h i (turned h i))
 
@@ -75,7 +75,7 @@ module _ {T F : Declared} (El : Elements T F) (Ls : Lists El) (none : F .D) (G :
   long-on : (t i : ℕ) (h : T .D) → length (El .list h) ≡ i + suc t → length (El .list (put-elem El h i (turned h i))) ≡ (i + 1) + t
   long-on t i h e = ap length (Ls .lists h (set (El .list h) i (turned h i))) ∙ length-set (El .list h) i (turned h i) ∙ omega (arith, e)
 
-  turns-map : (t i : ℕ) (h : T .D) → length (El .list h) ≡ i + t → turns t i h ≡ El .over h (take i (El .list h) ++ map G (drop i (El .list h)))
+  pub turns-map : (t i : ℕ) (h : T .D) → length (El .list h) ≡ i + t → turns t i h ≡ El .over h (take i (El .list h) ++ map G (drop i (El .list h)))
   turns-map zero i h e =
       let short : length (El .list h) ≤ i = omega (arith, e) in
       sym (rw (take-all i (El .list h) short, drop-of-length-le (El .list h) short, append-nil) (El .keeps h))

@@ -2,6 +2,7 @@
 -- A use is one proof file of about 20 to 35 lines, which names the law, the types and what the generated modules have.
 -- Loops over the array:
 --     Each             f(r: &mut T)  { for each i:  r.list[i] = g(r.list[i]) }
+--     EachBy           f(r: &mut T, at, s)  { for each i:  r.list[i] = g(r.list[i], s) }
 --     Tallied          f(r: &mut T)  { for each i:  g(&mut r.list[i]);  r.head = e(r.list[i], r.head) }
 --     Gathered         f(r: &mut T)  { for each i:  let x = r.list[i];  r.list[i] = e();  if t(x) { r.list[n] = g(x);  n = n + 1; } else { if u(x) { r.flag = true; } } }
 --     Reached          f(r: &T, at) -> usize  { how far the array goes from a place on, before a place that a test says }
@@ -14,6 +15,7 @@
 --     Onward           f(s: &mut [F])  { g(s) }
 -- One element of the array:
 --     Written          f(r: &mut T, at, s)  { if at < N { r.list[at] = g(s); } }
+--     Amended          f(r: &mut T, at, s)  { if at < N { r.list[at] = g(r.list[at], s);  if t(s) { h(&mut r.list[at], at, s); } } }, where h may be one of `EachBy.antt`'s
 --     Lent             f(r: &mut T, i, s)  { if i < N { p(&mut r.list[i], s.at, s); } }, where p may be one of `Written.antt`'s or `Drawn.antt`'s over the element
 -- Calls that lend the record to such a function:
 --     Headed           f(r: &mut T) -> u32  { let s = g(r.head);  r.head = s.head;  if s.status == 0 { h(r); }  s.status }
@@ -36,11 +38,13 @@
 --     Lists            a field that is an array as a list; tests that are known
 pub mod Again
 pub mod Alone
+pub mod Amended
 pub mod Asked
 pub mod Beside
 pub mod Cleared
 pub mod Drawn
 pub mod Each
+pub mod EachBy
 pub mod Gathered
 pub mod Headed
 pub mod Inside

@@ -1,27 +1,33 @@
--- `with_file` meets its contract, by the law of one element of an array in a record over `answered` and `layoutreturn::apply`.
-use mathlib.Core.Path.{_≡_, ap, _∙_}
+-- `with_file` meets its contract, by the law of a call on one file that is handed the record, over `answered` and `change`.
+use mathlib.Core.Path.{_≡_, ap, sym, subst, _∙_}
+use mathlib.Core.Bool.{false}
 use mathlib.Core.List.{List, [], _∷_}
+use native.Mathlib.Omega.{arith}
+use lib.Dec.{eqb}
+use lib.ListN.{getD}
 use mir.Syntax.{w8, w32, w64}
 use Rattle.walks.proofs.Args.{Arg, num, slice, slice-mut, ref-mut}
 use Rattle.walks.proofs.Changed.{spec}
-use Rattle.walks.proofs.Decided.{decided}
+use Rattle.records.proofs.Passed.{passed}
+use Rattle.files.specs.File.{noFile}
 use Rattle.layoutreturn.specs.LayoutReturn.{outcomeBy, replyBy, fileAfter}
 use Rattle.layoutreturn.specs.declared.Outcome.{Outcome}
-use Rattle.layoutreturn.proofs.apply.Symbol as h
-use Rattle.layoutreturn.proofs.apply.Met as h-thm
+use Rattle.layoutreturn.proofs.Refusing.{refused-leaves}
 use Rattle.recovery.specs.declared.returns.Returned.{Returned}
 use Rattle.recovery.proofs.Returning.{returnedAt}
 use Rattle.capi.specs.Place.{soughtIn}
 use Rattle.capi.specs.Lent.{columnOf}
-use Rattle.capi.specs.LayoutReturn.{bodyRead, returnedIn, stateidFor}
+use Rattle.capi.specs.LayoutReturn.{bodyRead, returnedIn, stateidFor, changedFiles}
 use Rattle.capi.proofs.Types.{outcome}
 use Rattle.capi.proofs.Fields.{files, head, parts}
-use Rattle.capi.proofs.Parting.{sought-so, sought-stateid}
+use Rattle.capi.proofs.Parting.{returned-so, sought-so, sought-stateid}
 use Rattle.capi.proofs.OnFile.{sought}
 use Rattle.capi.proofs.position.Symbol as p
 use Rattle.capi.proofs.position.Met as p-thm
 use Rattle.capi.proofs.answered.Symbol as g
 use Rattle.capi.proofs.answered.Met as g-thm
+use Rattle.capi.proofs.change.Symbol as h
+use Rattle.capi.proofs.change.Met as h-thm
 use Rattle.capi.proofs.with_file.Key.{name as #f}
 use Rattle.capi.proofs.with_file.Statement as stated
 use Rattle.capi.proofs.with_file.Code as code
@@ -33,7 +39,7 @@ args = num w64 ∷ num w64 ∷ slice w8 ∷ slice-mut w8 ∷ slice-mut w64 ∷ s
 pub with-file-spec : {M : Type 1} → stated.statement M
 unfolding code.routine files head
 with-file-spec 𝓤 H 𝓜 𝓖 𝓡 =
-    spec parts outcome args (decided parts outcome args fileAfter) w64 sought
+    spec parts outcome args (passed parts (omega arith) outcome args changedFiles) w64 sought
     (λ l i s o. (s ≡ outcomeBy (l .1 .0) (l .1 .1 .0) (i .1 .0) (i .1 .1 .0) (l .0) (bodyRead (l .1 .1 .0) (i .0))) × (o .1 .1 .1 .0 ≡ replyBy (s .status) (s .stateid) (i .1 .1 .1 .0))
     × (o .1 .1 .1 .1 .0 ≡ columnOf (s .totals .read .bytes) (i .1 .1 .1 .1 .0)) × (o .1 .1 .1 .1 .1 .0 ≡ columnOf (s .totals .written .bytes) (i .1 .1 .1 .1 .1 .0))
     × (o .1 .1 .1 .1 .1 .1 .0 ≡ s .totals .read .over) × (o .1 .1 .1 .1 .1 .1 .1 .0 ≡ s .totals .written .over))
@@ -44,14 +50,16 @@ with-file-spec 𝓤 H 𝓜 𝓖 𝓡 =
     × (o .1 .1 .1 .1 .1 .1 .1 .0 ≡ returnedIn n (i .0) (i .1 .0) (i .1 .1 .0) r .totals .written .over))
     (λ r n i s o long e.
     let so : returnedAt r (soughtIn n r) s ≡ returnedIn n (i .0) (i .1 .0) (i .1 .1 .0) r = ap (returnedAt r (soughtIn n r)) (e .0) ∙ sought-so n (i .0) (i .1 .0) (i .1 .1 .0) r long in
+    let f = getD (r .files) (soughtIn n r) noFile in
+    let stays : (eqb (s .status) 0 ≡ false → fileAfter f s ≡ f) = subst (λ (x : Outcome). (eqb (x .status) 0 ≡ false → fileAfter f x ≡ f)) (sym (e .0)) (refused-leaves n (r .head) (i .1 .0) (i .1 .1 .0) f (bodyRead (r .head) (i .0))) in
     let own : s .stateid ≡ stateidFor n (i .0) (i .1 .0) (i .1 .1 .0) r = ap (λ (x : Outcome). x .stateid) (e .0) ∙ sought-stateid n (i .0) (i .1 .0) (i .1 .1 .0) r long in (
       ap (λ (a : Returned). a .status) so,
-      ap (λ (a : Returned). a .after) so,
+      returned-so r (soughtIn n r) s stays ∙ ap (λ (a : Returned). a .after) so,
       e .1 ∙ ap (λ t. replyBy (s .status) t (i .1 .1 .1 .0)) own,
       e .2 ∙ ap (λ (a : Returned). columnOf (a .totals .read .bytes) (i .1 .1 .1 .1 .0)) so,
       e .3 ∙ ap (λ (a : Returned). columnOf (a .totals .written .bytes) (i .1 .1 .1 .1 .1 .0)) so,
       e .4 ∙ ap (λ (a : Returned). a .totals .read .over) so,
       e .5 ∙ ap (λ (a : Returned). a .totals .written .over) so,
     ))
-    𝓤 H 𝓜 𝓖 𝓡 code.env #f (p.name, (g.name, (h.name, tt))) (p.routine, (g.routine, (h.routine, tt))) (code.calls-capi·position, (code.calls-capi·answered, (code.calls-layoutreturn·apply, tt))) (code.unfolded 𝓤 H 𝓜 𝓡)
+    𝓤 H 𝓜 𝓖 𝓡 code.env #f (p.name, (g.name, (h.name, tt))) (p.routine, (g.routine, (h.routine, tt))) (code.calls-capi·position, (code.calls-capi·answered, (code.calls-capi·change, tt))) (code.unfolded 𝓤 H 𝓜 𝓡)
     (p-thm.met 𝓤 H 𝓜 𝓖 𝓡, (g-thm.met 𝓤 H 𝓜 𝓖 𝓡, (h-thm.met 𝓤 H 𝓜 𝓖 𝓡, tt)))
