@@ -1,10 +1,10 @@
 // What a C server calls on a recovery record that it owns (paper 01, "The recovery record"): each call of the record, on the record where it
 // lies, with the promise of the method by value. A call on one file reads that file and what stands beside the files, and
-// changes both in their place, and LAYOUTRETURN looks one up only where it is wanted; fresh, register, forget, restart and the end of grace move or change the files where they lie;
+// changes both in their place, open and close one intent alone, and LAYOUTRETURN looks one up only where it is wanted; fresh, register, forget, restart and the end of grace move or change the files where they lie;
 // the two lists, and the set-up of a stateid before its own file, read each file where it lies.
 // A function that takes a reference has the form that the law of `walks` or `records` which proves it is stated for: each test is a function of values,
 // a loop is left by `break`, and a field is reached anew each time. First a file's place, then the functions by value that `recovery` and `files` lack,
-// then what changes more than one file, and the calls in the paper's order.
+// then what changes more than one file, what changes one intent, and the calls in the paper's order.
 mod counts;
 mod listing;
 mod totals;
@@ -484,7 +484,7 @@ fn begin_on_file(r: &mut Record, i: usize, s: Opening)
     }
 }
 
-// Whether a place, taken or free, stays where it is when one before it ends: none does.
+// Whether a place, taken or free, stays where it is when one before it ends: none does, and the loop over them goes to the last.
 fn stays(taken: bool) -> bool
     ensures { λ z. ⌜ z ≡ false ⌝ }
 {

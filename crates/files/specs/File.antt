@@ -103,8 +103,8 @@ opens c h f Nothing = takes c h f (first isFree (f .intents))
 unfoldable pub openedFile : FileNumber → Head → Client → File → FileAnswered
 openedFile n h c f = cond (h .grace) (fileAnswered 10013 h f) (ofFile n h f (opens c h f (first (isIntent c) (f .intents))))
 
--- the same in two steps, for code that changes the intents where they lie: what is decided, s, and then the file that has the new intent at its place; there is no
--- place 8, which is where an open that finds its intent held puts it
+-- the same in two steps, for code that changes the intents where they lie: s, which is decided first, and then the file with the new intent at a place. An open that
+-- finds its intent held puts it at the place 8, which there is not
 abbrev pub withBegun : ℕ → Opening → File → File
 withBegun at s f = withIntents (set (f .intents) at (intentOf (s .client))) f
 
@@ -128,7 +128,7 @@ leaves h f (At i) =
 unfoldable pub closedFile : FileNumber → Head → Client → File → FileAnswered
 closedFile n h c f = ofFile n h f (leaves h f (first (isIntent c) (f .intents)))
 
--- the same in two steps, as for open
+-- the same in two steps, as open: s, and then the file without the intent at a place
 abbrev pub withEnded : ℕ → Closing → File → File
 withEnded at s f = withIntents (leftOut noIntent at (f .intents)) f
 
