@@ -43,17 +43,18 @@ use denote.Triple.Spec.{tripleOf}
 use denote.Triple.Clauses.{Ended, Clauses, closing, ensured, lasts}
 use denote.Exit.{yes}
 use Rattle.walks.proofs.Element.{Elements, list-long}
-use Rattle.walks.proofs.Frame.{Locals, Lies, past, found, alloc-row, pass-row, free-row}
+use Rattle.walks.proofs.Frame.{Rows, envs, declared, Lie, lie, Locals, Lies, past, found, alloc-row, pass-row, free-row}
 use Rattle.walks.proofs.Args.{Arg, num, Ins, Outs, refs, locals, temps, lent}
 use Rattle.walks.proofs.Leads.{Leads}
 use Rattle.walks.proofs.Changed.{Parts}
 use Rattle.walks.proofs.Types.{Rec}
 use Rattle.walks.proofs.Called as g
+use Rattle.walks.proofs.Keyed as keyed
+use Rattle.walks.proofs.Keyed.{Call, den, vs, at-entry, ok, Fin, at-exit, Start}
 use Rattle.walks.proofs.Cited as cited
 use Rattle.walks.proofs.Cited.{Callee, Each, Known}
 use Rattle.records.proofs.Lists.{ty, mutRef}
-use Rattle.records.proofs.Relayed as relay
-use Rattle.records.proofs.Relayed.{m-at, l-at, v-at, t-at, Rows, envs, declared, Lie, lie, Call, den, vs, at-entry, ok, Fin, at-exit, Start}
+use Rattle.records.proofs.Relayed.{m-at, l-at, v-at, t-at, calls-on}
 use Rattle.records.proofs.Shown as s
 use Rattle.records.proofs.Shown.{Show, args, shown, sights, lens, lengths, measure, shown-operands}
 
@@ -85,7 +86,7 @@ module _ {T : Declared} (O : Parts T) (n-some : 0 < O .list .n) (Kc : Rec) (ss :
   abbrev key : K .D → Val
   key r = LL.val K KL r
 
-  -- the contracts of p and b; those of f and h are `Relayed.antt`'s
+  -- the contracts of p and b; those of f and h are `Keyed.antt`'s of crate walks
   abbrev place-ended : Ended
   place-ended = record { signature = record { lifetimes = 1; outlives = []; params = RefOf (0 ∷ []) tt (plain (λ _. R)) (λ _. tt) ∷ plain (λ _. row K) ∷ []; result = plain (λ _. usize) }; kept = (yes, (yes, tt)) }
 
@@ -114,7 +115,7 @@ module _ {T : Declared} (O : Parts T) (n-some : 0 < O .list .n) (Kc : Rec) (ss :
 
   -- b, p and h, and the MIR of f, which calls their keys
   abbrev callees : List Callee
-  callees = Beginner ∷ Placer ∷ relay.Relay T wk (num w64 ∷ ps) P ∷ []
+  callees = Beginner ∷ Placer ∷ keyed.Contract T wk (num w64 ∷ ps) P ∷ []
 
   abbrev code : Each Name callees → Fn
   code ks = record {
@@ -130,7 +131,7 @@ module _ {T : Declared} (O : Parts T) (n-some : 0 < O .list .n) (Kc : Rec) (ss :
   }
 
   module _ (gives : Gives) {M : Type 1} (𝓤 : URA M) (H : Heap 𝓤) (A : Atoms 𝓤) (W : Given 𝓤 H A) (c : Call T wk ps) where
-    open Call c using (κs, q, qs, b, o, γ, h, k, a, k-fits)
+    open Call c using (κs, qs, b, o, h, k, a, k-fits)
 
     -- p's contract at the key r, the record lent where it lies for the lifetime α under the name δ
     module _ (r : K .D) where
@@ -152,7 +153,7 @@ module _ {T : Declared} (O : Parts T) (n-some : 0 < O .list .n) (Kc : Rec) (ss :
     so : length (El .list h) ≡ El .n → (r : K .D) → r ≡ G (sights ss (at-entry c)) → (m : ℕ) → m ≡ Place h r → (y : ℕ) (h′ : T .D) (ws : Fin c) → P h k (m, at-entry c) y h′ (tt, at-exit c ws) → Q h k (at-entry c) y h′ (at-exit c ws)
     so long r er m em y h′ ws p = gives h k (at-entry c) y h′ (at-exit c ws) long (subst (λ (j : ℕ). P h k (j, at-entry c) y h′ (tt, at-exit c ws)) (em ∙ ap (Place h) er) p)
 
-    walk : (𝓣 : Tables 𝓤 H) (ks : Each Name callees) → Known 𝓤 H A (𝓣 .C) callees ks → relay.Walk T wk ps Q 𝓤 H A c 𝓣 (code ks)
+    walk : (𝓣 : Tables 𝓤 H) (ks : Each Name callees) → Known 𝓤 H A (𝓣 .C) callees ks → keyed.Walk T wk ps Q 𝓤 H A c 𝓣 (code ks)
     walk 𝓣 ks known =
         let fm : FmC 𝓤 H (W .laws) (𝓣 .C) = fmOf 𝓤 H (W .laws) 𝓣 in
         qed W (Start c 𝓤 A) ∵ enter ! (𝓣 .C) (𝓣 .Λ) (code ks) (vptr b o ∷ vint wk k ∷ vs c) _ $
@@ -184,7 +185,7 @@ module _ {T : Declared} (O : Parts T) (n-some : 0 < O .list .n) (Kc : Rec) (ss :
         -- [obs; the borrow; the token; the arguments; the lengths; the other tokens; what the arguments own; what is lent again; the record lent to h from 8, to p, what p answers, what b answers, n, r, the result]
         assigns ! (addr ! (at ! (hop ! (look ! 18 refl) (stop !)))) (found ! (way .1 .0) (stop !)) (init ! 8 refl (tt, tt)) $
         move ! (3 ∷ 7 ∷ 0 ∷ 1 ∷ 2 ∷ 5 ∷ 6 ∷ []) $
-        relay.calls-on P 𝓤 H A W c i (i-is .1) (ks .1 .1 .0) (𝓣 .C) fm (known .1 .1 .0) E (λ xs. copy (place (h-at ss) []) ∷ copy (place 2 []) ∷ copy (place (i-at ss) []) ∷ xs) 3 (t-at ss) bs cs arguments (at-rows .1 .1 .1 .1 .1 .0)
+        calls-on P 𝓤 H A W c i (i-is .1) (ks .1 .1 .0) (𝓣 .C) fm (known .1 .1 .0) E (λ xs. copy (place (h-at ss) []) ∷ copy (place 2 []) ∷ copy (place (i-at ss) []) ∷ xs) 3 (t-at ss) bs cs arguments (at-rows .1 .1 .1 .1 .1 .0)
         (λ _ os. and-then ! (load ! (found ! (way .1 .0) (stop !)) (look ! 4 refl)) (and-then ! (load ! (at ! (stop !)) (look ! 12 refl)) (and-then ! (load ! (found ! (mid .1 .0) (stop !)) (look ! 8 refl)) os))) (λ w y h′ ws p y-is.
         -- [the token; the other tokens; the record's last value; the arguments'; the arguments; what is lent again; the lengths; the locals]
         land ! (at ! (stop !)) (init ! 19 refl (uint-lawful 𝓤 H A W w32 .typed y _ y-is .0)) $ rewrite ! 19 (λ (v : Val). ‵ (fat fullShare (tyInt w32) l₀ 0 v)) (ap only (y-is .0)) refl $
@@ -192,10 +193,10 @@ module _ {T : Declared} (O : Parts T) (n-some : 0 < O .list .n) (Kc : Rec) (ss :
         move ! (19 ∷ 20 ∷ []) $ free1 ! $ move ! (17 ∷ 18 ∷ []) $ free1 ! $ move ! (15 ∷ 16 ∷ []) $ free1 ! $ move ! (4 ∷ []) $ free-row ! θ bs (vs c) $
         move ! (12 ∷ 13 ∷ []) $ free1 ! $ move ! (10 ∷ 11 ∷ []) $ free1 ! $ move ! (5 ∷ []) $ free-row ! (lens ss) ns (lengths ss (den c)) $
         move ! (7 ∷ 8 ∷ []) $ free1 ! $ move ! (5 ∷ 6 ∷ []) $ free1 ! $ move ! (4 ∷ []) $ free-row ! (temps ps) cs (lent ps (den c)) $ free0 ! $
-        by ! (relay.exits T wk ps Q 𝓤 H A c W y h′ ws (y-is .1) (so long r r-so i ei y h′ ws p)))))))))))))))))))))
+        by ! (keyed.exits T wk ps Q 𝓤 H A c W y h′ ws (y-is .1) (so long r r-so i ei y h′ ws p)))))))))))))))))))))
 
   abbrev pub Theorem : Type 1 → Type 2
-  Theorem = cited.Theorem (relay.ended T wk ps Q) (relay.clauses T wk ps Q) callees code
+  Theorem = cited.Theorem (keyed.ended T wk ps Q) (keyed.clauses T wk ps Q) callees code
 
   pub spec : Gives → {M : Type 1} → Theorem M
-  spec gives = cited.theorem (relay.ended T wk ps Q) (relay.clauses T wk ps Q) callees code (λ 𝓤 H A W 𝓣 ks known. relay.meets T wk ps Q 𝓤 H A W 𝓣 (code ks) (λ c. walk gives 𝓤 H A W c 𝓣 ks known))
+  spec gives = cited.theorem (keyed.ended T wk ps Q) (keyed.clauses T wk ps Q) callees code (λ 𝓤 H A W 𝓣 ks known. keyed.meets T wk ps Q 𝓤 H A W 𝓣 (code ks) (λ c. walk gives 𝓤 H A W c 𝓣 ks known))

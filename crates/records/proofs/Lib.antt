@@ -28,9 +28,9 @@
 -- What these rest on, beside crate walks:
 --     Alone            a function whose one parameter is the record: its contract, and how its walk ends
 --     Placed           a function that is handed the record, a place and a struct: the same
---     Relayed          a function that hands the record, a number and its arguments on for good: the same; the call of such a function; where rows of locals stand
 --     Sliced           a function that is lent a slice of structs: the same; an element of the slice; a part of an array in a record; the call of such a function
 --     Within           the call of a function that is handed the record where it lies
+--     Relayed          the call of a function that is handed the record, a number and the arguments for good
 --     Inside           the call of a function that is handed one element of an array in the record
 --     Shown            what is shown of the arguments to a function before they are handed on: numbers, `&[uW]`, and lengths
 --     Again            a slice that is lent again for a call, and comes back

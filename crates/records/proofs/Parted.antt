@@ -38,17 +38,18 @@ use denote.Struct.Field.{rows as field-rows, bool-field, u32-field, usize-field}
 use denote.Struct.Declared.{Declared, row}
 use denote.Struct.Laws as LL
 use Rattle.walks.proofs.Element.{Kept, inner-kept, look-field, field-is}
-use Rattle.walks.proofs.Frame.{Locals, Blocks, Lies, cells, past, found, alloc-row, pass-row, free-row}
+use Rattle.walks.proofs.Frame.{Rows, envs, declared, Lie, lie, Locals, Blocks, Lies, cells, past, found, alloc-row, pass-row, free-row}
 use Rattle.walks.proofs.Args.{Arg, num, Ins, Outs, refs, locals, temps, lent}
 use Rattle.walks.proofs.Handed.{carry}
 use Rattle.walks.proofs.Leads.{Lead, Leads, record-lead, number-lead}
 use Rattle.walks.proofs.Changed.{Parts}
 use Rattle.walks.proofs.Called as g
+use Rattle.walks.proofs.Keyed as keyed
+use Rattle.walks.proofs.Keyed.{Call, den, vs, at-entry, ok, Fin, at-exit, Start}
 use Rattle.walks.proofs.Cited as cited
 use Rattle.walks.proofs.Cited.{Callee, Each, Known}
 use Rattle.records.proofs.Lists.{ty, mutRef, holds, fails}
-use Rattle.records.proofs.Relayed as relay
-use Rattle.records.proofs.Relayed.{m-at, l-at, v-at, t-at, Rows, envs, declared, Lie, lie, Call, den, vs, at-entry, ok, Fin, at-exit, Start}
+use Rattle.records.proofs.Relayed.{m-at, l-at, v-at, t-at, calls-on}
 use Rattle.records.proofs.Shown as s
 use Rattle.records.proofs.Shown.{Show, args, shown, sights, lens, lengths, measure, shown-operands}
 
@@ -108,7 +109,7 @@ module _ {T : Declared} (O : Parts T) (S : Parting) (ss : List Show) (wk : Width
   abbrev ρ′ : Ty
   ρ′ = tyRef erased mut (pointee ((row T) .written))
 
-  -- the contracts of b and e; those of f and h are `Relayed.antt`'s
+  -- the contracts of b and e; those of f and h are `Keyed.antt`'s of crate walks
   abbrev bs-leads : List Lead
   bs-leads = record-lead (O .H) ∷ []
 
@@ -142,7 +143,7 @@ module _ {T : Declared} (O : Parts T) (S : Parting) (ss : List Show) (wk : Width
 
   -- b, h and e, and the MIR of f, which calls their keys
   abbrev callees : List Callee
-  callees = Beginner ∷ relay.Relay T wk (num w64 ∷ ps) P ∷ Unwanted ∷ []
+  callees = Beginner ∷ keyed.Contract T wk (num w64 ∷ ps) P ∷ Unwanted ∷ []
 
   abbrev rest : Each Name callees → Code
   rest ks = g.to-call ps (ks .1 .1 .0) (λ xs. copy (place (m-at ss) (fieldStep 1 ∷ [])) ∷ xs) 3 (u-at ss) (place 0 []) return
@@ -164,7 +165,7 @@ module _ {T : Declared} (O : Parts T) (S : Parting) (ss : List Show) (wk : Width
   }
 
   module _ (gives : Gives) {M : Type 1} (𝓤 : URA M) (H : Heap 𝓤) (A : Atoms 𝓤) (W : Given 𝓤 H A) (c : Call T wk ps) where
-    open Call c using (κs, q, qs, b, o, γ, h, k, a, k-fits)
+    open Call c using (κs, qs, b, o, γ, h, k, a, k-fits)
 
     abbrev d : D
     d = parted h (at-entry c)
@@ -183,17 +184,17 @@ module _ {T : Declared} (O : Parts T) (S : Parting) (ss : List Show) (wk : Width
 
         -- once h or e has answered y: what the end of the walk goes by, the arguments, lengths and what was lent again, and the locals, the last first, of which the result is full
         abbrev At : List Val → List Val → ℕ → T .D → Fin c → List (Item 𝓤)
-        At us us′ y h′ ws = relay.Last c 𝓤 A h′ ws (‵ (cells θ bs (vs c)) ∷ ‵ (cells (lens ss) ns (lengths ss (den c))) ∷ ‵ (cells (temps ps) cs us) ∷ ‵ (cells (temps ps) es us′) ∷ ‵ (froom ρ′ l₆ 0) ∷ ‵ (fdies ρ′ l₆) ∷ ‵ (froom tyBool l₅ 0) ∷ ‵ (fdies tyBool l₅) ∷ ‵ (froom (ty Hd) l₄ 0) ∷ ‵ (fdies (ty Hd) l₄) ∷ ‵ (froom (ty PT) l₃ 0) ∷ ‵ (fdies (ty PT) l₃) ∷ ‵ (froom (tyInt wk) l₂ 0) ∷ ‵ (fdies (tyInt wk) l₂) ∷ ‵ (froom (mutRef T) l₁ 0) ∷ ‵ (fdies (mutRef T) l₁) ∷ ‵ (fat fullShare (tyInt w32) l₀ 0 (vint w32 y)) ∷ ‵ (fdies (tyInt w32) l₀) ∷ [])
+        At us us′ y h′ ws = keyed.Last c 𝓤 A h′ ws (‵ (cells θ bs (vs c)) ∷ ‵ (cells (lens ss) ns (lengths ss (den c))) ∷ ‵ (cells (temps ps) cs us) ∷ ‵ (cells (temps ps) es us′) ∷ ‵ (froom ρ′ l₆ 0) ∷ ‵ (fdies ρ′ l₆) ∷ ‵ (froom tyBool l₅ 0) ∷ ‵ (fdies tyBool l₅) ∷ ‵ (froom (ty Hd) l₄ 0) ∷ ‵ (fdies (ty Hd) l₄) ∷ ‵ (froom (ty PT) l₃ 0) ∷ ‵ (fdies (ty PT) l₃) ∷ ‵ (froom (tyInt wk) l₂ 0) ∷ ‵ (fdies (tyInt wk) l₂) ∷ ‵ (froom (mutRef T) l₁ 0) ∷ ‵ (fdies (mutRef T) l₁) ∷ ‵ (fat fullShare (tyInt w32) l₀ 0 (vint w32 y)) ∷ ‵ (fdies (tyInt w32) l₀) ∷ [])
 
-        finishes : (us us′ : List Val) (y : ℕ) (h′ : T .D) (ws : Fin c) → y < 2 ^ 32 → Q h k (at-entry c) y h′ (at-exit c ws) → {p : Posted 𝓤 H} → post 𝓤 H p returnsᴼ ≡ atReturn 𝓤 H (envs rows blocks) (relay.Post T wk ps Q 𝓤 H A c) returnsᴼ → Seq (Go {0}) W (At us us′ y h′ ws) (runs (𝓣 .C) (𝓣 .Λ) (envs rows blocks) return p)
+        finishes : (us us′ : List Val) (y : ℕ) (h′ : T .D) (ws : Fin c) → y < 2 ^ 32 → Q h k (at-entry c) y h′ (at-exit c ws) → {p : Posted 𝓤 H} → post 𝓤 H p returnsᴼ ≡ atReturn 𝓤 H (envs rows blocks) (keyed.Post T wk ps Q 𝓤 H A c) returnsᴼ → Seq (Go {0}) W (At us us′ y h′ ws) (runs (𝓣 .C) (𝓣 .Λ) (envs rows blocks) return p)
         finishes us us′ y h′ ws fit so e =
-            returns-within ! (relay.Post T wk ps Q 𝓤 H A c) e (look ! 20 refl) $ forget ! 20 refl $
+            returns-within ! (keyed.Post T wk ps Q 𝓤 H A c) e (look ! 20 refl) $ forget ! 20 refl $
             move ! (20 ∷ 21 ∷ []) $ free1 ! $ move ! (18 ∷ 19 ∷ []) $ free1 ! $ move ! (16 ∷ 17 ∷ []) $ free1 ! $ move ! (4 ∷ []) $ free-row ! θ bs (vs c) $
             move ! (13 ∷ 14 ∷ []) $ free1 ! $ move ! (11 ∷ 12 ∷ []) $ free1 ! $ move ! (4 ∷ []) $ free-row ! (lens ss) ns (lengths ss (den c)) $
             move ! (8 ∷ 9 ∷ []) $ free1 ! $ move ! (6 ∷ 7 ∷ []) $ free1 ! $ move ! (4 ∷ []) $ free-row ! (temps ps) cs us $ move ! (4 ∷ []) $ free-row ! (temps ps) es us′ $ free0 ! $
-            by ! (relay.exits T wk ps Q 𝓤 H A c W y h′ ws fit so)
+            by ! (keyed.exits T wk ps Q 𝓤 H A c W y h′ ws fit so)
 
-      walk : relay.Walk T wk ps Q 𝓤 H A c 𝓣 (code ks)
+      walk : keyed.Walk T wk ps Q 𝓤 H A c 𝓣 (code ks)
       walk =
           let fm : FmC 𝓤 H (W .laws) (𝓣 .C) = fmOf 𝓤 H (W .laws) 𝓣 in
           qed W (Start c 𝓤 A) ∵ enter ! (𝓣 .C) (𝓣 .Λ) (code ks) (vptr b o ∷ vint wk k ∷ vs c) _ $
@@ -218,13 +219,13 @@ module _ {T : Declared} (O : Parts T) (S : Parting) (ss : List Show) (wk : Width
           (λ hit.
           assigns ! (addr ! (at ! (hop ! (look ! 19 refl) (stop !)))) (found ! (tes .1 .0) (stop !)) (init ! 9 refl (tt, tt)) $
           move ! (0 ∷ 8 ∷ 4 ∷ 5 ∷ 6 ∷ 2 ∷ 3 ∷ []) $
-          relay.calls-on P 𝓤 H A W c (S .len r) (LL.owed PT SL r _ is .1 .1 .0 .1) (ks .1 .0) (𝓣 .C) fm (known .1 .0) E (λ xs. copy (place (h-at ss) []) ∷ copy (place 2 []) ∷ copy (place (m-at ss) (fieldStep 2 ∷ [])) ∷ xs) 3 (t-at ss) bs cs arguments (at-rows .1 .1 .1 .1 .1 .0)
+          calls-on P 𝓤 H A W c (S .len r) (LL.owed PT SL r _ is .1 .1 .0 .1) (ks .1 .0) (𝓣 .C) fm (known .1 .0) E (λ xs. copy (place (h-at ss) []) ∷ copy (place 2 []) ∷ copy (place (m-at ss) (fieldStep 2 ∷ [])) ∷ xs) 3 (t-at ss) bs cs arguments (at-rows .1 .1 .1 .1 .1 .0)
           (λ _ os. and-then ! (load ! (found ! (tes .1 .0) (stop !)) (look ! 5 refl)) (and-then ! (load ! (at ! (stop !)) (look ! 13 refl)) (and-then ! (load ! (found ! (mid .0) (fld ! refl (stop !))) (look-in ! 11 (sub ! 2 refl (whole !)))) os))) (λ u y h′ ws p y-is.
           -- [the token; the other tokens; the record's last value; the arguments'; the arguments; what is lent again for h; the lengths; what is lent again for e; the locals]
           land ! (at ! (stop !)) (init ! 20 refl (uint-lawful 𝓤 H A W w32 .typed y _ y-is .0)) $ rewrite ! 20 (λ (w : Val). ‵ (fat fullShare (tyInt w32) l₀ 0 w)) (ap only (y-is .0)) refl $
           forget ! 8 refl $ forget ! 10 refl $ forget ! 12 refl $ forget ! 14 refl $ forget ! 16 refl $ forget ! 18 refl $ move ! (0 ∷ 1 ∷ 2 ∷ 3 ∷ 4 ∷ 6 ∷ 5 ∷ 7 ∷ []) $
           finishes l₀ l₁ l₂ bs l₃ l₄ ns l₅ l₆ cs es (lent ps (den c)) [] y h′ ws (y-is .1) (wanted-so r r-so hit y h′ ws p) refl))
-          (λ miss. skips ! $ exec ! (𝓣 .C) (𝓣 .Λ) E (rest ks) (atRet E (relay.Post T wk ps Q 𝓤 H A c)) $
+          (λ miss. skips ! $ exec ! (𝓣 .C) (𝓣 .Λ) E (rest ks) (atRet E (keyed.Post T wk ps Q 𝓤 H A c)) $
           move ! (0 ∷ 7 ∷ 2 ∷ 3 ∷ []) $ g.calls-g es-leads u32 ps g.always N κs (S .status r, tt) a 𝓤 H A W qs (ks .1 .1 .0) (𝓣 .C) fm (known .1 .1 .0) E (λ xs. copy (place (m-at ss) (fieldStep 1 ∷ [])) ∷ xs) 3 (u-at ss) bs es (ok c) ((refl, LL.owed PT SL r _ is .1 .0 .1), tt) tt arguments (at-rows .1 .1 .1 .1 .1 .1 .0)
           (λ _ os. and-then ! (load ! (found ! (mid .0) (fld ! refl (stop !))) (look-in ! 14 (sub ! 1 refl (whole !)))) os) (λ u y ws e-says y-is. drop ! $
           -- [the tokens; the arguments' last values; the arguments; what is lent again for e; the lengths; obs; the borrow; the token; what is lent again for h; the locals]
@@ -236,7 +237,7 @@ module _ {T : Declared} (O : Parts T) (S : Parting) (ss : List Show) (wk : Width
           finishes l₀ l₁ l₂ bs l₃ l₄ ns l₅ l₆ cs es [] (lent ps (den c)) y h (carry κs (κs .1) ps (g.in-f ps) (g.in-g ps) a ws) (y-is .1) (unwanted-so r r-so miss y (carry κs (κs .1) ps (g.in-f ps) (g.in-g ps) a ws) e-says) refl)))))))))))))))
 
   abbrev pub Theorem : Type 1 → Type 2
-  Theorem = cited.Theorem (relay.ended T wk ps Q) (relay.clauses T wk ps Q) callees code
+  Theorem = cited.Theorem (keyed.ended T wk ps Q) (keyed.clauses T wk ps Q) callees code
 
   pub spec : Gives → {M : Type 1} → Theorem M
-  spec gives = cited.theorem (relay.ended T wk ps Q) (relay.clauses T wk ps Q) callees code (λ 𝓤 H A W 𝓣 ks known. relay.meets T wk ps Q 𝓤 H A W 𝓣 (code ks) (λ c. walk gives 𝓤 H A W c 𝓣 ks known))
+  spec gives = cited.theorem (keyed.ended T wk ps Q) (keyed.clauses T wk ps Q) callees code (λ 𝓤 H A W 𝓣 ks known. keyed.meets T wk ps Q 𝓤 H A W 𝓣 (code ks) (λ c. walk gives 𝓤 H A W c 𝓣 ks known))
