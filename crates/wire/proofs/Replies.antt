@@ -1,9 +1,9 @@
 -- What the stores of a reply leave in the lent buffer.
 use Prim.Native.Nat.{ℕ, _+_, _≤_, _<_}
-use mathlib.Core.Path.{_≡_, refl, sym, ap, _∙_}
+use mathlib.Core.Path.{_≡_, refl, sym, ap, subst, _∙_}
 use mathlib.Core.List.{List, [], _∷_, _++_, append-nil, append-assoc}
-use mathlib.Core.Bool.{true, false, cond}
-use borrow.Author.Tests.{lt-ltb, le-ltb, eq-eqb, ne-eqb}
+use mathlib.Core.Bool.{Bool, true, false, cond}
+use borrow.Author.Tests.{lt-ltb, le-ltb, eq-eqb, ne-eqb, eqb-true}
 use lib.ListN.{length}
 use lib.Seq.{sets}
 use lib.Dec.{ltb, eqb}
@@ -18,6 +18,18 @@ use Rattle.wire.specs.declared.stateid.Stateid.{Stateid}
 pub none-bytes : stateidBytes noStateid ≡ zeros 16
 unfolding beBytes stateidBytes
 none-bytes = refl
+
+pub none-is : (t : Stateid) → cond (eqb (t .high) 0) (cond (eqb (t .low) 0) (eqb (t .seqid) 0) false) false ≡ true → noStateid ≡ t
+none-is t = by (eqb (t .high) 0) (eqb (t .low) 0) (eqb (t .seqid) 0) refl refl refl
+  where
+    clash : _≡_ {A = Bool} false true → ⊥
+    clash z = subst (λ (b : Bool). cond b ⊥ (Unit {0})) z tt
+
+    by : (a b c : Bool) → eqb (t .high) 0 ≡ a → eqb (t .low) 0 ≡ b → eqb (t .seqid) 0 ≡ c → cond a (cond b c false) false ≡ true → noStateid ≡ t
+    by true true true h l s e = λ i. record { high = sym (eqb-true (t .high) 0 h) i; low = sym (eqb-true (t .low) 0 l) i; seqid = sym (eqb-true (t .seqid) 0 s) i }
+    by true true false h l s e = absurd (clash e)
+    by true false c h l s e = absurd (clash e)
+    by false b c h l s e = absurd (clash e)
 
 -- two numbers stored one after the other
 next-store : (w x : ℕ) (d : List ℕ) (at : ℕ) (t : List ℕ) → sets d at (beBytes w x ++ t) ≡ sets (sets d at (beBytes w x)) (at + w) t

@@ -2,17 +2,38 @@
 // bytes unless one was raised.
 use crate::stateid::Stateid;
 ghost use mathlib.Core.Path.{_≡_};
+ghost use mathlib.Core.Bool.{cond, false};
 ghost use Prim.Native.Nat.{_≤_};
+ghost use lib.Dec.{eqb};
 ghost use lib.ListN.{length};
 ghost use lib.Seq.{sets};
 ghost use Rattle.wire.specs.Stateid.{stateidBytes};
 ghost use Rattle.wire.specs.Reply.{replyIn, replyInWith, replyAnswer};
 
-// Stores a stateid at byte 8, where a reply has it.
+// Whether a stateid is none: it is all zeros.
+fn is_none(t: Stateid) -> bool
+    ensures { λ r. ⌜ r ≡ cond (eqb (t .high) 0) (cond (eqb (t .low) 0) (eqb (t .seqid) 0) false) false ⌝ }
+{
+    if t.high != 0 {
+        return false;
+    }
+    if t.low != 0 {
+        return false;
+    }
+    t.seqid == 0
+}
+
+// Stores a stateid at byte 8, where a reply has it; none by itself, which most replies have, so that the compiler stores zeros and swaps no bytes.
 fn put_stateid(reply: &mut [u8], t: Stateid)
     requires { ⌜ 24 ≤ length (now reply) ⌝ }
     ensures { λ _. ⌜ now (reply .exit) ≡ sets (now (reply .entry)) 8 (stateidBytes t) ⌝ }
 {
+    if is_none(t) {
+        xdr::put32(reply, 8, 0);
+        xdr::put64(reply, 12, 0);
+        xdr::put32(reply, 20, 0);
+        return;
+    }
     xdr::put32(reply, 8, t.seqid);
     xdr::put64(reply, 12, t.high);
     xdr::put32(reply, 20, t.low);
