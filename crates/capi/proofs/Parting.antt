@@ -1,6 +1,6 @@
 -- LAYOUTRETURN parted before any file is looked up is what the definition of crate recovery says of it, in this order: the file, changed in place where the return is
 -- accepted; at the place that is sought; by the phase; where a file is wanted; where none is.
-use mathlib.Core.Path.{_≡_, refl, sym, ap, subst, _∙_}
+use mathlib.Core.Path.{_≡_, refl, sym, ap, _∙_}
 use mathlib.Core.List.{List, map}
 use mathlib.Core.Bool.{Bool, true, false, cond}
 use Prim.Native.Nat.{ℕ, _≤_}
@@ -9,6 +9,7 @@ use lib.Dec.{eqb, ltb}
 use lib.ListN.{getD, set, length}
 use lib.Seq.{set-getD, set-out}
 use borrow.Author.Tests.{ltb-false}
+use Rattle.places.proofs.Sets.{true-false}
 use Rattle.records.proofs.Headed.{if-called}
 use Rattle.records.proofs.Amended.{amends}
 use Rattle.mirroring.specs.Totals.{noTotals}
@@ -115,9 +116,6 @@ phased h s room = by (ltb room 24)
     by true = tt
     by false = request-phased h (requestOf s)
 
-clash : _≡_ {A = Bool} true false → ⊥
-clash z = subst (λ (b : Bool). cond b (Unit {0}) ⊥) z tt
-
 module _ (n c : ℕ) (s d : List ℕ) (r : Record) where
   -- ---- where a file is wanted
   on-file : (x : Decision) (len : ℕ) → bodyRead (r .head) len ≡ x → x ≡ decisionOf (r .head) s (length d) → Placed n r (placeIn n r) x → returnedIn n len c s r ≡ layoutreturnOf n c s d r
@@ -125,8 +123,8 @@ module _ (n c : ℕ) (s d : List ℕ) (r : Record) where
   on-file x len q e p = ap (λ y. returnedAt r (placeIn n r) (outcomeBy n (r .head) c s (fileAt n r) y)) q ∙ returned-at n c s d r (placeIn n r) x e p
 
   wanted-by : (x : Decision) → x ≡ decisionOf (r .head) s (length d) → Phased (r .head) x → begunOf x .wanted ≡ true → returnedIn n (begunOf x .len) c s r ≡ layoutreturnOf n c s d r
-  wanted-by (Answered k) e q w = absurd (clash (sym w))
-  wanted-by HandedOn e q w = absurd (clash (sym w))
+  wanted-by (Answered k) e q w = true-false (sym w)
+  wanted-by HandedOn e q w = true-false (sym w)
   wanted-by (ReadBody len) e q w = on-file (ReadBody len) len q e refl
   wanted-by (ReturnBody len) e q w = on-file (ReturnBody len) len q e refl
 
@@ -138,8 +136,8 @@ module _ (n c : ℕ) (s d : List ℕ) (r : Record) where
   stateid-on x len q e p = ap (λ y. outcomeBy n (r .head) c s (fileAt n r) y .stateid) q ∙ stateid-at n c s d r (placeIn n r) x e p
 
   stateid-wanted-by : (x : Decision) → x ≡ decisionOf (r .head) s (length d) → Phased (r .head) x → begunOf x .wanted ≡ true → stateidFor n (begunOf x .len) c s r ≡ stateidBy n c s r (decisionOf (r .head) s (length d))
-  stateid-wanted-by (Answered k) e q w = absurd (clash (sym w))
-  stateid-wanted-by HandedOn e q w = absurd (clash (sym w))
+  stateid-wanted-by (Answered k) e q w = true-false (sym w)
+  stateid-wanted-by HandedOn e q w = true-false (sym w)
   stateid-wanted-by (ReadBody len) e q w = stateid-on (ReadBody len) len q e refl
   stateid-wanted-by (ReturnBody len) e q w = stateid-on (ReturnBody len) len q e refl
 
@@ -150,8 +148,8 @@ module _ (n c : ℕ) (s d : List ℕ) (r : Record) where
   unwanted-by : (x : Decision) → begunOf x .wanted ≡ false → returning (begunOf x .status) noTotals r ≡ returnedBy n c s r x
   unwanted-by (Answered k) w = refl
   unwanted-by HandedOn w = refl
-  unwanted-by (ReadBody len) w = absurd (clash w)
-  unwanted-by (ReturnBody len) w = absurd (clash w)
+  unwanted-by (ReadBody len) w = true-false w
+  unwanted-by (ReturnBody len) w = true-false w
 
   pub unwanted-so : begunOf (decisionOf (r .head) s (length d)) .wanted ≡ false → returning (begunOf (decisionOf (r .head) s (length d)) .status) noTotals r ≡ layoutreturnOf n c s d r
   unfolding layoutreturnOf
@@ -160,5 +158,5 @@ module _ (n c : ℕ) (s d : List ℕ) (r : Record) where
   pub stateid-unwanted : (x : Decision) → begunOf x .wanted ≡ false → noStateid ≡ stateidBy n c s r x
   stateid-unwanted (Answered k) w = refl
   stateid-unwanted HandedOn w = refl
-  stateid-unwanted (ReadBody len) w = absurd (clash w)
-  stateid-unwanted (ReturnBody len) w = absurd (clash w)
+  stateid-unwanted (ReadBody len) w = true-false w
+  stateid-unwanted (ReturnBody len) w = true-false w

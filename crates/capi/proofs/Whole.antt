@@ -18,6 +18,7 @@ use Rattle.places.specs.Places.{first, bump, placeOr}
 use Rattle.places.specs.declared.Found.{Found}
 use Rattle.places.specs.declared.Found.the-variants.{At, Nothing}
 use Rattle.places.proofs.Loops.{searching}
+use Rattle.places.proofs.Sets.{true-false}
 use Rattle.mirroring.specs.Mirrors.{enrolledOf}
 use Rattle.files.specs.File.{noFile, blankFile, isFile, isVacant, forgettable, countedHead, tallied, endedFile}
 use Rattle.files.specs.Head.{freshHead}
@@ -91,9 +92,6 @@ pub entered-so : (r : Record) (at : ℕ) (s : FileAnswered) → length (r .files
 unfolding enteredFiles enter
 entered-so r at s long = raises-so s (roomSought 0 r) r ∙ ap (λ i. withFiles (raised (s .file) i (r .files)) r) (room-so 0 r long)
 
-clash : _≡_ {A = Bool} true false → ⊥
-clash z = subst (λ (b : Bool). cond b (Unit {0}) ⊥) z tt
-
 -- a place that is found passes
 module _ {A : Type 0} (p : A → Bool) (d : A) where
   item-passes : (b : Bool) (o : Found) (k : ℕ) (x : A) (xs : List A) → p x ≡ b → cond b (At 0) (bump o) ≡ At k → ((j : ℕ) → o ≡ At j → p (getD xs j d) ≡ true) → p (getD (x ∷ xs) k d) ≡ true
@@ -115,7 +113,7 @@ not-found n r e = by (first (isFile n) (r .files)) refl
     by (At k) q =
         let hit : isFile n (getD (r .files) k noFile) ≡ true = found-passes (isFile n) noFile (r .files) k q in
         let miss : isFile n (getD (r .files) (placeOr 63 (At k)) noFile) ≡ false = subst (λ (o : Found). isFile n (getD (r .files) (placeOr 63 o) noFile) ≡ false) q e in
-        absurd (clash (sym hit ∙ miss))
+        true-false (sym hit ∙ miss)
     by Nothing q = ap (λ (o : Found). getD (r .files) (placeOr 63 o) noFile) q
 
 -- the record once a call has been answered s

@@ -1,2 +1,3 @@
 pub mod EndOfGrace
 pub mod Anew
+pub mod Counted

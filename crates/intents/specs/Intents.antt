@@ -48,6 +48,10 @@ isStated t = not (eqb (t .seqid) 0)
 abbrev pub usesOther : Stateid → Intent → Bool
 usesOther t x = cond (x .taken) (cond (isStated (x .stateid)) (hasOther t (x .stateid)) false) false
 
+-- whether it has the first 8 bytes of that `other`, whatever else it has
+abbrev pub isNear : Stateid → Intent → Bool
+isNear t x = eqb (x .stateid .high) (t .high)
+
 -- the stateid of the place that was found
 abbrev pub stateidAt : List Intent → Found → Stateid
 stateidAt xs Nothing = noStateid

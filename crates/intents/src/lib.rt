@@ -9,7 +9,7 @@ ghost use mathlib.Core.Bool.{cond};
 ghost use lib.ListN.{getD, set, replicate, length};
 ghost use Rattle.places.specs.Lists.{any, chosen, fill};
 ghost use Rattle.places.specs.Places.{first, isFound, leftOut};
-ghost use Rattle.intents.specs.Intents.{noIntent, intentOf, isIntent, isFree, isKept, isLost, clientOf, stayedOf, stayedIntent, reclaimedIf, unreclaimedIntent, firstTaken, isStated, usesOther, stateidAt, statedIf};
+ghost use Rattle.intents.specs.Intents.{noIntent, intentOf, isIntent, isFree, isKept, isLost, clientOf, stayedOf, stayedIntent, reclaimedIf, unreclaimedIntent, firstTaken, isStated, usesOther, isNear, stateidAt, statedIf};
 
 // A place for an intent: its client, the client's stateid, which is none where its seqid is 0, whether the place is taken, and whether the client has reclaimed
 // since the latest restart.
@@ -163,6 +163,14 @@ impl Intent {
     {
         let own = self.stateid;
         own.has_other(t) && self.taken && stated(own)
+    }
+
+    // Whether the place has the first 8 bytes of the `other` of `t`.
+    pub(crate) fn near(self, t: Stateid) -> bool
+        ensures { λ r. ⌜ r ≡ isNear t self ⌝ }
+    {
+        let own = self.stateid;
+        own.high == t.high
     }
 
     // The place once the client has the stateid `t`; by its fields and the stateid's, so that the compiler stores no more than what changes.
@@ -431,10 +439,27 @@ pub fn stateid_of(intents: [Intent; 8], client: u64) -> Stateid
     Stateid::none()
 }
 
-// Whether one of the intents has the `other` of `t`.
+// Whether a place has the first 8 bytes of the `other` of `t`; they are counted, without a branch.
+fn any_near(intents: [Intent; 8], t: Stateid) -> bool
+    ensures { λ r. ⌜ r ≡ isFound (first (isNear t) intents) ⌝ }
+{
+    let mut n: usize = 0;
+    let mut i: usize = 0;
+    while i < 8 {
+        let x = intents[i];
+        n += one_if(x.near(t));
+        i += 1;
+    }
+    n != 0
+}
+
+// Whether one of the intents has the `other` of `t`; most files are passed by its first 8 bytes.
 pub fn uses(intents: [Intent; 8], t: Stateid) -> bool
     ensures { λ r. ⌜ r ≡ any (usesOther t) intents ⌝ }
 {
+    if !any_near(intents, t) {
+        return false;
+    }
     let mut i: usize = 0;
     while i < 8 {
         let x = intents[i];

@@ -1,5 +1,5 @@
 -- One walk of the report gives the outcome that is defined, by what was decided.
-use mathlib.Core.Path.{_≡_, refl, sym, ap, subst, _∙_}
+use mathlib.Core.Path.{_≡_, refl, sym, ap, _∙_}
 use mathlib.Core.Bool.{Bool, true, false, cond}
 use Prim.Native.Nat.{ℕ}
 use lib.Dec.{eqb}
@@ -9,6 +9,7 @@ use Rattle.wire.specs.Request.{partOf}
 use Rattle.wire.specs.Stateid.{noStateid, stateidIn}
 use Rattle.wire.specs.declared.stateid.Stateid.{Stateid}
 use Rattle.places.specs.Places.{first, isFound}
+use Rattle.places.proofs.Sets.{true-false}
 use Rattle.mirroring.specs.Blame.{statusOnly, assessmentOf}
 use Rattle.mirroring.specs.declared.blame.Assessment.{Assessment}
 use Rattle.intents.specs.Intents.{isIntent}
@@ -20,9 +21,6 @@ use Rattle.layoutreturn.specs.OneWalk.{readsBody, unreadStatus, anonymou
 use Rattle.layoutreturn.specs.declared.Claim.{Claim}
 use Rattle.layoutreturn.specs.declared.Decision.{Decision}
 use Rattle.layoutreturn.specs.declared.Decision.the-variants.{Answered, HandedOn, ReadBody, ReturnBody}
-
-clash : _≡_ {A = Bool} true false → ⊥
-clash z = subst (λ (b : Bool). cond b (Unit {0}) ⊥) z tt
 
 -- step 6 by its status, and by what it leaves of a report: a is the file's test, b the client's
 by-tests : (q : Assessment) (a b : Bool) → cond (eqb (cond a (cond b 0 10034) 70) 0) q (statusOnly (cond a (cond b 0 10034) 70)) ≡ cond a (cond b q (statusOnly 10034)) (statusOnly 70)
@@ -62,12 +60,12 @@ pub outcome-unread : (n : FileNumber) (h : Head) (c : Client) (s : Bytes) (f : F
 unfolding outcomeBy
 outcome-unread n h c s f (Answered k) e = refl
 outcome-unread n h c s f HandedOn e = refl
-outcome-unread n h c s f (ReadBody len) e = absurd (clash e)
-outcome-unread n h c s f (ReturnBody len) e = absurd (clash e)
+outcome-unread n h c s f (ReadBody len) e = true-false e
+outcome-unread n h c s f (ReturnBody len) e = true-false e
 
 pub outcome-assessed : (n : FileNumber) (h : Head) (c : Client) (s : Bytes) (f : File) (d : Decision) → readsBody d ≡ true → assessedOutcome n h c s f d ≡ outcomeBy n h c s f d
 unfolding outcomeBy
-outcome-assessed n h c s f (Answered k) e = absurd (clash (sym e))
-outcome-assessed n h c s f HandedOn e = absurd (clash (sym e))
+outcome-assessed n h c s f (Answered k) e = true-false (sym e)
+outcome-assessed n h c s f HandedOn e = true-false (sym e)
 outcome-assessed n h c s f (ReadBody len) e = ap (outcomeOn h c noStateid f) (anonymous n h c (reportOf (partOf len s)) f)
 outcome-assessed n h c s f (ReturnBody len) e = ordinary n h c s (reportOf (partOf len s)) f

@@ -1,5 +1,5 @@
 -- A return that is refused leaves the file as it is: it changes nothing, and no stateid is raised. In this order: what a report says; either kind of return; the outcome.
-use mathlib.Core.Path.{_≡_, refl, sym, ap, subst, _∙_}
+use mathlib.Core.Path.{_≡_, refl, sym, ap, _∙_}
 use mathlib.Core.Bool.{Bool, true, false, cond}
 use mathlib.Core.List.{List}
 use lib.Dec.{eqb}
@@ -9,6 +9,7 @@ use Rattle.wire.specs.Request.{partOf}
 use Rattle.wire.specs.Stateid.{noStateid, stateidIn, raisedStateid}
 use Rattle.wire.specs.declared.stateid.Stateid.{Stateid}
 use Rattle.places.specs.Places.{first, isFound}
+use Rattle.places.proofs.Sets.{true-false}
 use Rattle.mirroring.specs.Blame.{noChange, statusOnly, errorsAssessed, assessmentOf}
 use Rattle.mirroring.specs.declared.blame.Assessment.{Assessment}
 use Rattle.mirroring.specs.declared.blame.Change.{Change}
@@ -23,9 +24,6 @@ use Rattle.layoutreturn.specs.LayoutReturn.{barOn, reportOn, returnOn, h
 use Rattle.layoutreturn.specs.declared.Decision.{Decision}
 use Rattle.layoutreturn.specs.declared.Decision.the-variants.{Answered, HandedOn, ReadBody, ReturnBody}
 
-clash : _≡_ {A = Bool} true false → ⊥
-clash z = subst (λ (b : Bool). cond b (Unit {0}) ⊥) z tt
-
 -- ---- a report
 record Leaves (a : Assessment) : Type 0 where
   none : eqb (a .status) 0 ≡ false → a .change ≡ noChange
@@ -39,7 +37,7 @@ either false l m = m
 
 report-leaves : (ms : List Mirror) (p : Report) → Leaves (assessmentOf ms p)
 unfolding assessmentOf errorsAssessed
-report-leaves ms (Whole xs ys) = record { none = λ e. absurd (clash (sym (ap (λ k. eqb k 0) (status-kept ms xs (statusOnly 0))) ∙ e)) }
+report-leaves ms (Whole xs ys) = record { none = λ e. true-false (sym (ap (λ k. eqb k 0) (status-kept ms xs (statusOnly 0))) ∙ e) }
 report-leaves ms Malformed = record { none = λ e. refl }
 
 -- ---- either kind of return

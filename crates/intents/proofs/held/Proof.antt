@@ -1,35 +1,15 @@
 -- The loop counts: `Counting` of the client's places holds at its head. There is one where the count is not 0.
-use mathlib.Core.Path.{_≡_, refl, sym, ap, _∙_}
-use mathlib.Core.Bool.{Bool, true, false, not, cond}
-use mathlib.Core.List.{List, [], _∷_}
-use Prim.Native.Nat.{_≤_, _<_, _-_, suc}
+use mathlib.Core.Path.{_≡_}
+use Prim.Native.Nat.{_≤_, _<_, _-_}
 use native.Mathlib.Omega.{arith}
-use lib.Dec.{eqb}
 use lib.ListN.{length}
 use borrow.Author.Needs.{needs}
-use borrow.Author.Tests.{ne-eqb}
-use Rattle.places.specs.Lists.{chosen}
-use Rattle.places.specs.Places.{first, bump, isFound}
-use Rattle.places.specs.declared.Found.{Found}
-use Rattle.places.specs.declared.Found.the-variants.{At, Nothing}
 use Rattle.places.proofs.Loops.{mapped-length, Counting, counting-none, counted}
 use Rattle.intents.specs.Intents.{noIntent, isIntent}
+use Rattle.intents.proofs.Counted.{found-some}
 use Rattle.intents.proofs.EndOfGrace.{one-most, counting-by}
 use Rattle.intents.proofs.held.Statement.{statement}
 use Rattle.intents.proofs.held.Tie as tie
-
-bumped : (o : Found) → isFound (bump o) ≡ isFound o
-bumped (At i) = refl
-bumped Nothing = refl
-
-found-item : {A : Type 0} (b : Bool) (x : A) (u : List A) (o : Found) → not (eqb (length u) 0) ≡ isFound o → not (eqb (length (cond b (x ∷ u) u)) 0) ≡ isFound (cond b (At 0) (bump o))
-found-item true x u o e = ap not (ne-eqb (suc (length u)) 0 (λ q. omega (arith, q)))
-found-item false x u o e = e ∙ sym (bumped o)
-
-found-some : {A : Type 0} (p : A → Bool) (l : List A) → not (eqb (length (chosen p l)) 0) ≡ isFound (first p l)
-unfolding chosen first
-found-some p [] = refl
-found-some p (x ∷ xs) = found-item (p x) x (chosen p xs) (first p xs) (found-some p xs)
 
 abbrev Inv-loop : tie.InvT-loop
 Inv-loop client intents n₀ i₀ n i = (n ≤ i) × (i ≤ 8) × Counting (isIntent client) intents i n

@@ -1,0 +1,75 @@
+-- The loop counts: `Counting` of the places that are near holds at its head. There is one where the count is not 0.
+use mathlib.Core.Path.{_≡_}
+use Prim.Native.Nat.{_≤_, _<_, _-_}
+use native.Mathlib.Omega.{arith}
+use lib.ListN.{length}
+use borrow.Author.Needs.{needs}
+use Rattle.places.proofs.Loops.{mapped-length, Counting, counting-none, counted}
+use Rattle.intents.specs.Intents.{noIntent, isNear}
+use Rattle.intents.proofs.Counted.{found-some}
+use Rattle.intents.proofs.EndOfGrace.{one-most, counting-by}
+use Rattle.intents.proofs.any_near.Statement.{statement}
+use Rattle.intents.proofs.any_near.Tie as tie
+
+abbrev Inv-loop : tie.InvT-loop
+Inv-loop t intents n₀ i₀ n i = (n ≤ i) × (i ≤ 8) × Counting (isNear t) intents i n
+
+abbrev μ-loop : tie.MeasureT-loop
+μ-loop t intents n₀ i₀ n i = 8 - i
+
+long : (c : tie.Start Inv-loop μ-loop) → length (c .args .t1) ≡ 8
+long c = search (mapped-length, needs)
+
+loop-holds : tie.Need-loop-holds Inv-loop μ-loop
+loop-holds c = (omega arith, omega arith, counting-none _ _)
+
+mul-x : tie.Need-mul-x Inv-loop μ-loop
+mul-x c = omega arith
+
+array-copy-out-x : tie.Need-array-copy-out-x Inv-loop μ-loop
+array-copy-out-x c = omega arith
+
+near-requires : tie.Need-near-requires Inv-loop μ-loop
+near-requires c κs = search needs
+
+one-if-requires : tie.Need-one-if-requires Inv-loop μ-loop
+one-if-requires c κs = search needs
+
+add-n : tie.Need-add-n Inv-loop μ-loop
+add-n c = omega (arith, one-most (c .before .near .result) _ (c .one-if .ensures), c .before .before .before .before .loop .inv)
+
+add-i : tie.Need-add-i Inv-loop μ-loop
+add-i c = omega arith
+
+loop-less : tie.Need-loop-less Inv-loop μ-loop
+loop-less c = omega arith
+
+loop-again : tie.Need-loop-again Inv-loop μ-loop
+loop-again c = let l = c .before .before .before .before .loop .inv in
+    let h : c .before .before .before .before .loop .i < length (c .before .before .before .before .before .args .t1) = omega (arith, long (c .before .before .before .before .before)) in
+    let near = c .before .near in
+    let one = c .one-if .ensures in (
+      omega (arith, one-most (near .result) _ one, l .0),
+      omega arith,
+      counting-by (l .2) noIntent h (near .result) (near .ensures) _ one,
+    )
+
+returns : tie.Need-returns Inv-loop μ-loop
+returns c = rw (counted (c .before .loop .inv .2) (omega (arith, long (c .before .before)))) (found-some _ _)
+
+pub any-near-spec : {M : Type 1} → statement M
+any-near-spec =
+    tie.close
+    (tie.spec
+    Inv-loop
+    μ-loop
+    loop-holds
+    mul-x
+    array-copy-out-x
+    near-requires
+    one-if-requires
+    add-n
+    add-i
+    loop-less
+    loop-again
+    returns)
