@@ -108,6 +108,9 @@ openedFile n h c f = cond (h .grace) (fileAnswered 10013 h f) (ofFile n h f (ope
 abbrev pub withBegun : ℕ → Opening → File → File
 withBegun at s f = withIntents (set (f .intents) at (intentOf (s .client))) f
 
+abbrev pub unplaced : Status → Head → Client → Opening
+unplaced k h c = record { status = k; head = h; at = 8; client = c }
+
 abbrev pub openedBy : Opening → File → FileAnswered
 openedBy s f = fileAnswered (s .status) (s .head) (cond (eqb (s .status) 0) (withBegun (s .at) s f) f)
 

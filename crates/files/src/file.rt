@@ -13,7 +13,7 @@ use wire::stateid::Stateid;
 ghost use mathlib.Core.Path.{_≡_};
 ghost use mathlib.Core.Bool.{true, cond};
 ghost use Rattle.intents.specs.Intents.{intentOf};
-ghost use Rattle.files.specs.File.{noFile, blankFile, fileOf, isFile, isVacant, fileAnswered, openedBy, openedFile, reclaimedFile, closedBy, closedFile, repairedFile, forgettable, proxyAddedFile, proxyRemovedFile, statedFile, usesStateid, raisedFile, restartedFile, endedFile, isListed, isReady, sourceOf, changedFile, standingOf, countedHead, headAfter};
+ghost use Rattle.files.specs.File.{noFile, blankFile, fileOf, isFile, isVacant, fileAnswered, unplaced, openedBy, openedFile, reclaimedFile, closedBy, closedFile, repairedFile, forgettable, proxyAddedFile, proxyRemovedFile, statedFile, usesStateid, raisedFile, restartedFile, endedFile, isListed, isReady, sourceOf, changedFile, standingOf, countedHead, headAfter};
 
 // The wide fields stand first. A place of the record is a file's if `used`.
 #[repr(C)]
@@ -43,6 +43,18 @@ pub struct Opening {
 }
 
 impl Opening {
+    // What is decided where no intent begins.
+    fn unplaced(status: u32, head: Head, client: u64) -> Opening
+        ensures { λ r. ⌜ r ≡ unplaced status head client ⌝ }
+    {
+        Opening {
+            status,
+            head,
+            at: 8,
+            client,
+        }
+    }
+
     // The new intent.
     pub fn intent(self) -> Intent
         ensures { λ r. ⌜ r ≡ intentOf (self .client) ⌝ }
@@ -122,37 +134,17 @@ impl File {
         ensures { λ r. ⌜ openedBy r self ≡ openedFile number head client self ⌝ }
     {
         if head.grace {
-            return Opening {
-                status: statuses::GRACE,
-                head,
-                at: 8,
-                client,
-            };
+            return Opening::unplaced(statuses::GRACE, head, client);
         }
         if !self.is(number) {
-            return Opening {
-                status: statuses::STALE,
-                head,
-                at: 8,
-                client,
-            };
+            return Opening::unplaced(statuses::STALE, head, client);
         }
         let old = self.intents;
         if let Found::At(_) = intents::holding(old, client) {
-            return Opening {
-                status: 0,
-                head,
-                at: 8,
-                client,
-            };
+            return Opening::unplaced(0, head, client);
         }
         let Found::At(at) = intents::room(old) else {
-            return Opening {
-                status: statuses::NOSPC,
-                head,
-                at: 8,
-                client,
-            };
+            return Opening::unplaced(statuses::NOSPC, head, client);
         };
         let was = self.standing();
         let is = Standing::of(was.listed, true);
@@ -516,10 +508,10 @@ impl File {
 }
 
 // The mark of a file that is marked now, as one that has lost an intent is, or the mark that it had.
-fn marked_if(now: bool, marked: bool) -> bool
-    ensures { λ r. ⌜ r ≡ cond now true marked ⌝ }
+fn marked_if(anew: bool, marked: bool) -> bool
+    ensures { λ r. ⌜ r ≡ cond anew true marked ⌝ }
 {
-    now || marked
+    anew || marked
 }
 
 // Whether a report marks a file.
