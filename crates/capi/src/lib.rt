@@ -703,7 +703,7 @@ pub extern "C" fn sc_record_restart(r: &mut Record) -> u32
     s.status
 }
 
-// A return that is accepted, on its file's place: what the report says, and then the client's stateid, in each of the file's intents, where it is raised.
+// Each of a file's intents, of which the client's have the raised stateid then; the file's place is not asked for.
 fn raise_each(f: &mut File, at: usize, s: Outcome)
     ensures { λ _. ⌜ now (f .exit) ≡ raisedEach (now (f .entry)) at s ⌝ }
 {
@@ -714,6 +714,7 @@ fn raise_each(f: &mut File, at: usize, s: Outcome)
     }
 }
 
+// A return that is accepted, on its file's place: what the report says, and then the client's stateid, where it is raised.
 fn change(r: &mut Record, at: usize, s: Outcome)
     ensures { λ _. ⌜ now (r .exit) ≡ changedFiles (now (r .entry)) at s ⌝ }
 {
