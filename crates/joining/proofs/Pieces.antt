@@ -11,6 +11,7 @@ use lib.Dec.{eqb}
 use lib.ListN.{length, take, drop, getD, set, length-drop}
 use lib.Seq.{take-add, drop-drop, getD-drop, length-take-le}
 use Rattle.xdr.specs.Reader.{sameBytes}
+use Rattle.xdr.proofs.Be.{take-below}
 use Rattle.xdr.proofs.Bytes.{same-are}
 use Rattle.extents.proofs.Sentences.{by-cases}
 use Rattle.merging.proofs.Runs.{are-same}
@@ -51,12 +52,6 @@ equal-numbers (a ∷ s) (b ∷ t) l bs bt q =
     let e : a ≡ b = omega (arith, bs 0, bt 0) in
     let r : leNumber s ≡ leNumber t = omega (arith, bs 0, bt 0) in
     rw (e, equal-numbers s t (omega arith) (λ k. bs (suc k)) (λ k. bt (suc k)) r)
-
-take-below : (n : ℕ) (s : List ℕ) → ((k : ℕ) → getD s k 0 < 256) → (k : ℕ) → getD (take n s) k 0 < 256
-take-below zero s b k = omega arith
-take-below (suc n) [] b k = omega arith
-take-below (suc n) (a ∷ s) b zero = b 0
-take-below (suc n) (a ∷ s) b (suc k) = take-below n s (λ j. b (suc j)) k
 
 -- ---- the device of two rows, as two numbers each
 apart : (a b c d : List ℕ) → length a ≡ length b → a ++ c ≡ b ++ d → (a ≡ b) × (c ≡ d)

@@ -1,17 +1,20 @@
--- Each stateid is of exactly one kind: `one-kind`. In this order: a stateid of a seqid and an `other`; a kind by its tests; the claim; what the code's tests say.
-use Prim.Native.Nat.{ℕ, _-_, _^_, _<_}
+-- Each stateid is of exactly one kind: `one-kind`. In this order: a stateid of a seqid and an `other`; a kind by its tests; the claim; the kind by the numbers: `by-numbers`.
+use Prim.Native.Nat.{ℕ, _+_, _-_, _^_, _<_, _≤_}
 use mathlib.Core.Path.{_≡_, refl, sym, ap, _∙_}
 use mathlib.Core.Logic.{_⊎_, inl, inr, _↔_}
 use mathlib.Core.Bool.{Bool, true, false, cond}
-use mathlib.Core.List.{List, [], _∷_, _++_}
+use mathlib.Core.List.{List, [], _∷_, _++_, append-nil}
 use native.Mathlib.Omega.{arith}
-use lib.ListN.{length, take, drop, length-drop, take-append-drop}
-use lib.Seq.{drop-at, take-all}
-use Rattle.xdr.specs.Be.{beBytes}
+use borrow.Author.Tests.{le-ltb, eqb-true, eqb-false}
+use lib.Dec.{eqb}
+use lib.ListN.{length, getD, take, drop, length-drop, take-append-drop}
+use lib.Seq.{drop-at, drop-drop, getD-drop, take-all, length-take-le}
+use Rattle.xdr.specs.Be.{beNat, beBytes}
 use Rattle.xdr.specs.Reader.{sameBytes, zeros}
-use Rattle.xdr.proofs.Be.{read-back, written-back, length-bytes}
+use Rattle.xdr.proofs.Be.{read-back, written-back, written-at, length-bytes, number-within, take-below}
 use Rattle.xdr.proofs.Bytes.{same-are, are-same, not-same, differ}
-use Rattle.wire.specs.Stateid.{seqid, other, ones, current, stateidKind, Is, Stateid, OneKind}
+use Rattle.wire.specs.Stateid.{seqid, other, ones, current, stateidKind, stateidOf, stateidIn, Is, Stateid, OneKind}
+use Rattle.wire.specs.RequestSteps.{kindOfNumbers}
 use Rattle.wire.specs.declared.request.Kind.{Kind}
 use Rattle.wire.specs.declared.request.Kind.the-variants.{Anonymous, Bypass, Current, Invalid, Ordinary}
 
@@ -95,36 +98,59 @@ module _ (s : List ℕ) (h : Stateid s) where
 pub one-kind : OneKind
 one-kind s h k = (as-named s h k, λ e. rw e at (named s h))
 
--- ---- what the code's tests say: a to o are what it finds, one after the other
-module _ (s : List ℕ) (h : length s ≡ 16) where
-  all-other : take 12 (other s) ≡ other s
-  all-other = take-all 12 (other s) (rw length-drop (omega arith))
+-- ---- the kind by the numbers
 
-  module _ {a : Bool} (p : a ≡ sameBytes s (zeros 16)) where
-    pub is-anonymous : a ≡ true → Anonymous ≡ stateidKind s
-    unfolding stateidKind
-    is-anonymous x = rw (sym p ∙ x)
+-- an `other` has the numbers m and n exactly where its bytes are theirs
+module _ (s : List ℕ) (h : Stateid s) where
+  of-numbers : other s ≡ beBytes 8 (beNat 8 (drop 4 s)) ++ beBytes 4 (beNat 4 (drop 12 s))
+  of-numbers =
+      let last : drop 8 (drop 4 s) ≡ take 4 (drop 12 s) = drop-drop 8 4 s ∙ sym (take-all 4 (drop 12 s) (rw length-drop (omega (arith, h .size)))) in
+      sym (take-append-drop 8 (drop 4 s)) ∙ rw (last, written-at 8 4 s (omega (arith, h .size)) (h .small), written-at 4 12 s (omega (arith, h .size)) (h .small))
 
-    module _ (na : a ≡ false) {b : Bool} (q : b ≡ sameBytes s (ones 16)) where
-      pub is-bypass : b ≡ true → Bypass ≡ stateidKind s
-      unfolding stateidKind
-      is-bypass x = rw (sym p ∙ na, sym q ∙ x)
+  module _ (m n : ℕ) (hm : m < 256 ^ 8) (hn : n < 256 ^ 4) (r : List ℕ) (q : beBytes 8 m ++ beBytes 4 n ≡ r) where
+    numbers-of : other s ≡ r → (beNat 8 (drop 4 s) ≡ m) × (beNat 4 (drop 12 s) ≡ n)
+    numbers-of e =
+        let high : beNat 8 (drop 4 s) ≡ m = ap (beNat 8) (e ∙ sym q) ∙ read-back 8 m (beBytes 4 n) hm in
+        let rest : drop 12 s ≡ beBytes 4 n ++ [] = sym (drop-drop 8 4 s) ∙ ap (drop 8) (e ∙ sym q) ∙ drop-at (beBytes 8 m) (beBytes 4 n) 8 (length-bytes 8 m) ∙ sym (append-nil (beBytes 4 n)) in
+        (high, ap (beNat 4) rest ∙ read-back 4 n [] hn)
 
-      module _ (nb : b ≡ false) {c : Bool} (r : c ≡ sameBytes s current) where
-        pub is-current : c ≡ true → Current ≡ stateidKind s
-        unfolding stateidKind
-        is-current x = rw (sym p ∙ na, sym q ∙ nb, sym r ∙ x)
+    other-is : cond (eqb (beNat 8 (drop 4 s)) m) (eqb (beNat 4 (drop 12 s)) n) false ≡ sameBytes (other s) r
+    other-is = by (eqb (beNat 8 (drop 4 s)) m) (eqb (beNat 4 (drop 12 s)) n) refl refl
+      where
+        by : (a b : Bool) → eqb (beNat 8 (drop 4 s)) m ≡ a → eqb (beNat 4 (drop 12 s)) n ≡ b → cond a b false ≡ sameBytes (other s) r
+        by true true x y = sym (are-same (other s) r (of-numbers ∙ rw (eqb-true (beNat 8 (drop 4 s)) m x, eqb-true (beNat 4 (drop 12 s)) n y) q))
+        by true false x y = sym (differ (other s) r (λ e. eqb-false _ _ y (numbers-of e .1)))
+        by false b x y = sym (differ (other s) r (λ e. eqb-false _ _ x (numbers-of e .0)))
 
-        module _ (nc : c ≡ false) {z : Bool} (t : z ≡ sameBytes (take 12 (other s)) (zeros 12)) where
-          pub is-of-zeros : z ≡ true → Invalid ≡ stateidKind s
-          unfolding stateidKind
-          is-of-zeros x = rw (sym p ∙ na, sym q ∙ nb, sym r ∙ nc, sym (rw all-other at t) ∙ x)
+  of-zeros : cond (eqb (beNat 8 (drop 4 s)) 0) (eqb (beNat 4 (drop 12 s)) 0) false ≡ sameBytes (other s) (zeros 12)
+  unfolding beBytes
+  of-zeros = other-is 0 0 (omega arith) (omega arith) (zeros 12) refl
 
-          module _ (nz : z ≡ false) {o : Bool} (u : o ≡ sameBytes (take 12 (other s)) (ones 12)) where
-            pub is-of-ones : o ≡ true → Invalid ≡ stateidKind s
-            unfolding stateidKind
-            is-of-ones x = rw (sym p ∙ na, sym q ∙ nb, sym r ∙ nc, sym (rw all-other at t) ∙ nz, sym (rw all-other at u) ∙ x)
+  of-ones : cond (eqb (beNat 8 (drop 4 s)) (2 ^ 64 - 1)) (eqb (beNat 4 (drop 12 s)) (2 ^ 32 - 1)) false ≡ sameBytes (other s) (ones 12)
+  unfolding beBytes
+  of-ones = other-is (2 ^ 64 - 1) (2 ^ 32 - 1) (omega arith) (omega arith) (ones 12) refl
 
-            pub is-ordinary : o ≡ false → Ordinary ≡ stateidKind s
-            unfolding stateidKind
-            is-ordinary x = rw (sym p ∙ na, sym q ∙ nb, sym r ∙ nc, sym (rw all-other at t) ∙ nz, sym (rw all-other at u) ∙ x)
+  -- the kind that the numbers name is as the RFC says
+  as-numbered : Is (kindOfNumbers (stateidOf s)) s
+  unfolding kindOfNumbers stateidOf
+  as-numbered = rw (of-zeros, of-ones) (by (sameBytes (other s) (zeros 12)) (sameBytes (other s) (ones 12)) (eqb (seqid s) 0) (eqb (seqid s) 1) (eqb (seqid s) (2 ^ 32 - 1)) refl refl refl refl refl)
+    where
+      by : (z o a c b : Bool) → sameBytes (other s) (zeros 12) ≡ z → sameBytes (other s) (ones 12) ≡ o → eqb (seqid s) 0 ≡ a → eqb (seqid s) 1 ≡ c → eqb (seqid s) (2 ^ 32 - 1) ≡ b
+          → Is (cond z (cond a Anonymous (cond c Current Invalid)) (cond o (cond b Bypass Invalid) Ordinary)) s
+      by true o true c b p q t u v = (eqb-true _ _ t, same-are _ _ p)
+      by true o false true b p q t u v = (eqb-true _ _ u, same-are _ _ p)
+      by true o false false b p q t u v = inl (same-are _ _ p, eqb-false _ _ t, eqb-false _ _ u)
+      by false true a c true p q t u v = (eqb-true _ _ v, same-are _ _ q)
+      by false true a c false p q t u v = inr (same-are _ _ q, eqb-false _ _ v)
+      by false false a c b p q t u v = (not-same _ _ p, not-same _ _ q)
+
+-- the numbers of a request's stateid name its kind
+pub by-numbers : (s : List ℕ) → 48 ≤ length s → ((k : ℕ) → getD s k 0 < 256) → kindOfNumbers (stateidIn s) ≡ stateidKind (take 16 (drop 32 s))
+unfolding stateidIn stateidOf
+by-numbers s h b =
+    let t : List ℕ = take 16 (drop 32 s) in
+    let whole : Stateid t = record { size = length-take-le 16 (drop 32 s) (rw length-drop (omega arith)); small = take-below 16 (drop 32 s) (λ k. rw getD-drop (b (32 + k))) } in
+    let same : stateidIn s ≡ stateidOf t =
+    rw (le-ltb (length s) 48 h, number-within 8 4 16 (drop 32 s) (omega arith), number-within 4 12 16 (drop 32 s) (omega arith), number-within 4 0 16 (drop 32 s) (omega arith))
+    in
+    ap kindOfNumbers same ∙ sym (as-named t whole _ (as-numbered t whole))

@@ -1,14 +1,16 @@
 // The arguments of a LAYOUTRETURN: LAYOUTRETURN4args of RFC 8881 (paper 01, "LAYOUTRETURN", steps 1 to 3).
-// In order: the kinds of stateid; what a request asks for; step 1; step 2; the test of the stateid; `read`, the answer of the three steps; the same for C.
+// In order: the kinds of stateid; what a request asks for; step 1; step 2; the kind of a stateid; a file's return; `read`, the answer of the three
+// steps; the same for C.
+use crate::stateid::Stateid;
+use crate::stateid::in_request;
 use xdr::fields::pad;
 use xdr::fields::same;
-use xdr::fields::same_words;
 ghost use mathlib.Core.Path.{_≡_};
 ghost use Prim.Native.Nat.{_≤_};
 ghost use lib.ListN.{length};
 ghost use Rattle.wire.specs.Request.{refusalOf, unless, requestOf, numberOf, kindOf, bodyAt, bodyLength};
-ghost use Rattle.wire.specs.RequestSteps.{fileForm, formOf, judgedIn};
-ghost use Rattle.wire.specs.Stateid.{stateidKind, kindNumber};
+ghost use Rattle.wire.specs.RequestSteps.{fileForm, formOf, kindIn, kindOfNumbers, judgedIn};
+ghost use Rattle.wire.specs.Stateid.{kindNumber};
 
 // The kinds of stateid (RFC 8881, 8.2.3; Ticket 6): a seqid of 4 bytes and an `other` of 12.
 pub enum Kind {
@@ -113,42 +115,39 @@ fn judged(s: &[u8], asked: Request) -> Request
     Request::Refused(number)
 }
 
-// Which kind a stateid is: its bytes, or those of its `other`, compared with the fixed strings.
-fn kind_of(stateid: &[u8]) -> Kind
-    requires { ⌜ length (now stateid) ≡ 16 ⌝ }
-    ensures { λ r. ⌜ r ≡ stateidKind (now (stateid .entry)) ⌝ }
+// Which kind a stateid is, by its numbers.
+fn kind_of(t: Stateid) -> Kind
+    ensures { λ r. ⌜ r ≡ kindOfNumbers t ⌝ }
 {
-    if same_words(
-        stateid,
-        b"\x00\x00\x00\x00\x00\x00\x00\x00\x00\x00\x00\x00\x00\x00\x00\x00",
-    ) {
-        return Kind::Anonymous;
-    }
-    if same_words(
-        stateid,
-        b"\xff\xff\xff\xff\xff\xff\xff\xff\xff\xff\xff\xff\xff\xff\xff\xff",
-    ) {
-        return Kind::Bypass;
-    }
-    if same_words(
-        stateid,
-        b"\x00\x00\x00\x01\x00\x00\x00\x00\x00\x00\x00\x00\x00\x00\x00\x00",
-    ) {
-        return Kind::Current;
-    }
-    if same_words(
-        &stateid[4..16],
-        b"\x00\x00\x00\x00\x00\x00\x00\x00\x00\x00\x00\x00",
-    ) {
+    if t.high == 0 && t.low == 0 {
+        if t.seqid == 0 {
+            return Kind::Anonymous;
+        }
+        if t.seqid == 1 {
+            return Kind::Current;
+        }
         return Kind::Invalid;
     }
-    if same_words(
-        &stateid[4..16],
-        b"\xff\xff\xff\xff\xff\xff\xff\xff\xff\xff\xff\xff",
-    ) {
+    if t.high == 18446744073709551615 && t.low == 4294967295 {
+        if t.seqid == 4294967295 {
+            return Kind::Bypass;
+        }
         return Kind::Invalid;
     }
     Kind::Ordinary
+}
+
+// A file's return, unless step 2 refuses; the kind of its stateid is asked last.
+fn file_judged(s: &[u8], len: usize) -> Request
+    requires { ⌜ 48 ≤ length (now s) ⌝ }
+    ensures { λ r. ⌜ r ≡ judgedIn (now (s .entry)) (Request.File (kindIn (now (s .entry))) len) ⌝ }
+{
+    let number = refusal(xdr::be32(s, 4), xdr::be32(s, 8));
+    if number != 0 {
+        return Request::Refused(number);
+    }
+    let kind = kind_of(in_request(s));
+    Request::File { kind, len }
 }
 
 // Steps 1 to 3.
@@ -158,10 +157,7 @@ pub fn read(s: &[u8]) -> Request
     match laid_out(s) {
         Form::Malformed => Request::Refused(statuses::BADXDR),
         Form::Bulk => judged(s, Request::Bulk),
-        Form::File(len) => {
-            let kind = kind_of(&s[32..48]);
-            judged(s, Request::File { kind, len })
-        }
+        Form::File(len) => file_judged(s, len),
     }
 }
 

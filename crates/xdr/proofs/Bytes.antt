@@ -1,18 +1,16 @@
--- Equal bytes, as the code compares them: byte by byte to the end, or four at a time.
+-- Equal bytes, as the code compares them: byte by byte to the end.
 use Prim.Native.Nat.{ℕ, zero, suc, _+_, _-_, _≤_, _<_}
 use mathlib.Core.Path.{_≡_, refl, sym, ap, _∙_}
-use mathlib.Core.List.{List, [], _∷_, _++_}
+use mathlib.Core.List.{List, [], _∷_}
 use mathlib.Core.Bool.{Bool, true, false, cond, _&&_}
 use native.Mathlib.Omega.{arith}
 use native.Mathlib.Numerals.{add-one}
 use native.Mathlib.Nat.{suc-add}
-use borrow.Author.Tests.{eqb-true, eqb-false, eq-eqb}
-use lib.ListN.{length, take, drop, getD, length-drop, take-append-drop}
-use lib.Seq.{drop-cons, drop-drop, drop-length, getD-drop, length-take-le}
+use borrow.Author.Tests.{eqb-true, eq-eqb}
+use lib.ListN.{length, take, drop, getD}
+use lib.Seq.{drop-cons, drop-length}
 use lib.Dec.{eqb}
-use Rattle.xdr.specs.Be.{beNat}
 use Rattle.xdr.specs.Reader.{sameBytes, zeros}
-use Rattle.xdr.proofs.Be.{equal-numbers, number-within}
 
 pub false-true : false ≡ true → ⊥
 false-true e =
@@ -77,39 +75,6 @@ module _ (a b : List ℕ) (i : ℕ) (ha : i < length a) (hb : i < length b) wher
 
   pub byte-passed : {t : Bool} (so z : Bool) → z ≡ cond so (eqb (getD a i 0) (getD b i 0)) false → cond so (sameBytes (drop i a) (drop i b)) false ≡ t → cond z (sameBytes (drop (i + 1) a) (drop (i + 1) b)) false ≡ t
   byte-passed so z = passed (sameBytes (drop i a) (drop i b)) (sameBytes (drop (i + 1) a) (drop (i + 1) b)) so (eqb (getD a i 0) (getD b i 0)) z one-more
-
--- ---- four bytes at a time
-same-append : (a b c d : List ℕ) → length a ≡ length c → sameBytes (a ++ b) (c ++ d) ≡ sameBytes a c && sameBytes b d
-unfolding sameBytes
-same-append [] b [] d h = refl
-same-append [] b (y ∷ c) d h = absurd (omega arith)
-same-append (x ∷ a) b [] d h = absurd (omega arith)
-same-append (x ∷ a) b (y ∷ c) d h = rw (same-append a b c d (omega arith)) (by (eqb x y))
-  where
-    by : (e : Bool) → e && (sameBytes a c && sameBytes b d) ≡ (e && sameBytes a c) && sameBytes b d
-    by true = refl
-    by false = refl
-
-module _ (a b : List ℕ) (ha : 4 ≤ length a) (hb : 4 ≤ length b) (sa : (k : ℕ) → getD a k 0 < 256) (sb : (k : ℕ) → getD b k 0 < 256) where
-  word-same : sameBytes (take 4 a) (take 4 b) ≡ eqb (beNat 4 a) (beNat 4 b)
-  word-same = by (eqb (beNat 4 a) (beNat 4 b)) refl
-    where
-      by : (e : Bool) → eqb (beNat 4 a) (beNat 4 b) ≡ e → sameBytes (take 4 a) (take 4 b) ≡ e
-      by true e = are-same (take 4 a) (take 4 b) (equal-numbers 4 a b ha hb sa sb (eqb-true (beNat 4 a) (beNat 4 b) e))
-      by false e = differ (take 4 a) (take 4 b) (λ q. eqb-false (beNat 4 a) (beNat 4 b) e (sym (number-within 4 0 4 a (omega arith)) ∙ ap (beNat 4) q ∙ number-within 4 0 4 b (omega arith)))
-
-  word-more : sameBytes a b ≡ eqb (beNat 4 a) (beNat 4 b) && sameBytes (drop 4 a) (drop 4 b)
-  word-more =
-      let l : length (take 4 a) ≡ length (take 4 b) = length-take-le 4 a ha ∙ sym (length-take-le 4 b hb) in
-      let e : sameBytes a b ≡ sameBytes (take 4 a ++ drop 4 a) (take 4 b ++ drop 4 b) = rw (take-append-drop 4 a, take-append-drop 4 b) in
-      e ∙ same-append (take 4 a) (drop 4 a) (take 4 b) (drop 4 b) l ∙ ap (λ (x : Bool). x && sameBytes (drop 4 a) (drop 4 b)) word-same
-
-module _ (a b : List ℕ) (i : ℕ) (ha : i + 4 ≤ length a) (hb : i + 4 ≤ length b) (sa : (k : ℕ) → getD a k 0 < 256) (sb : (k : ℕ) → getD b k 0 < 256) where
-  pub word-passed : {t : Bool} {m n : ℕ} → m ≡ beNat 4 (drop i a) → n ≡ beNat 4 (drop i b) → (so z : Bool) → z ≡ cond so (eqb m n) false
-      → cond so (sameBytes (drop i a) (drop i b)) false ≡ t → cond z (sameBytes (drop (i + 4) a) (drop (i + 4) b)) false ≡ t
-  word-passed {m = m} {n = n} p q so z =
-      passed (sameBytes (drop i a) (drop i b)) (sameBytes (drop (i + 4) a) (drop (i + 4) b)) so (eqb m n) z
-      (rw (p, q, ← drop-drop 4 i a, ← drop-drop 4 i b) (word-more (drop i a) (drop i b) (rw length-drop (omega arith)) (rw length-drop (omega arith)) (λ k. rw getD-drop (sa (i + k))) (λ k. rw getD-drop (sb (i + k)))))
 
 pub all-passed : (a b : List ℕ) (i : ℕ) → i ≡ length a → i ≡ length b → {t : Bool} (so : Bool) → cond so (sameBytes (drop i a) (drop i b)) false ≡ t → so ≡ t
 unfolding sameBytes

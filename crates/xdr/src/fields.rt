@@ -2,7 +2,7 @@
 use crate::be32;
 ghost use mathlib.Core.Path.{_≡_};
 ghost use mathlib.Core.Bool.{false, cond};
-ghost use Prim.Native.Nat.{_-_, _%_};
+ghost use Prim.Native.Nat.{_-_};
 ghost use lib.ListN.{length, drop};
 ghost use Rattle.xdr.specs.Reader.{sameBytes, padding, bounded};
 ghost use Rattle.xdr.specs.Past.{pastOf};
@@ -39,20 +39,6 @@ pub fn same(a: &[u8], b: &[u8]) -> bool
     while i < a.len() {
         so = both(so, a[i] == b[i]);
         i += 1;
-    }
-    so
-}
-
-// The same for parts of as many whole words of four bytes: fewer steps, and short comparisons with fixed strings compile to a few words.
-pub fn same_words(a: &[u8], b: &[u8]) -> bool
-    requires { ⌜ (length (now a) ≡ length (now b)) × (length (now a) % 4 ≡ 0) ⌝ }
-    ensures { λ r. ⌜ r ≡ sameBytes (now (a .entry)) (now (b .entry)) ⌝ }
-{
-    let mut so = true;
-    let mut i = 0;
-    while i < a.len() {
-        so = both(so, be32(a, i) == be32(b, i));
-        i += 4;
     }
     so
 }

@@ -1,118 +1,59 @@
--- Rests on what the code's tests say of a kind; e1 to e4 are the places after the tests that failed.
-use Rattle.wire.proofs.Stateids.{is-anonymous, is-bypass, is-current, is-of-zeros, is-of-ones, is-ordinary}
-use native.Mathlib.Omega.{arith}
-use borrow.Author.Needs.{needs}
+-- Each return rewrites with the tests that led there; `not-zeros` and `not-ones` are the places after the two tests of the `other`.
+use Prim.Native.Nat.{ℕ, _-_, _^_}
+use mathlib.Core.Path.{_≡_, refl}
+use mathlib.Core.Logic.{⊎-elim}
+use mathlib.Core.Bool.{Bool, true, false, cond}
+use borrow.Author.Tests.{eq-eqb, ne-eqb}
+use lib.Dec.{eqb}
+use Rattle.wire.specs.RequestSteps.{kindOfNumbers}
 use Rattle.wire.proofs.request.kind_of.Statement.{statement}
 use Rattle.wire.proofs.request.kind_of.Tie as tie
 
-slice-aggregate-same-words : tie.Need-slice-aggregate-same-words
-slice-aggregate-same-words c = search needs
+second-fails : (a : Bool) {b : Bool} → b ≡ false → cond a b false ≡ false
+second-fails true e = e
+second-fails false e = refl
 
-same-words-requires : tie.Need-same-words-requires
-same-words-requires c κs = search needs
+not-zeros : (c : tie.Joined1) → cond (eqb (c .before .before .args .t .high) 0) (eqb (c .before .before .args .t .low) 0) false ≡ false
+not-zeros c = ⊎-elim (λ w. second-fails (eqb (c .before .before .args .t .high) 0) (w .2 .left)) (λ w. rw (ne-eqb _ _ (w .left))) (c .if1 .came)
+
+not-ones : (c : tie.Joined5) → cond (eqb (c .before .before .before .before .args .t .high) (2 ^ 64 - 1)) (eqb (c .before .before .before .before .args .t .low) (2 ^ 32 - 1)) false ≡ false
+not-ones c = ⊎-elim (λ w. second-fails (eqb (c .before .before .before .before .args .t .high) (2 ^ 64 - 1)) (w .2 .left)) (λ w. rw (ne-eqb _ _ (w .left))) (c .if5 .came)
 
 returns : tie.Need-returns
-returns c = is-anonymous (c .before .before .before .before .args .stateid .now) (omega arith) (c .before .same-words .ensures) (c .if1 .taken)
-
-slice-aggregate-same-words-2 : tie.Need-slice-aggregate-same-words-2
-slice-aggregate-same-words-2 c = search needs
-
-same-words-requires-2 : tie.Need-same-words-requires-2
-same-words-requires-2 c κs = search needs
+unfolding kindOfNumbers
+returns c =
+    let e2 = c .before .before in
+    rw (eq-eqb _ _ (e2 .before .before .if1 .taken), e2 .if2 .taken, eq-eqb _ _ (c .if3 .taken))
 
 returns-2 : tie.Need-returns-2
+unfolding kindOfNumbers
 returns-2 c =
-    let e1 = c .before .before .before in
-    is-bypass (e1 .before .before .before .before .args .stateid .now) (omega arith) (e1 .before .same-words .ensures) (e1 .if1 .left) (c .before .same-words2 .ensures) (c .if2 .taken)
-
-slice-aggregate-same-words-3 : tie.Need-slice-aggregate-same-words-3
-slice-aggregate-same-words-3 c = search needs
-
-same-words-requires-3 : tie.Need-same-words-requires-3
-same-words-requires-3 c κs = search needs
+    let e3 = c .before .before in
+    let e2 = e3 .before .before in
+    rw (eq-eqb _ _ (e2 .before .before .if1 .taken), e2 .if2 .taken, ne-eqb _ _ (e3 .if3 .left), eq-eqb _ _ (c .if4 .taken))
 
 returns-3 : tie.Need-returns-3
+unfolding kindOfNumbers
 returns-3 c =
-    let e2 = c .before .before .before in
-    let e1 = e2 .before .before .before in
-    is-current (e1 .before .before .before .before .args .stateid .now) (omega arith) (e1 .before .same-words .ensures) (e1 .if1 .left) (e2 .before .same-words2 .ensures) (e2 .if2 .left) (c .before .same-words3 .ensures) (c .if3 .taken)
-
-sub-same-words : tie.Need-sub-same-words
-sub-same-words c = search needs
-
-part-same-words-start : tie.Need-part-same-words-start
-part-same-words-start c = search needs
-
-part-same-words-end : tie.Need-part-same-words-end
-part-same-words-end c = search needs
-
-slice-aggregate-same-words-4 : tie.Need-slice-aggregate-same-words-4
-slice-aggregate-same-words-4 c = search needs
-
-same-words-requires-4 : tie.Need-same-words-requires-4
-same-words-requires-4 c κs = search needs
+    let e3 = c .before .before in
+    let e2 = e3 .before .before in
+    rw (eq-eqb _ _ (e2 .before .before .if1 .taken), e2 .if2 .taken, ne-eqb _ _ (e3 .if3 .left), ne-eqb _ _ (c .if4 .left))
 
 returns-4 : tie.Need-returns-4
+unfolding kindOfNumbers
 returns-4 c =
-    let e3 = c .before .before .before .before in
-    let e2 = e3 .before .before .before in
-    let e1 = e2 .before .before .before in
-    is-of-zeros (e1 .before .before .before .before .args .stateid .now) (omega arith) (e1 .before .same-words .ensures) (e1 .if1 .left) (e2 .before .same-words2 .ensures) (e2 .if2 .left) (e3 .before .same-words3 .ensures) (e3 .if3 .left) (c .before .same-words4 .ensures) (c .if4 .taken)
-
-sub-same-words-2 : tie.Need-sub-same-words-2
-sub-same-words-2 c = search needs
-
-part-same-words-start-2 : tie.Need-part-same-words-start-2
-part-same-words-start-2 c = search needs
-
-part-same-words-end-2 : tie.Need-part-same-words-end-2
-part-same-words-end-2 c = search needs
-
-slice-aggregate-same-words-5 : tie.Need-slice-aggregate-same-words-5
-slice-aggregate-same-words-5 c = search needs
-
-same-words-requires-5 : tie.Need-same-words-requires-5
-same-words-requires-5 c κs = search needs
+    let e6 = c .before .before in
+    rw (not-zeros (e6 .before .before .before .before), eq-eqb _ _ (e6 .before .before .if5 .taken), e6 .if6 .taken, eq-eqb _ _ (c .if7 .taken))
 
 returns-5 : tie.Need-returns-5
+unfolding kindOfNumbers
 returns-5 c =
-    let e4 = c .before .before .before .before in
-    let e3 = e4 .before .before .before .before in
-    let e2 = e3 .before .before .before in
-    let e1 = e2 .before .before .before in
-    is-of-ones (e1 .before .before .before .before .args .stateid .now) (omega arith) (e1 .before .same-words .ensures) (e1 .if1 .left) (e2 .before .same-words2 .ensures) (e2 .if2 .left) (e3 .before .same-words3 .ensures) (e3 .if3 .left) (e4 .before .same-words4 .ensures) (e4 .if4 .left) (c .before .same-words5 .ensures) (c .if5 .taken)
+    let e6 = c .before .before in
+    rw (not-zeros (e6 .before .before .before .before), eq-eqb _ _ (e6 .before .before .if5 .taken), e6 .if6 .taken, ne-eqb _ _ (c .if7 .left))
 
 returns-6 : tie.Need-returns-6
-returns-6 c =
-    let e4 = c .before .before .before .before in
-    let e3 = e4 .before .before .before .before in
-    let e2 = e3 .before .before .before in
-    let e1 = e2 .before .before .before in
-    is-ordinary (e1 .before .before .before .before .args .stateid .now) (omega arith) (e1 .before .same-words .ensures) (e1 .if1 .left) (e2 .before .same-words2 .ensures) (e2 .if2 .left) (e3 .before .same-words3 .ensures) (e3 .if3 .left) (e4 .before .same-words4 .ensures) (e4 .if4 .left) (c .before .same-words5 .ensures) (c .if5 .left)
+unfolding kindOfNumbers
+returns-6 c = rw (not-zeros (c .before .before), not-ones c)
 
 pub kind-of-spec : {M : Type 1} → statement M
-kind-of-spec =
-    tie.close
-    (tie.spec
-    slice-aggregate-same-words
-    same-words-requires
-    returns
-    slice-aggregate-same-words-2
-    same-words-requires-2
-    returns-2
-    slice-aggregate-same-words-3
-    same-words-requires-3
-    returns-3
-    sub-same-words
-    part-same-words-start
-    part-same-words-end
-    slice-aggregate-same-words-4
-    same-words-requires-4
-    returns-4
-    sub-same-words-2
-    part-same-words-start-2
-    part-same-words-end-2
-    slice-aggregate-same-words-5
-    same-words-requires-5
-    returns-5
-    returns-6)
+kind-of-spec = tie.close (tie.spec returns returns-2 returns-3 returns-4 returns-5 returns-6)

@@ -22,22 +22,9 @@ judged-requires c κs =
 enum-known-len : tie.Need-enum-known-len
 enum-known-len c = search needs
 
-sub-kind-of : tie.Need-sub-kind-of
-sub-kind-of c = search needs
-
-part-kind-of-start : tie.Need-part-kind-of-start
-part-kind-of-start c = search needs
-
-part-kind-of-end : tie.Need-part-kind-of-end
-part-kind-of-end c =
+file-judged-requires : tie.Need-file-judged-requires
+file-judged-requires c κs =
     omega (arith, file-fits (c .before .before .before .before .before .args .s .now) (sym (c .before .before .before .laid-out .ensures) ∙ c .before .len .given .1))
-
-kind-of-requires : tie.Need-kind-of-requires
-kind-of-requires c κs = search needs
-
-judged-requires-2 : tie.Need-judged-requires-2
-judged-requires-2 c κs =
-    omega (arith, file-fits (c .before .before .before .before .before .before .before .args .s .now) (sym (c .before .before .before .before .before .laid-out .ensures) ∙ c .before .before .before .len .given .1))
 
 returns : tie.Need-returns
 returns c =
@@ -51,8 +38,8 @@ returns-2 c =
 
 returns-3 : tie.Need-returns-3
 returns-3 c =
-    let s = c .before .before .before .before .before .before .before .before .args .s .now in
-    read-file s (sym (c .before .before .before .before .before .before .laid-out .ensures) ∙ c .before .before .before .before .len .given .1) (c .before .kind-of .ensures) (c .judged2 .ensures)
+    let s = c .before .before .before .before .before .before .args .s .now in
+    read-file s (sym (c .before .before .before .before .laid-out .ensures) ∙ c .before .before .len .given .1) (c .file-judged .ensures)
 
 pub read-spec : {M : Type 1} → statement M
 read-spec =
@@ -63,11 +50,7 @@ read-spec =
     enum-told-2
     judged-requires
     enum-known-len
-    sub-kind-of
-    part-kind-of-start
-    part-kind-of-end
-    kind-of-requires
-    judged-requires-2
+    file-judged-requires
     returns
     returns-2
     returns-3)
