@@ -227,15 +227,15 @@ pub fn holding(intents: [Intent; 8], client: u64) -> Found
     Found::Nothing
 }
 
-// Whether the client has an intent; its places are counted, without a branch.
+// Whether the client has an intent; its places are counted in a byte, without a branch.
 pub fn held(intents: [Intent; 8], client: u64) -> bool
     ensures { λ r. ⌜ r ≡ isFound (first (isIntent client) intents) ⌝ }
 {
-    let mut n: usize = 0;
+    let mut n: u8 = 0;
     let mut i: usize = 0;
     while i < 8 {
         let x = intents[i];
-        n += one_if(x.is(client));
+        n += one_if_byte(x.is(client));
         i += 1;
     }
     n != 0
@@ -331,6 +331,13 @@ fn either(test: bool, x: bool, y: bool) -> bool
 
 // One for yes, none for no: a count is raised without a branch.
 fn one_if(test: bool) -> usize
+    ensures { λ r. ⌜ r ≡ cond test 1 0 ⌝ }
+{
+    if test { 1 } else { 0 }
+}
+
+// The same in a byte, for a count of which only is asked whether it is 0.
+fn one_if_byte(test: bool) -> u8
     ensures { λ r. ⌜ r ≡ cond test 1 0 ⌝ }
 {
     if test { 1 } else { 0 }
@@ -439,15 +446,15 @@ pub fn stateid_of(intents: [Intent; 8], client: u64) -> Stateid
     Stateid::none()
 }
 
-// Whether a place has the first 8 bytes of the `other` of `t`; they are counted, without a branch.
+// Whether a place has the first 8 bytes of the `other` of `t`; they are counted in a byte, without a branch.
 fn any_near(intents: [Intent; 8], t: Stateid) -> bool
     ensures { λ r. ⌜ r ≡ isFound (first (isNear t) intents) ⌝ }
 {
-    let mut n: usize = 0;
+    let mut n: u8 = 0;
     let mut i: usize = 0;
     while i < 8 {
         let x = intents[i];
-        n += one_if(x.near(t));
+        n += one_if_byte(x.near(t));
         i += 1;
     }
     n != 0

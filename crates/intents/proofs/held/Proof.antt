@@ -32,11 +32,11 @@ array-copy-out-x c = omega arith
 is-requires : tie.Need-is-requires Inv-loop μ-loop
 is-requires c κs = search needs
 
-one-if-requires : tie.Need-one-if-requires Inv-loop μ-loop
-one-if-requires c κs = search needs
+one-if-byte-requires : tie.Need-one-if-byte-requires Inv-loop μ-loop
+one-if-byte-requires c κs = search needs
 
 add-n : tie.Need-add-n Inv-loop μ-loop
-add-n c = omega (arith, one-most (c .before .is .result) _ (c .one-if .ensures), c .before .before .before .before .loop .inv)
+add-n c = omega (arith, one-most (c .before .is .result) _ (c .one-if-byte .ensures), c .before .before .before .before .loop .inv)
 
 add-i : tie.Need-add-i Inv-loop μ-loop
 add-i c = omega arith
@@ -48,7 +48,7 @@ loop-again : tie.Need-loop-again Inv-loop μ-loop
 loop-again c = let l = c .before .before .before .before .loop .inv in
     let h : c .before .before .before .before .loop .i < length (c .before .before .before .before .before .args .t1) = omega (arith, long (c .before .before .before .before .before)) in
     let is = c .before .is in
-    let one = c .one-if .ensures in (
+    let one = c .one-if-byte .ensures in (
       omega (arith, one-most (is .result) _ one, l .0),
       omega arith,
       counting-by (l .2) noIntent h (is .result) (is .ensures) _ one,
@@ -67,7 +67,7 @@ held-spec =
     mul-x
     array-copy-out-x
     is-requires
-    one-if-requires
+    one-if-byte-requires
     add-n
     add-i
     loop-less
