@@ -1,6 +1,6 @@
--- MODEL. A file's place, as a loop over the record where it lies finds it: the test of one place, and the first of the 63 places that passes, or the last
--- place. proofs/Places.antt proves it equal to `placeIn` of crate recovery. Then the first of the 64 places whose file uses a stateid's `other`, or 64.
-use mathlib.Core.Bool.{Bool, false, cond}
+-- MODEL. A file's place, as a loop over the record where it lies finds it: the test of one place, by its flag and number and by its number alone; the first of the 63 places that passes, or the last
+-- place, by either test. proofs/Places.antt proves the former equal to `placeIn` of crate recovery, and the latter to the former where it is not to be sought again. Then the first of the 64 places whose file uses a stateid's `other`, or 64.
+use mathlib.Core.Bool.{Bool, false, cond, not}
 use Prim.Native.Nat.{ℕ}
 use lib.Dec.{eqb}
 use Rattle.statuses.specs.Names.{FileNumber}
@@ -12,8 +12,18 @@ use Rattle.recovery.specs.declared.record.Record.{Record}
 abbrev pub isNumbered : Bool → FileNumber → FileNumber → Bool
 isNumbered used number file = cond used (eqb number file) false
 
+abbrev pub hasNumber : Bool → FileNumber → FileNumber → Bool
+hasNumber used number file = eqb number file
+
+-- whether a place that was found by its number alone is to be sought again
+abbrev pub isUnsure : Bool → Bool
+isUnsure used = not used
+
 unfoldable pub soughtIn : FileNumber → Record → ℕ
 soughtIn n r = seek (isFile n) noFile (r .files) 63 0
+
+unfoldable pub numberIn : FileNumber → Record → ℕ
+numberIn n r = seek (λ f. hasNumber (f .used) (f .number) n) noFile (r .files) 63 0
 
 unfoldable pub userIn : Stateid → Record → ℕ
 userIn t r = seek (usesStateid t) noFile (r .files) 64 0

@@ -36,7 +36,7 @@ ghost use lib.ListN.{length};
 ghost use Rattle.files.specs.declared.head.Edition.the-variants.{Current, Old};
 ghost use Rattle.files.specs.File.{restartedFile, endedFile, withBegun, withEnded};
 ghost use Rattle.files.specs.Head.{freshHead};
-ghost use Rattle.capi.specs.Place.{isNumbered, soughtIn, userIn};
+ghost use Rattle.capi.specs.Place.{isNumbered, hasNumber, isUnsure, soughtIn, numberIn, userIn};
 ghost use Rattle.capi.specs.OneFile.{begunAt, lastMoved, endedAt};
 ghost use Rattle.capi.specs.SetUp.{barredBy, setUpFile, setUpWith};
 ghost use Rattle.capi.specs.Asked.{listingBy};
@@ -52,8 +52,29 @@ fn is(used: bool, number: u64, file: u64) -> bool
     used && number == file
 }
 
-// The place of a file, or the last place: the record is read where it lies.
-fn position(r: &Record, file: u64) -> usize
+// Whether a place has the file's number, whatever its flag.
+fn numbered(used: bool, number: u64, file: u64) -> bool
+    ensures { λ r. ⌜ r ≡ hasNumber used number file ⌝ }
+{
+    number == file
+}
+
+// The first place that has the file's number, or the last place: one comparison for each place.
+fn by_number(r: &Record, file: u64) -> usize
+    ensures { λ i. ⌜ (i ≡ numberIn file (now (r .entry))) × (i < 64) ⌝ }
+{
+    let mut i: usize = 0;
+    while i < 63 {
+        if numbered(r.files[i].used, r.files[i].number, file) {
+            break;
+        }
+        i += 1;
+    }
+    i
+}
+
+// The place of a file, or the last place: each place is tested for its flag too.
+fn thorough(r: &Record, file: u64) -> usize
     ensures { λ i. ⌜ (i ≡ soughtIn file (now (r .entry))) × (i < 64) ⌝ }
 {
     let mut i: usize = 0;
@@ -62,6 +83,24 @@ fn position(r: &Record, file: u64) -> usize
             break;
         }
         i += 1;
+    }
+    i
+}
+
+// Whether a place that was found by the number alone is to be sought again.
+fn unsure(used: bool) -> bool
+    ensures { λ z. ⌜ z ≡ isUnsure used ⌝ }
+{
+    !used
+}
+
+// The place of a file, or the last place: the record is read where it lies. Where the place that is found by the number alone is used, it is the answer, and no other flag is read.
+fn position(r: &Record, file: u64) -> usize
+    ensures { λ i. ⌜ (i ≡ soughtIn file (now (r .entry))) × (i < 64) ⌝ }
+{
+    let i = by_number(r, file);
+    if unsure(r.files[i].used) {
+        return thorough(r, file);
     }
     i
 }

@@ -52,7 +52,7 @@ use Rattle.records.proofs.Lists.{ty, holds, fails, not-less}
 use Rattle.records.proofs.Rounds as rounds
 
 -- a flag that q gets
-abbrev flag-lead : Lead
+abbrev pub flag-lead : Lead
 flag-lead = record { Row = Boolean; val = vbool; makes = λ M 𝓤 H A W. bool-makes 𝓤 H A W }
 
 -- ---- the contract of p
