@@ -4,8 +4,9 @@ use mathlib.Core.List.{List}
 use mathlib.Core.Bool.{Bool, true, false, cond, true≢false}
 use Prim.Native.Nat.{ℕ, zero, suc, _+_, _<_}
 use native.Mathlib.Omega.{arith}
-use lib.Dec.{eqb}
+use lib.Dec.{eqb, ltb, lt→ltb}
 use lib.ListN.{getD, length}
+use Rattle.records.proofs.Lists.{holds}
 use Rattle.walks.specs.Seek.{which, seek}
 use Rattle.places.specs.Places.{first, placeOr}
 use Rattle.files.specs.File.{noFile, isFile}
@@ -36,31 +37,31 @@ pub sought-place : (n : ℕ) (r : Record) → length (r .files) ≡ 64 → sough
 unfolding soughtIn placeIn
 sought-place n r h = sought (isFile n) noFile (r .files) 63 (first (isFile n) (r .files)) 63 0 (searching (isFile n) (r .files)) (omega (arith, h)) (omega arith)
 
--- ---- the place that is found by q alone: where u holds of it, it is the first of which u and q hold, since q holds of none before it
+-- ---- the place that is found by q alone: where u holds of it, or it is the last, it is the first of which u and q hold, since q holds of none before it
 module _ {A : Type 0} (u q : A → Bool) (d : A) (l : List A) where
   abbrev both : A → Bool
   both x = cond (u x) (q x) false
 
-  held : (i n : ℕ) (v : Bool) → isUnsure v ≡ false → i ≡ which (cond v true false) i n
-  held i n true h = refl
-  held i n false h = absurd (true≢false h)
+  held : (i n : ℕ) (v : Bool) → ltb i 63 ≡ true → isUnsure v i ≡ false → i ≡ which (cond v true false) i n
+  held i n true before h = refl
+  held i n false before h = absurd (true≢false (sym before ∙ h))
 
   passed : (i n : ℕ) (v : Bool) → n ≡ which (cond v false false) i n
   passed i n true = refl
   passed i n false = refl
 
   -- m and n are what the places after i give
-  at-turn : (i m n : ℕ) (b : Bool) → (isUnsure (u (getD l m d)) ≡ false → m ≡ n) → isUnsure (u (getD l (which b i m) d)) ≡ false → which b i m ≡ which (cond (u (getD l i d)) b false) i n
-  at-turn i m n true next h = held i n (u (getD l i d)) h
-  at-turn i m n false next h = next h ∙ passed i n (u (getD l i d))
+  at-turn : (i m n : ℕ) (b : Bool) → ltb i 63 ≡ true → (isUnsure (u (getD l m d)) m ≡ false → m ≡ n) → isUnsure (u (getD l (which b i m) d)) (which b i m) ≡ false → which b i m ≡ which (cond (u (getD l i d)) b false) i n
+  at-turn i m n true before next h = held i n (u (getD l i d)) before h
+  at-turn i m n false before next h = next h ∙ passed i n (u (getD l i d))
 
-  pub first-of-both : (t i : ℕ) → isUnsure (u (getD l (seek q d l t i) d)) ≡ false → seek q d l t i ≡ seek both d l t i
-  first-of-both zero i h = refl
-  first-of-both (suc t) i h = at-turn i (seek q d l t (i + 1)) (seek both d l t (i + 1)) (q (getD l i d)) (first-of-both t (i + 1)) h
+  pub first-of-both : (t i : ℕ) → 63 ≡ i + t → isUnsure (u (getD l (seek q d l t i) d)) (seek q d l t i) ≡ false → seek q d l t i ≡ seek both d l t i
+  first-of-both zero i e h = refl
+  first-of-both (suc t) i e h = at-turn i (seek q d l t (i + 1)) (seek both d l t (i + 1)) (q (getD l i d)) (holds (ltb i 63) (lt→ltb i 63 (omega (arith, e)))) (first-of-both t (i + 1) (omega (arith, e))) h
 
-pub number-sought : (n : ℕ) (r : Record) → isUnsure (getD (r .files) (numberIn n r) noFile .used) ≡ false → numberIn n r ≡ soughtIn n r
+pub number-sought : (n : ℕ) (r : Record) → isUnsure (getD (r .files) (numberIn n r) noFile .used) (numberIn n r) ≡ false → numberIn n r ≡ soughtIn n r
 unfolding numberIn soughtIn
-number-sought n r h = first-of-both (λ f. f .used) (λ f. eqb (f .number) n) noFile (r .files) 63 0 h
+number-sought n r h = first-of-both (λ f. f .used) (λ f. eqb (f .number) n) noFile (r .files) 63 0 (omega arith) h
 
 -- ---- a call on one file
 abbrev pub at-sought : ℕ → (File → FileAnswered) → Record → Answered

@@ -87,19 +87,19 @@ fn thorough(r: &Record, file: u64) -> usize
     i
 }
 
-// Whether a place that was found by the number alone is to be sought again.
-fn unsure(used: bool) -> bool
-    ensures { λ z. ⌜ z ≡ isUnsure used ⌝ }
+// Whether a place that was found by the number alone is to be sought again: it is free. The last place is not, since no place before it has the number.
+fn unsure(used: bool, at: usize) -> bool
+    ensures { λ z. ⌜ z ≡ isUnsure used at ⌝ }
 {
-    !used
+    !used && at < 63
 }
 
-// The place of a file, or the last place: the record is read where it lies. Where the place that is found by the number alone is used, it is the answer, and no other flag is read.
+// The place of a file, or the last place: the record is read where it lies. A place that is found by the number alone is the answer where it is used, and where it is the last; no other flag is read then.
 fn position(r: &Record, file: u64) -> usize
     ensures { λ i. ⌜ (i ≡ soughtIn file (now (r .entry))) × (i < 64) ⌝ }
 {
     let i = by_number(r, file);
-    if unsure(r.files[i].used) {
+    if unsure(r.files[i].used, i) {
         return thorough(r, file);
     }
     i

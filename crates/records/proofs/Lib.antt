@@ -23,7 +23,7 @@
 --     Cleared          f(r: &mut T)  { h(r);  r.head = e(); }
 --     Parted           f(r: &mut T, key, args..) -> u32  { let d = b(r.head, shown..);  if d.wanted { return h(r, key, d.len, args..); }  e(d.status, args..) }, where h may be one of crate walks' `Changed`
 --     Asked            f(r: &mut T, key, args..) -> u32  { let k = b(shown..);  let i = p(r, k);  h(r, key, i, args..) }, where p may be one of `Sought.antt`'s, and h one of crate walks' `Changed`
---     Retried          f(r: &T, key) -> usize  { let i = a(r, key);  if q(r.list[i].flag) { return b(r, key); }  i }, where a and b may be of crate walks' `Find`
+--     Retried          f(r: &T, key) -> usize  { let i = a(r, key);  if q(r.list[i].flag, i) { return b(r, key); }  i }, where a and b may be of crate walks' `Find`
 -- A function that gets what stands beside the array:
 --     Beside           f(r: &T, args..)  { g(r.head, args..) }
 -- What these rest on, beside crate walks:

@@ -1,10 +1,10 @@
 -- A look-up in an array in a record behind a reference that a second look-up does again where a test says so at the place that was found: one walk for every function of the form
 --     fn p(r: &T, key: uV) -> usize   ensures { λ i. ⌜ (i ≡ Of (now (r .entry)) key) × (i < N) ⌝ }
---     { let i = a(r, key);  if q(r.list[i].flag) { return b(r, key); }  i }
+--     { let i = a(r, key);  if q(r.list[i].flag, i) { return b(r, key); }  i }
 -- over three functions, of which a and b may be of crate walks' `Find.antt`'s, and q is covered,
---     fn a(r: &T, key: uV) -> usize   ensures { λ i. ⌜ (i ≡ Quick (now (r .entry)) key) × (i < N) ⌝ }
---     fn q(flag: bool) -> bool        ensures { λ z. ⌜ z ≡ Again flag ⌝ }
---     fn b(r: &T, key: uV) -> usize   ensures { λ i. ⌜ (i ≡ Of (now (r .entry)) key) × (i < N) ⌝ }
+--     fn a(r: &T, key: uV) -> usize        ensures { λ i. ⌜ (i ≡ Quick (now (r .entry)) key) × (i < N) ⌝ }
+--     fn q(flag: bool, i: usize) -> bool   ensures { λ z. ⌜ z ≡ Again flag i ⌝ }
+--     fn b(r: &T, key: uV) -> usize        ensures { λ i. ⌜ (i ≡ Of (now (r .entry)) key) × (i < N) ⌝ }
 -- where `list` is a field of T that is an array of N structs F (`Element.antt`'s `Elements` of crate walks), and `flag` is a field of F (`Kept`). T is Copy. It copies nothing but the flag.
 -- In this order: the contracts, the MIR of p, how its walk ends, the call of a or b, what follows the test, the walk, and
 --     spec         the theorem of p from those of a, q and b, where a finds the place that p promises unless the test says to look again (`Gives`)
@@ -48,7 +48,7 @@ use denote.Exit.{yes}
 use Rattle.walks.proofs.Args.{Ins, Outs}
 use Rattle.walks.proofs.Element.{Elements, Kept, look-elem-field}
 use Rattle.walks.proofs.Handed.{handed}
-use Rattle.walks.proofs.Leads.{Leads}
+use Rattle.walks.proofs.Leads.{Lead, Leads, number-lead}
 use Rattle.walks.proofs.Cited as cited
 use Rattle.walks.proofs.Cited.{Callee, Each, Known}
 use Rattle.walks.proofs.Called as g
@@ -66,7 +66,7 @@ module _ (T : Declared) (wk : Width) where
   abbrev Placer : ℕ → (T .D → ℕ → ℕ) → Callee
   Placer n Place M 𝓤 H A = tripleOf 𝓤 H A (ended .signature) (closing 𝓤 H A ended (clauses n Place M 𝓤))
 
-module _ {T F : Declared} (El : Elements T F) (L : LL.Laws T) (cs : LL.Copyables (T .parts)) (small : Tᵇ (ltb (size (ty F)) (2 ^ bits w64))) (wk : Width) (none : F .D) (Flag : Kept F Boolean) (Again : Bool → Bool) (Quick Of : T .D → ℕ → ℕ) where
+module _ {T F : Declared} (El : Elements T F) (L : LL.Laws T) (cs : LL.Copyables (T .parts)) (small : Tᵇ (ltb (size (ty F)) (2 ^ bits w64))) (wk : Width) (none : F .D) (Flag : Kept F Boolean) (Again : Bool → ℕ → Bool) (Quick Of : T .D → ℕ → ℕ) where
   abbrev R : RattleType
   R = row T
 
@@ -75,18 +75,21 @@ module _ {T F : Declared} (El : Elements T F) (L : LL.Laws T) (cs : LL.Copyables
 
   -- whether the place i is to be sought again
   abbrev again : T .D → ℕ → Bool
-  again h i = Again (Flag .get (getD (El .list h) i none))
+  again h i = Again (Flag .get (getD (El .list h) i none)) i
 
   -- where it is not, a finds the place that p promises
   abbrev pub Gives : Type 0
   Gives = (h : T .D) (k : ℕ) → again h (Quick h k) ≡ false → Quick h k ≡ Of h k
 
   -- the contract of q
-  abbrev Is-again : Leads (flag-lead ∷ []) → Ins [] → Bool → Outs [] → Type 0
-  Is-again l i z o = z ≡ Again (l .0)
+  abbrev ls : List Lead
+  ls = flag-lead ∷ number-lead w64 ∷ []
+
+  abbrev Is-again : Leads ls → Ins [] → Bool → Outs [] → Type 0
+  Is-again l i z o = z ≡ Again (l .0) (l .1 .0)
 
   abbrev Tester : Callee
-  Tester M 𝓤 H A = g.Callee (flag-lead ∷ []) Boolean [] g.always Is-again 𝓤 H A
+  Tester M 𝓤 H A = g.Callee ls Boolean [] g.always Is-again 𝓤 H A
 
   -- a, q and b, and the MIR of p, which calls their keys
   abbrev callees : List Callee
@@ -109,7 +112,7 @@ module _ {T F : Declared} (El : Elements T F) (L : LL.Laws T) (cs : LL.Copyables
         seq (assign (place 6 []) (addrOf (place 1 (deref (ty T) ∷ fieldStep (El .k) ∷ [])))) (
         seq (assign (place 7 []) (op2 offset (copy (place 6 [])) (copy (place 5 [])))) (
         seq (assign (place 8 []) (rvOpd (copy (place 7 (deref (ty F) ∷ fieldStep (Flag .k) ∷ []))))) (
-        seq (call (ks .1 .0) (copy (place 8 []) ∷ []) (place 4 [])) (
+        seq (call (ks .1 .0) (copy (place 8 []) ∷ copy (place 3 []) ∷ []) (place 4 [])) (
         seq (cond (copy (place 4 [])) (retry (ks .1 .1 .0)) skip) rest))))));
   }
 
@@ -218,8 +221,8 @@ module _ {T F : Declared} (El : Elements T F) (L : LL.Laws T) (cs : LL.Copyables
           assigns ! (bin ! (load ! (from ! (stop !)) (look ! 8 refl)) (load ! (from ! (stop !)) (look ! 10 refl)) tt) (from ! (stop !)) (init ! 6 refl (tt, tt)) $
           assigns ! (of-opd ! (load ! (from ! (hop ! (look ! 6 refl) (fld ! (Flag .found) (stop !)))) (look-elem-field El 𝓤 H A W q′ h i none b o (ei .1) Flag refl vbool bool-tells ! 0 refl))) (from ! (stop !)) (init ! 4 refl (tt, tt)) $
           nothing ! $ use0 W (raw (emp 𝓤)) (id⊢ 𝓤 (emp 𝓤)) $ nothing ! $ nothing ! $
-          g.calls-g (flag-lead ∷ []) Boolean [] g.always Is-again none-lent (Flag .get (getD (El .list h) i none), tt) tt 𝓤 H A W tt (ks .1 .0) C fm (known .1 .0) (En l₀ l₁ l₂ l₃ l₄ l₅ l₆ l₇ l₈) (λ xs. copy (place 8 []) ∷ xs) 0 0 tt tt tt (refl, tt) tt tt tt
-          (λ _ os. and-then ! (load ! (from ! (stop !)) (look ! 7 refl)) os) (λ w z ws z-so z-is. drop ! $ drop ! $ drop ! $ drop ! $ drop ! $
+          g.calls-g ls Boolean [] g.always Is-again none-lent (Flag .get (getD (El .list h) i none), (i, tt)) tt 𝓤 H A W tt (ks .1 .0) C fm (known .1 .0) (En l₀ l₁ l₂ l₃ l₄ l₅ l₆ l₇ l₈) (λ xs. copy (place 8 []) ∷ copy (place 3 []) ∷ xs) 0 0 tt tt tt (refl, ((refl, i-is .1), tt)) tt tt tt
+          (λ _ os. and-then ! (load ! (from ! (stop !)) (look ! 7 refl)) (and-then ! (load ! (from ! (stop !)) (look ! 17 refl)) os)) (λ w z ws z-so z-is. drop ! $ drop ! $ drop ! $ drop ! $ drop ! $
           land ! (from ! (stop !)) (init ! 12 refl (bool-lawful 𝓤 H A W .typed z _ z-is .0)) $ rewrite ! 12 (λ (v : Val). ‵ (fat fullShare tyBool l₄ 0 v)) (ap only z-is) refl $
           move ! (1 ∷ 0 ∷ []) $ obor-close ! tt $ drop ! $ forget ! 3 refl $ forget ! 5 refl $ forget ! 7 refl $ forget ! 9 refl $
           -- [the token; res; the borrow; the locals]
