@@ -11,7 +11,7 @@ use Rattle.places.specs.Lists.{any, with}
 use Rattle.places.specs.Places.{first}
 use Rattle.mirroring.specs.Devices.{deviceOf}
 use Rattle.mirroring.specs.Mirrors.{isDevice, blamedAt}
-use Rattle.mirroring.specs.Blame.{blaming, statusOnly, withChange, withErrorAt, withErrorOf, withError, errorsAssessed, assessmentOf}
+use Rattle.mirroring.specs.Blame.{blaming, statusOnly, withErrorAt, withErrorOf, withError, errorsAssessed, assessmentOf}
 use Rattle.mirroring.specs.TotalsSteps.{mirrorTotals}
 use Rattle.files.specs.File as file
 use Rattle.files.specs.File.{fileAnswered, changedFile, raisedFile}
@@ -49,7 +49,7 @@ unknown-at : (h : Assessment) (s : ℕ) (o : Found) → h .change .unknown ≡ t
 unknown-at h s Nothing e = refl
 unknown-at h s (At i) e = by (eqb s 0)
   where
-    by : (b : Bool) → cond b h (withChange (blaming i (h .change)) h) .change .unknown ≡ true
+    by : (b : Bool) → cond b (h .change) (blaming i (h .change)) .unknown ≡ true
     by true = e
     by false = e
 

@@ -1,21 +1,20 @@
--- MODEL. What a report says of a file's mirrors, in this order: what it changes; one device error; one statistics record; all of a report.
-use mathlib.Core.List.{List}
+-- MODEL. What a report says of a file's mirrors, in this order: what it changes; one device error; all of a report; the same by its two halves.
+use mathlib.Core.List.{List, []}
 use mathlib.Core.Bool.{Bool, true, false, cond}
 use Prim.Native.Nat.{ℕ}
 use Rattle.masks.specs.Mask.{plus}
 use lib.Dec.{eqb}
 use Rattle.statuses.specs.Names.{Status}
-use Rattle.reports.specs.Device.{halves}
-use Rattle.reports.specs.Statistics.{Statistic}
 use Rattle.reports.specs.Report.{DeviceError, Report, Whole, Malformed, over}
 use Rattle.places.specs.Places.{first}
 use Rattle.mirroring.specs.Devices.{deviceOf}
 use Rattle.mirroring.specs.Mirrors.{isAt}
 use Rattle.mirroring.specs.Totals.{noTotals}
-use Rattle.mirroring.specs.TotalsSteps.{mirrorTotals, addedTotals}
+use Rattle.mirroring.specs.TotalsSteps.{mirrorTotals}
 use Rattle.mirroring.specs.declared.mirrors.Mirror.{Mirror}
 use Rattle.mirroring.specs.declared.blame.Change.{Change}
 use Rattle.mirroring.specs.declared.blame.Assessment.{Assessment}
+use Rattle.mirroring.specs.declared.blame.Tallied.{Tallied}
 use Rattle.mirroring.specs.declared.totals.Totals.{Totals}
 use Rattle.places.specs.declared.Found.{Found}
 use Rattle.places.specs.declared.Found.the-variants.{At, Nothing}
@@ -32,17 +31,31 @@ naming x = record { unknown = true; failed = x .failed; blamed = x .blamed }
 abbrev pub blaming : ℕ → Change → Change
 blaming i x = record { unknown = x .unknown; failed = true; blamed = plus (x .blamed) i }
 
--- ---- nothing but a status
+-- ---- nothing but a status, and nothing but a change
 abbrev pub statusOnly : Status → Assessment
 statusOnly s = record { status = s; change = noChange; totals = noTotals }
+
+abbrev pub changeOnly : Change → Assessment
+changeOnly x = record { status = 0; change = x; totals = noTotals }
 
 abbrev pub withChange : Change → Assessment → Assessment
 withChange x a = record { status = a .status; change = x; totals = a .totals }
 
 -- ---- one device error
+-- of what a report changes
+abbrev pub changedAt : Change → Status → Found → Change
+changedAt x s Nothing = naming x
+changedAt x s (At i) = cond (eqb s 0) x (blaming i x)
+
+unfoldable pub changedOf : List Mirror → Change → ℕ → ℕ → Status → Change
+changedOf ms x hi lo s = changedAt x s (first (isAt hi lo) ms)
+
+abbrev pub changed : List Mirror → Change → DeviceError → Change
+changed ms x e = changedOf ms x (deviceOf e .high) (deviceOf e .low) (e .status)
+
+-- of what it says
 abbrev pub withErrorAt : Assessment → Status → Found → Assessment
-withErrorAt a s Nothing = withChange (naming (a .change)) a
-withErrorAt a s (At i) = cond (eqb s 0) a (withChange (blaming i (a .change)) a)
+withErrorAt a s o = withChange (changedAt (a .change) s o) a
 
 unfoldable pub withErrorOf : List Mirror → Assessment → ℕ → ℕ → Status → Assessment
 withErrorOf ms a hi lo s = withErrorAt a s (first (isAt hi lo) ms)
@@ -50,23 +63,26 @@ withErrorOf ms a hi lo s = withErrorAt a s (first (isAt hi lo) ms)
 abbrev pub withError : List Mirror → Assessment → DeviceError → Assessment
 withError ms a x = withErrorOf ms a (deviceOf x .high) (deviceOf x .low) (x .status)
 
--- ---- one statistics record
-abbrev pub withTotals : Totals → Assessment → Assessment
-withTotals t a = record { status = a .status; change = a .change; totals = t }
-
--- a report that names an unknown device is ignored
-unfoldable pub countedOf : List Mirror → Assessment → ℕ → ℕ → ℕ → ℕ → Assessment
-countedOf ms a hi lo r w = withTotals (cond (a .change .unknown) (a .totals) (addedTotals ms hi lo r w (a .totals))) a
-
-abbrev pub counted : List Mirror → Assessment → Statistic → Assessment
-counted ms a y = countedOf ms a (halves (y .device) .high) (halves (y .device) .low) (y .read) (y .written)
-
 -- ---- all of a report
 -- what its device errors say; 10036: the report is malformed
 unfoldable pub errorsAssessed : List Mirror → Report → Assessment
 errorsAssessed ms (Whole xs ys) = over (withError ms) (statusOnly 0) xs
 errorsAssessed ms Malformed = statusOnly 10036
 
--- and the totals, which an ignored report has none of
+-- and the totals, which a report that names an unknown device has none of: it is ignored
+abbrev pub withTotals : Totals → Assessment → Assessment
+withTotals t a = record { status = a .status; change = a .change; totals = t }
+
 unfoldable pub assessmentOf : List Mirror → Report → Assessment
 assessmentOf ms p = withTotals (cond (errorsAssessed ms p .change .unknown) noTotals (mirrorTotals ms p)) (errorsAssessed ms p)
+
+-- ---- the same by its two halves
+-- the statistics records' status and totals, which are none where they do not count
+unfoldable pub talliedOf : List Mirror → Bool → Report → Tallied
+talliedOf ms b (Whole xs ys) = record { status = 0; totals = cond b (mirrorTotals ms (Whole [] ys)) noTotals }
+talliedOf ms b Malformed = record { status = 10036; totals = noTotals }
+
+-- device errors that change x, and then the statistics records, which do not count if an unknown device was named
+unfoldable pub settledOf : List Mirror → Change → Report → Assessment
+settledOf ms x (Whole xs ys) = record { status = 0; change = x; totals = cond (x .unknown) noTotals (mirrorTotals ms (Whole [] ys)) }
+settledOf ms x Malformed = statusOnly 10036

@@ -1,5 +1,6 @@
-// What a report says of a file's mirrors (paper 01, LAYOUTRETURN, steps 5 and 7; Ticket 3): one walk of its body, over its device errors and then over
-// its statistics records.
+// What a report says of a file's mirrors (paper 01, LAYOUTRETURN, steps 5 and 7; Ticket 3), by one walk of its body in two halves.
+// In order: what a report says, and each half of it; one device error; `blamed`, the half over the device errors; `tally`, the half over the statistics
+// records; `assess`, both.
 use crate::mirrors::Mirror;
 use crate::mirrors::PLACES;
 use crate::mirrors::place;
@@ -12,10 +13,10 @@ use reports::statistics::Item;
 ghost use mathlib.Core.Path.{_≡_};
 ghost use Prim.Native.Nat.{_+_, _*_, _<_, _≤_};
 ghost use lib.ListN.{length, drop};
-ghost use Rattle.reports.specs.Report.{reportOf, over, outcome};
+ghost use Rattle.reports.specs.Report.{reportOf, over};
 ghost use Rattle.reports.specs.ReportSteps.{errorsIn};
-ghost use Rattle.reports.specs.StatisticsSteps.{statisticsFrom, tally};
-ghost use Rattle.mirroring.specs.Blame.{blaming, statusOnly, withError, withErrorOf, counted, countedOf, assessmentOf};
+ghost use Rattle.reports.specs.StatisticsSteps.{statisticsFrom};
+ghost use Rattle.mirroring.specs.Blame.{noChange, blaming, statusOnly, changed, changedOf, assessmentOf, talliedOf, settledOf};
 
 // What a report changes in a file: whether a device was named that is neither a mirror nor the proxy; whether a device error of one of these had a
 // status other than 0; and the set of the places that such a device error blames.
@@ -25,20 +26,39 @@ pub struct Change {
     pub blamed: u32,
 }
 
-// What a report says of a file's mirrors, as far as it has been read: the status of step 5, what it changes, and the totals of bytes by place.
+// What a report says of a file's mirrors: the status of step 5, what it changes, and the totals of bytes by place.
 pub struct Assessment {
     pub status: u32,
     pub change: Change,
     pub totals: Totals,
 }
 
-// What the device errors say, and the cursor at the first statistics record.
-struct ErrorsAssessed {
-    assessment: Assessment,
-    next: Cursor,
+// What the device errors of a report say, and the cursor at its first statistics record. Where they are malformed, so is what is left.
+pub struct Errors {
+    pub unknown: bool,
+    pub failed: bool,
+    pub blamed: u32,
+    pub next: Cursor,
+}
+
+// The status of the statistics records from a cursor on, and their totals, which are none where they do not count.
+pub struct Tallied {
+    pub status: u32,
+    pub totals: Totals,
 }
 
 impl Change {
+    // Nothing is changed.
+    fn none() -> Change
+        ensures { λ r. ⌜ r ≡ noChange ⌝ }
+    {
+        Change {
+            unknown: false,
+            failed: false,
+            blamed: 0,
+        }
+    }
+
     // The mirror at a place is blamed too.
     pub(crate) fn blame(mut self, at: usize) -> Change
         requires { ⌜ at < 32 ⌝ }
@@ -48,6 +68,20 @@ impl Change {
         self.failed = true;
         self
     }
+
+    // One device error more.
+    fn device_error(mut self, mirrors: [Mirror; PLACES], high: u64, low: u64, status: u32) -> Change
+        ensures { λ r. ⌜ r ≡ changedOf mirrors self high low status ⌝ }
+    {
+        let Found::At(i) = place(mirrors, high, low) else {
+            self.unknown = true;
+            return self;
+        };
+        if status == 0 {
+            return self;
+        }
+        self.blame(i)
+    }
 }
 
 impl Assessment {
@@ -55,74 +89,28 @@ impl Assessment {
     pub fn only(status: u32) -> Assessment
         ensures { λ r. ⌜ r ≡ statusOnly status ⌝ }
     {
+        let change = Change::none();
         let totals = Totals::none();
         Assessment {
             status,
-            change: Change {
-                unknown: false,
-                failed: false,
-                blamed: 0,
-            },
+            change,
             totals,
         }
-    }
-
-    // One device error more.
-    pub(crate) fn device_error(
-        mut self,
-        mirrors: [Mirror; PLACES],
-        high: u64,
-        low: u64,
-        status: u32,
-    ) -> Assessment
-        ensures { λ r. ⌜ r ≡ withErrorOf mirrors self high low status ⌝ }
-    {
-        let Found::At(i) = place(mirrors, high, low) else {
-            self.change.unknown = true;
-            return self;
-        };
-        if status == 0 {
-            return self;
-        }
-        let old = self.change;
-        let change = old.blame(i);
-        self.change = change;
-        self
-    }
-
-    // One statistics record more, unless the report is ignored.
-    pub(crate) fn count(
-        mut self,
-        mirrors: [Mirror; PLACES],
-        high: u64,
-        low: u64,
-        read: u64,
-        written: u64,
-    ) -> Assessment
-        ensures { λ r. ⌜ r ≡ countedOf mirrors self high low read written ⌝ }
-    {
-        if self.change.unknown {
-            return self;
-        }
-        let old = self.totals;
-        let totals = old.add(mirrors, high, low, read, written);
-        self.totals = totals;
-        self
     }
 }
 
 // The device errors of one record: `n` of them from `from` on, which are all there.
 fn record_errors(
-    so_far: Assessment,
+    so_far: Change,
     mirrors: [Mirror; PLACES],
     body: &[u8],
     from: usize,
     n: u32,
-) -> Assessment
+) -> Change
     requires { ⌜ from + 24 * n ≤ length (now body) ⌝ }
-    ensures { λ r. ⌜ r ≡ over (withError mirrors) «so_far» (errorsIn n (drop from (now (body .entry)))) ⌝ }
+    ensures { λ r. ⌜ r ≡ over (changed mirrors) «so_far» (errorsIn n (drop from (now (body .entry)))) ⌝ }
 {
-    let mut a = so_far;
+    let mut x = so_far;
     let mut at = from;
     let mut left = n;
     while left != 0 {
@@ -133,40 +121,85 @@ fn record_errors(
                 status,
                 next,
             } => {
-                a = a.device_error(mirrors, high, low, status);
+                x = x.device_error(mirrors, high, low, status);
                 at = next;
                 left -= 1;
             }
             Reading::Missing => {
-                return a;
+                return x;
             }
         }
     }
-    a
+    x
 }
 
-// The device errors of a report's body. Where they are malformed, so is what is left.
-fn errors(mirrors: [Mirror; PLACES], body: &[u8]) -> ErrorsAssessed
-    ensures { λ r. ⌜ tally (counted mirrors) (statusOnly 10036) (r .assessment) (statisticsFrom (now (body .entry)) (r .next)) ≡ outcome (withError mirrors) (counted mirrors) (statusOnly 10036) (statusOnly 0) (reportOf (now (body .entry))) ⌝ }
+// What the device errors of a report's body say.
+pub fn blamed(mirrors: [Mirror; PLACES], body: &[u8]) -> Errors
+    ensures { λ r. ⌜ settledOf mirrors (record { unknown = r .unknown; failed = r .failed; blamed = r .blamed }) (statisticsFrom (now (body .entry)) (r .next)) ≡ assessmentOf mirrors (reportOf (now (body .entry))) ⌝ }
 {
-    let mut a = Assessment::only(0);
+    let mut x = Change::none();
     let mut c = reports::report::start(body);
     loop {
         match reports::report::next(body, c) {
             Entry::Record { at, devices, next } => {
-                a = record_errors(a, mirrors, body, at, devices);
+                x = record_errors(x, mirrors, body, at, devices);
                 c = next;
             }
             Entry::Statistics(next) => {
-                return ErrorsAssessed {
-                    assessment: a,
+                return Errors {
+                    unknown: x.unknown,
+                    failed: x.failed,
+                    blamed: x.blamed,
                     next,
                 };
             }
             Entry::Malformed => {
-                return ErrorsAssessed {
-                    assessment: a,
+                return Errors {
+                    unknown: x.unknown,
+                    failed: x.failed,
+                    blamed: x.blamed,
                     next: reports::cursor::none(body),
+                };
+            }
+        }
+    }
+}
+
+// What the statistics records say, which are only passed where they do not count.
+pub fn tally(mirrors: [Mirror; PLACES], body: &[u8], from: Cursor, counts: bool) -> Tallied
+    ensures { λ r. ⌜ r ≡ talliedOf mirrors counts (statisticsFrom (now (body .entry)) from) ⌝ }
+{
+    let mut t = Totals::none();
+    if !counts {
+        return Tallied {
+            status: reports::statistics::check(body, from),
+            totals: t,
+        };
+    }
+    let mut c = from;
+    loop {
+        match reports::statistics::next(body, c) {
+            Item::Given {
+                high,
+                low,
+                read,
+                written,
+                next,
+            } => {
+                t = t.add(mirrors, high, low, read, written);
+                c = next;
+            }
+            Item::End => {
+                return Tallied {
+                    status: 0,
+                    totals: t,
+                };
+            }
+            Item::Malformed => {
+                let nothing = Totals::none();
+                return Tallied {
+                    status: statuses::BADXDR,
+                    totals: nothing,
                 };
             }
         }
@@ -177,27 +210,20 @@ fn errors(mirrors: [Mirror; PLACES], body: &[u8]) -> ErrorsAssessed
 pub fn assess(mirrors: [Mirror; PLACES], body: &[u8]) -> Assessment
     ensures { λ r. ⌜ r ≡ assessmentOf mirrors (reportOf (now (body .entry))) ⌝ }
 {
-    let e = errors(mirrors, body);
-    let mut a = e.assessment;
-    let mut c = e.next;
-    loop {
-        match reports::statistics::next(body, c) {
-            Item::Given {
-                high,
-                low,
-                read,
-                written,
-                next,
-            } => {
-                a = a.count(mirrors, high, low, read, written);
-                c = next;
-            }
-            Item::End => {
-                return a;
-            }
-            Item::Malformed => {
-                return Assessment::only(statuses::BADXDR);
-            }
-        }
+    let e = blamed(mirrors, body);
+    let next = e.next;
+    let t = tally(mirrors, body, next, !e.unknown);
+    if t.status != 0 {
+        return Assessment::only(t.status);
+    }
+    let totals = t.totals;
+    Assessment {
+        status: 0,
+        change: Change {
+            unknown: e.unknown,
+            failed: e.failed,
+            blamed: e.blamed,
+        },
+        totals,
     }
 }

@@ -7,28 +7,33 @@ use Rattle.reports.specs.Report.{reportOf, outcome}
 use Rattle.reports.specs.ReportSteps.{reportFrom}
 use Rattle.reports.proofs.Reports.{goes-on, fold-begins, fold-record, fold-statistics, fold-malformed}
 use Rattle.reports.proofs.StatisticsWalk.{tally-nothing}
-use Rattle.mirroring.specs.Blame.{statusOnly, withError, counted}
+use Rattle.places.proofs.Loops.{mapped-length}
+use Rattle.mirroring.proofs.Assessing.{counted, errors-change, assessed-is, settled-is}
+use Rattle.mirroring.specs.Blame.{statusOnly, changeOnly, withError, assessmentOf}
 use borrow.Author.Needs.{needs}
-use Rattle.mirroring.proofs.blame.errors.Statement.{statement}
-use Rattle.mirroring.proofs.blame.errors.Tie as tie
+use Rattle.mirroring.proofs.blame.blamed.Statement.{statement}
+use Rattle.mirroring.proofs.blame.blamed.Tie as tie
 
 abbrev Inv-loop : tie.InvT-loop
-Inv-loop mirrors body a₀ c₀ a c =
-    outcome (withError mirrors) (counted mirrors) (statusOnly 10036) a (reportFrom body c) ≡ outcome (withError mirrors) (counted mirrors) (statusOnly 10036) (statusOnly 0) (reportOf body)
+Inv-loop mirrors body x₀ c₀ x c =
+    outcome (withError mirrors) (counted mirrors) (statusOnly 10036) (changeOnly x) (reportFrom body c) ≡ assessmentOf mirrors (reportOf body)
 
 abbrev μ-loop : tie.MeasureT-loop
-μ-loop mirrors body a₀ c₀ a c = length body - c .at
+μ-loop mirrors body x₀ c₀ x c = length body - c .at
 
-only-requires : tie.Need-only-requires Inv-loop μ-loop
-only-requires c κs = search needs
+long : (c : tie.Start Inv-loop μ-loop) → length (c .args .mirrors) ≡ 5
+long c = search (mapped-length, needs)
+
+none-requires : tie.Need-none-requires Inv-loop μ-loop
+none-requires c κs = search needs
 
 start-requires : tie.Need-start-requires Inv-loop μ-loop
 start-requires c κs = search needs
 
 loop-holds : tie.Need-loop-holds Inv-loop μ-loop
 loop-holds c =
-    let a = c .before .before .before .args in
-    rw (c .before .only .ensures) (fold-begins (withError (a .mirrors)) (counted (a .mirrors)) _ _ (a .body .now) (c .start .ensures))
+    let s = c .before .before .before in
+    rw (c .before .none .ensures) (fold-begins (withError (s .args .mirrors)) (counted (s .args .mirrors)) _ _ (s .args .body .now) (c .start .ensures) ∙ assessed-is (s .args .mirrors) (long s) _)
 
 next-requires : tie.Need-next-requires Inv-loop μ-loop
 next-requires c κs = search needs
@@ -51,37 +56,40 @@ loop-again c =
     let a = c .before .before .before .before .before .before .before .before .before .args in
     let l = c .before .before .before .before .before .loop in
     rw (c .record-errors .ensures)
-    (fold-record (withError (a .mirrors)) (counted (a .mirrors)) (statusOnly 10036) (l .a) (a .body .now) (l .c) (l .inv) (sym (c .before .before .before .before .next .ensures) ∙ c .before .before .at .given .1))
+    (rw (errors-change (a .mirrors) (l .x)) at
+    (fold-record (withError (a .mirrors)) (counted (a .mirrors)) (statusOnly 10036) (changeOnly (l .x)) (a .body .now) (l .c) (l .inv) (sym (c .before .before .before .before .next .ensures) ∙ c .before .before .at .given .1)))
 
 enum-known-next : tie.Need-enum-known-next Inv-loop μ-loop
 enum-known-next c = search needs
 
 returns : tie.Need-returns Inv-loop μ-loop
 returns c =
-    let a = c .before .before .before .before .before .before .before .before .args in
+    let s = c .before .before .before .before .before .before .before .before in
     let l = c .before .before .before .before .loop in
-    fold-statistics (withError (a .mirrors)) (counted (a .mirrors)) (statusOnly 10036) (l .a) (a .body .now) (l .c) (l .inv) (sym (c .before .before .before .next .ensures) ∙ c .before .next2 .given .1)
+    settled-is (s .args .mirrors) (long s) (l .x) _
+    ∙ fold-statistics (withError (s .args .mirrors)) (counted (s .args .mirrors)) (statusOnly 10036) (changeOnly (l .x)) (s .args .body .now) (l .c) (l .inv) (sym (c .before .before .before .next .ensures) ∙ c .before .next2 .given .1)
 
 enum-told : tie.Need-enum-told Inv-loop μ-loop
 enum-told c = search needs
 
-none-requires : tie.Need-none-requires Inv-loop μ-loop
-none-requires c κs = search needs
+none-requires-2 : tie.Need-none-requires-2 Inv-loop μ-loop
+none-requires-2 c κs = search needs
 
 returns-2 : tie.Need-returns-2 Inv-loop μ-loop
 returns-2 c =
-    let a = c .before .before .before .before .before .before .before .before .args in
+    let s = c .before .before .before .before .before .before .before .before in
     let l = c .before .before .before .before .loop in
-    tally-nothing (counted (a .mirrors)) (statusOnly 10036) (l .a) (a .body .now) (c .none .ensures)
-    ∙ fold-malformed (withError (a .mirrors)) (counted (a .mirrors)) (statusOnly 10036) (l .a) (a .body .now) (l .c) (l .inv) (sym (c .before .before .before .next .ensures) ∙ c .before .enum-told .given .1)
+    settled-is (s .args .mirrors) (long s) (l .x) _
+    ∙ tally-nothing (counted (s .args .mirrors)) (statusOnly 10036) (changeOnly (l .x)) (s .args .body .now) (c .none2 .ensures)
+    ∙ fold-malformed (withError (s .args .mirrors)) (counted (s .args .mirrors)) (statusOnly 10036) (changeOnly (l .x)) (s .args .body .now) (l .c) (l .inv) (sym (c .before .before .before .next .ensures) ∙ c .before .enum-told .given .1)
 
-pub errors-spec : {M : Type 1} → statement M
-errors-spec =
+pub blamed-spec : {M : Type 1} → statement M
+blamed-spec =
     tie.close
     (tie.spec
     Inv-loop
     μ-loop
-    only-requires
+    none-requires
     start-requires
     loop-holds
     next-requires
@@ -92,5 +100,5 @@ errors-spec =
     enum-known-next
     returns
     enum-told
-    none-requires
+    none-requires-2
     returns-2)
