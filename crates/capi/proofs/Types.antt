@@ -17,6 +17,8 @@ use Rattle.wire.proofs.stateid.Stateid.Laws as S′
 use Rattle.intents.proofs.Intent as X
 use Rattle.intents.proofs.Intent.Laws as X′
 use Rattle.layoutreturn.specs.declared.Outcome.{Outcome}
+use Rattle.layoutreturn.proofs.Claim as K
+use Rattle.layoutreturn.proofs.Claim.Laws as K′
 use Rattle.layoutreturn.proofs.Outcome as O
 use Rattle.files.specs.declared.file.Closing.{Closing}
 use Rattle.files.specs.declared.file.FileAnswered.{FileAnswered}
@@ -55,6 +57,9 @@ intent = record { T = X.the-type; laws = X′.the-laws; plain = X′.the-plain; 
 
 abbrev pub stateid : Rec
 stateid = record { T = S.the-type; laws = S′.the-laws; plain = S′.the-plain; lowers = S′.lowers }
+
+abbrev pub claim : Rec
+claim = record { T = K.the-type; laws = K′.the-laws; plain = K′.the-plain; lowers = K′.lowers }
 
 abbrev pub file-answered : Stored heading file
 file-answered = record { name = A.the-type .name; D = FileAnswered; status = λ s. s .status; head = λ s. s .head; rec = λ s. s .file; one = A.the-type .to-one }

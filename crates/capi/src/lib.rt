@@ -16,6 +16,7 @@ use files::file::Opening;
 use files::head::Edition;
 use files::head::Head;
 use intents::Intent;
+use layoutreturn::Claim;
 use layoutreturn::Decision;
 use layoutreturn::Outcome;
 use mirroring::totals::Totals;
@@ -41,6 +42,7 @@ ghost use Rattle.capi.specs.OneFile.{begunAt, lastMoved, endedAt};
 ghost use Rattle.capi.specs.SetUp.{barredBy, setUpFile, setUpWith};
 ghost use Rattle.capi.specs.Asked.{listingBy};
 ghost use Rattle.capi.specs.Lent.{columnOf};
+ghost use Rattle.capi.specs.Claims.{claimIn};
 ghost use Rattle.capi.specs.LayoutReturn.{begunOf, bodyRead, returnedIn, stateidFor, raisedEach, changedFiles};
 ghost use Rattle.capi.specs.Whole.{restartVerdict, endVerdict, forgetVerdict, emptiedFile, eachFile, endedEach, refusedWith, admittedOf, isVacantPlace, roomSought, isBelow, enteredFiles, pulledFiles, slid, lastSought};
 
@@ -196,6 +198,7 @@ fn answered(
     f: File,
     number: u64,
     head: Head,
+    claim: Claim,
     len: usize,
     client: u64,
     request: &[u8],
@@ -765,6 +768,24 @@ fn change(r: &mut Record, at: usize, s: Outcome)
     }
 }
 
+// Whether the record is in grace.
+fn in_grace(head: Head) -> bool
+    ensures { λ z. ⌜ z ≡ head .grace ⌝ }
+{
+    head.grace
+}
+
+// What the file at a place says of a return's client, by the kind of return: the file is read where it lies.
+fn claim_at(r: &Record, i: usize, file: u64, client: u64, request: &[u8]) -> Claim
+    requires { ⌜ i < 64 ⌝ }
+    ensures { λ c. ⌜ c ≡ claimIn (now (r .entry)) i file client (now (request .entry)) ⌝ }
+{
+    if in_grace(r.head) {
+        return layoutreturn::anonymous_claim(r.files[i], file, client);
+    }
+    layoutreturn::ordinary_claim(r.files[i], file, client, request)
+}
+
 // LAYOUTRETURN for which a file is wanted, on that file's place: steps 5 to 7, or an ordinary return.
 fn with_file(
     r: &mut Record,
@@ -787,10 +808,12 @@ fn with_file(
         × (now («written_over» .exit) ≡ returnedIn file len client (now (request .entry)) (now (r .entry)) .totals .written .over) ⌝ }
 {
     let i = position(r, file);
+    let c = claim_at(r, i, file, client, request);
     let s = answered(
         r.files[i],
         file,
         r.head,
+        c,
         len,
         client,
         request,

@@ -178,10 +178,10 @@ fn by_stateid(t: Stateid, own: Stateid) -> u32
 
 // What a file says of a return's client: the status of step 4, which an ordinary return may meet; that of step 6, which an anonymous one may; and the client's
 // stateid there, where the return is ordinary.
-struct Claim {
-    barred: u32,
-    late: u32,
-    own: Stateid,
+pub struct Claim {
+    pub barred: u32,
+    pub late: u32,
+    pub own: Stateid,
 }
 
 // Step 6: 70; 10034.
@@ -199,7 +199,7 @@ fn late(f: File, number: u64, client: u64) -> u32
 }
 
 // Of an anonymous return.
-fn anonymous_claim(f: File, number: u64, client: u64) -> Claim
+pub fn anonymous_claim(f: File, number: u64, client: u64) -> Claim
     ensures { λ r. ⌜ r ≡ anonymousClaim number client f ⌝ }
 {
     let none = Stateid::none();
@@ -211,7 +211,7 @@ fn anonymous_claim(f: File, number: u64, client: u64) -> Claim
 }
 
 // Of an ordinary return, for which the request's stateid is read and the client's is looked up, once: 70; 10025; 10024.
-fn ordinary_claim(f: File, number: u64, client: u64, request: &[u8]) -> Claim
+pub fn ordinary_claim(f: File, number: u64, client: u64, request: &[u8]) -> Claim
     ensures { λ r. ⌜ r ≡ ordinaryClaim number client (now (request .entry)) f ⌝ }
 {
     if !f.is(number) {

@@ -19,11 +19,14 @@
 --     Lent             f(r: &mut T, i, s)  { if i < N { p(&mut r.list[i], s.at, s); } }, where p may be one of `Written.antt`'s or `Drawn.antt`'s over the element
 -- Calls that lend the record to such a function:
 --     Headed           f(r: &mut T) -> u32  { let s = g(r.head);  r.head = s.head;  if s.status == 0 { h(r); }  s.status }
+--     Told             f(r: &mut T, key, args..) -> u32  { let i = p(r, key);  let c = q(r, i, key, shown..);  let s = g(r.list[i], key, r.head, c, args..);  CHANGE  r.head = s.head;  s.status }, by crate walks' `Changed`, where q may be one of `Claimed.antt`'s
 --     Passed           a CHANGE of crate walks' `Changed`:  if s.status == 0 { h(r, i, s); }
 --     Cleared          f(r: &mut T)  { h(r);  r.head = e(); }
 --     Parted           f(r: &mut T, key, args..) -> u32  { let d = b(r.head, shown..);  if d.wanted { return h(r, key, d.len, args..); }  e(d.status, args..) }, where h may be one of crate walks' `Changed`
 --     Asked            f(r: &mut T, key, args..) -> u32  { let k = b(shown..);  let i = p(r, k);  h(r, key, i, args..) }, where p may be one of `Sought.antt`'s, and h one of crate walks' `Changed`
 --     Retried          f(r: &T, key) -> usize  { let i = a(r, key);  if q(r.list[i].flag, i) { return b(r, key); }  i }, where a and b may be of crate walks' `Find`
+-- A function that reads one element of the array:
+--     Claimed          q(r: &T, i, n, m, s) -> C  { if t(r.head) { return a(r.list[i], n, m); }  b(r.list[i], n, m, s) }
 -- A function that gets what stands beside the array:
 --     Beside           f(r: &T, args..)  { g(r.head, args..) }
 -- What these rest on, beside crate walks:
@@ -42,6 +45,7 @@ pub mod Alone
 pub mod Amended
 pub mod Asked
 pub mod Beside
+pub mod Claimed
 pub mod Cleared
 pub mod Drawn
 pub mod Each
@@ -66,5 +70,6 @@ pub mod Sliced
 pub mod Slid
 pub mod Sought
 pub mod Tallied
+pub mod Told
 pub mod Within
 pub mod Written

@@ -2,7 +2,7 @@
 --     { let i = p(r, n);  let s = g(r.list[i], n, r.head, args..);  if s.status == 0 { h(r, i, s); }  r.head = s.head;  s.status }
 --     fn h(r: &mut T, i: usize, s: S)      ensures { λ _. ⌜ now (r .exit) ≡ Y (now (r .entry)) i s ⌝ }
 -- of which h may be one of `Drawn.antt`'s or `Raised.antt`'s. In this order: the contract of h, and
---     passed       the CHANGE: its code, and what it does
+--     passed-told  the CHANGE: its code, and what it does.        passed     the same where f has no BEFORE (`Before.antt` of crate walks)
 -- Assumes nothing.
 use mathlib.Core.Path.{_≡_, refl, sym, _∙_, ap}
 use Prim.Native.Nat.{ℕ, suc, _≤_, _^_}
@@ -25,12 +25,13 @@ use Rattle.walks.proofs.Args.{Arg}
 use Rattle.walks.proofs.Leads.{Lead, Leads, struct-lead, number-lead}
 use Rattle.walks.proofs.Types.{Headed, headed-type, headed-laws, headed-plain}
 use Rattle.walks.proofs.Cited.{Callee}
-use Rattle.walks.proofs.Changed.{Parts, Change, i-at, s-at, c-at}
+use Rattle.walks.proofs.Before.{i-at, s-at, c-at}
+use Rattle.walks.proofs.Changed.{Parts, Change}
 use Rattle.records.proofs.Lists.{holds, fails}
 use Rattle.records.proofs.Within as w
 use Rattle.records.proofs.Headed.{if-called}
 
-module _ {T : Declared} (O : Parts T) (n-fits : O .list .n ≤ 2 ^ 64) (St : Headed (O .H)) (ps : List Arg) (Y : T .D → ℕ → St .D → T .D) where
+module _ {T : Declared} (O : Parts T) (n-fits : O .list .n ≤ 2 ^ 64) (St : Headed (O .H)) (us ts : List Ty) (ps : List Arg) (Y : T .D → ℕ → St .D → T .D) where
   abbrev R : RattleType
   R = row T
 
@@ -49,7 +50,7 @@ module _ {T : Declared} (O : Parts T) (n-fits : O .list .n ≤ 2 ^ 64) (St : Hea
 
   -- the places of its locals: the test, what h answers, and the record that is lent
   abbrev c₀ : ℕ
-  c₀ = c-at ps
+  c₀ = c-at us ts ps
 
   abbrev c₁ : ℕ
   c₁ = suc c₀
@@ -57,13 +58,13 @@ module _ {T : Declared} (O : Parts T) (n-fits : O .list .n ≤ 2 ^ 64) (St : Hea
   abbrev c₂ : ℕ
   c₂ = suc c₁
 
-  abbrev pub passed : Change O St ps
-  passed = record {
+  abbrev pub passing : Change O St us ts ps
+  passing = record {
     ends = tyBool ∷ tyUnit ∷ tyRef erased mut (pointee (R .written)) ∷ [];
     callees = Changer ∷ [];
     code = λ ks next.
-        seq (assign (place c₀ []) (op2 eq (copy (place (s-at ps) (fieldStep 0 ∷ []))) (int w32 0))) (
-        seq (cond (copy (place c₀ [])) (seq (assign (place c₂ []) (addrOf (place 1 (deref τ ∷ [])))) (call (ks .0) (copy (place c₂ []) ∷ copy (place (i-at ps) []) ∷ copy (place (s-at ps) []) ∷ []) (place c₁ []))) skip) next);
+        seq (assign (place c₀ []) (op2 eq (copy (place (s-at us ts ps) (fieldStep 0 ∷ []))) (int w32 0))) (
+        seq (cond (copy (place c₀ [])) (seq (assign (place c₂ []) (addrOf (place 1 (deref τ ∷ [])))) (call (ks .0) (copy (place c₂ []) ∷ copy (place (i-at ps) []) ∷ copy (place (s-at us ts ps) []) ∷ []) (place c₁ []))) skip) next);
     New = λ h i s. if-called (eqb (St .status s) 0) (Y h i s) h;
     by-code = λ M 𝓤 H A W C Λ fm ks known E lr li ls lm lx es fin b o i s h l was is. step (λ rest.
         move ! (6 ∷ []) $ fsplit ! $ fsplit ! $ move ! (2 ∷ []) $ fsplit ! $ fsplit ! $ move ! (2 ∷ []) $ fsplit ! $ fsplit ! $
@@ -72,7 +73,7 @@ module _ {T : Declared} (O : Parts T) (n-fits : O .list .n ≤ 2 ^ 64) (St : Hea
         first ! $ branches ! (load ! (found ! (fin .0) (stop !)) (look ! 5 refl))
         (λ hit. assigns ! (addr ! (found ! (lr .is) (hop ! (look ! 8 refl) (stop !)))) (found ! (fin .1 .1 .0) (stop !)) (init ! 0 refl (tt, tt)) $
         move ! (7 ∷ []) $
-        w.calls-in T leads unit Is-after 𝓤 H A W b o h (i, (s, tt)) ((refl, lt-of-lt-of-le l n-fits), (is, tt)) (ks .0) C fm (known .0) E (copy (place c₂ []) ∷ copy (place (i-at ps) []) ∷ copy (place (s-at ps) []) ∷ [])
+        w.calls-in T leads unit Is-after 𝓤 H A W b o h (i, (s, tt)) ((refl, lt-of-lt-of-le l n-fits), (is, tt)) (ks .0) C fm (known .0) E (copy (place c₂ []) ∷ copy (place (i-at ps) []) ∷ copy (place (s-at us ts ps) []) ∷ [])
         (λ _ _. and-then ! (load ! (found ! (fin .1 .1 .0) (stop !)) (look ! 2 refl)) (and-then ! (load ! (found ! (li .is) (stop !)) (look ! 10 refl)) (and-then ! (load ! (found ! (ls .is) (stop !)) (look ! 11 refl)) (no-more !)))) (λ u v h′ e v-is. drop ! $
         -- [the record afterwards; the lent record; when it dies; nothing; what h answers from 4; the test from 6; r; the place; the step; room for a product and an element]
         land-last ! (found ! (fin .1 .0) (stop !)) (init ! 4 refl (nothing-lawful 𝓤 H A W .typed v _ v-is .0)) $ exec ! C Λ E _ _ $
@@ -84,3 +85,9 @@ module _ {T : Declared} (O : Parts T) (n-fits : O .list .n ≤ 2 ^ 64) (St : Hea
         rewrite ! 7 (λ (x : T .D). ‵ (partAt R fullShare x b o)) (sym (ap (λ z. if-called z (Y h i s) h) (fails (eqb (St .status s) 0) miss))) refl $ forget ! 5 refl $
         fjoin ! $ fjoin ! $ move ! (1 ∷ 2 ∷ 0 ∷ []) $ fjoin ! $ fjoin ! $ move ! (1 ∷ 2 ∷ 0 ∷ []) $ fjoin ! $ fjoin ! $ move ! (1 ∷ 2 ∷ 3 ∷ 4 ∷ 5 ∷ 6 ∷ []) $ rest));
   }
+
+abbrev pub passed-told : {T : Declared} (O : Parts T) → O .list .n ≤ 2 ^ 64 → (St : Headed (O .H)) {us ts : List Ty} (ps : List Arg) → (T .D → ℕ → St .D → T .D) → Change O St us ts ps
+passed-told O n-fits St {us} {ts} ps Y = passing O n-fits St us ts ps Y
+
+abbrev pub passed : {T : Declared} (O : Parts T) → O .list .n ≤ 2 ^ 64 → (St : Headed (O .H)) (ps : List Arg) → (T .D → ℕ → St .D → T .D) → Change O St [] [] ps
+passed O n-fits St ps Y = passing O n-fits St [] [] ps Y

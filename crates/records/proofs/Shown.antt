@@ -78,7 +78,7 @@ sights (number w ∷ ss) i = (i .0, sights ss (i .1))
 sights (shared w ∷ ss) i = (i .0, sights ss (i .1))
 sights (long w ∷ ss) i = (length (i .0), sights ss (i .1))
 
-sights-are : (ss : List Show) (d : Dens (args ss)) → ins (shown ss) (views ss d) ≡ sights ss (ins (args ss) d)
+pub sights-are : (ss : List Show) (d : Dens (args ss)) → ins (shown ss) (views ss d) ≡ sights ss (ins (args ss) d)
 sights-are [] d = refl
 sights-are (kept x ∷ ss) d = sights-are ss (d .1)
 sights-are (number w ∷ ss) d = λ i. (d .0, sights-are ss (d .1) i)
@@ -194,7 +194,7 @@ module _ {M : Type 1} (𝓤 : URA M) (H : Heap 𝓤) (A : Atoms 𝓤) (W : Given
   spare (shared w ∷ ss) κs qs = spare ss (κs .1) (qs .1)
   spare (long w ∷ ss) κs qs = sep 𝓤 (A .lft (κs .0) (qs .0)) (spare ss (κs .1) (qs .1))
 
-  abbrev Shown-toks : (ss : List Show) → Lfts (refs (args ss)) → Shares (refs (args ss)) → SProp 𝓤
+  abbrev pub Shown-toks : (ss : List Show) → Lfts (refs (args ss)) → Shares (refs (args ss)) → SProp 𝓤
   Shown-toks ss κs qs = toks 𝓤 A (refs (shown ss)) (lfts ss κs) (shares ss qs)
 
   pub lend-out : (ss : List Show) (κs : Lfts (refs (args ss))) (qs : Shares (refs (args ss))) → ent 𝓤 (toks 𝓤 A (refs (args ss)) κs qs) (sep 𝓤 (Shown-toks ss κs qs) (spare ss κs qs))
@@ -219,13 +219,13 @@ module _ {M : Type 1} (𝓤 : URA M) (H : Heap 𝓤) (A : Atoms 𝓤) (W : Given
 
   -- ---- what g asks for
   module _ (n n′ : ℕ) (κs : Lfts n) (ρ : Lfts n′) where
-    abbrev got : (ss : List Show) (z : Stand n (args ss)) (z′ : Stand n′ (shown ss)) → Denots (rows κs (args ss) z) → Denots (rows ρ (shown ss) z′)
+    abbrev pub got : (ss : List Show) (z : Stand n (args ss)) (z′ : Stand n′ (shown ss)) → Denots (rows κs (args ss) z) → Denots (rows ρ (shown ss) z′)
     got ss z z′ a = into ρ (shown ss) z′ (views ss (from κs (args ss) z a))
 
-    abbrev Had : (ss : List Show) (z : Stand n (args ss)) → Denots (rows κs (args ss) z) → Fml
+    abbrev pub Had : (ss : List Show) (z : Stand n (args ss)) → Denots (rows κs (args ss) z) → Fml
     Had ss z a = owns (rows κs (args ss) z) a (spelled κs (args ss) z a)
 
-    abbrev Asked : (ss : List Show) (z : Stand n (args ss)) (z′ : Stand n′ (shown ss)) → Denots (rows κs (args ss) z) → Fml
+    abbrev pub Asked : (ss : List Show) (z : Stand n (args ss)) (z′ : Stand n′ (shown ss)) → Denots (rows κs (args ss) z) → Fml
     Asked ss z z′ a = owns (rows ρ (shown ss) z′) (got ss z z′ a) (spelled ρ (shown ss) z′ (got ss z z′ a))
 
     pub shows-own : (ss : List Show) (z : Stand n (args ss)) (z′ : Stand n′ (shown ss)) → lfts ss (z .its κs) ≡ z′ .its ρ → (a : Denots (rows κs (args ss) z)) → Are (rows κs (args ss) z) (Ises (rows κs (args ss) z)) a (spelled κs (args ss) z a)

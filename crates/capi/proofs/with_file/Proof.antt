@@ -1,4 +1,4 @@
--- `with_file` meets its contract, by the law of a call on one file that is handed the record, over `answered` and `change`.
+-- `with_file` meets its contract, by the law of a call on one file that is told what the file says and is handed the record, over `claim_at`, `answered` and `change`.
 use mathlib.Core.Path.{_≡_, ap, sym, subst, _∙_}
 use mathlib.Core.Bool.{false}
 use mathlib.Core.List.{List, [], _∷_}
@@ -6,9 +6,10 @@ use native.Mathlib.Omega.{arith}
 use lib.Dec.{eqb}
 use lib.ListN.{getD}
 use mir.Syntax.{w8, w32, w64}
-use Rattle.walks.proofs.Args.{Arg, num, slice, slice-mut, ref-mut}
-use Rattle.walks.proofs.Changed.{spec}
-use Rattle.records.proofs.Passed.{passed}
+use Rattle.walks.proofs.Args.{num, slice-mut, ref-mut}
+use Rattle.records.proofs.Passed.{passed-told}
+use Rattle.records.proofs.Shown.{Show, args, kept, number, shared}
+use Rattle.records.proofs.Told.{spec}
 use Rattle.files.specs.File.{noFile}
 use Rattle.layoutreturn.specs.LayoutReturn.{outcomeBy, replyBy, fileAfter}
 use Rattle.layoutreturn.specs.declared.Outcome.{Outcome}
@@ -16,14 +17,17 @@ use Rattle.layoutreturn.proofs.Refusing.{refused-leaves}
 use Rattle.recovery.specs.declared.returns.Returned.{Returned}
 use Rattle.recovery.proofs.Returning.{returnedAt}
 use Rattle.capi.specs.Place.{soughtIn}
+use Rattle.capi.specs.Claims.{claimIn}
 use Rattle.capi.specs.Lent.{columnOf}
 use Rattle.capi.specs.LayoutReturn.{bodyRead, returnedIn, stateidFor, changedFiles}
-use Rattle.capi.proofs.Types.{outcome}
+use Rattle.capi.proofs.Types.{claim, outcome}
 use Rattle.capi.proofs.Fields.{files, head, parts}
 use Rattle.capi.proofs.Parting.{returned-so, sought-so, sought-stateid}
 use Rattle.capi.proofs.OnFile.{sought}
 use Rattle.capi.proofs.position.Symbol as p
 use Rattle.capi.proofs.position.Met as p-thm
+use Rattle.capi.proofs.claim_at.Symbol as q
+use Rattle.capi.proofs.claim_at.Met as q-thm
 use Rattle.capi.proofs.answered.Symbol as g
 use Rattle.capi.proofs.answered.Met as g-thm
 use Rattle.capi.proofs.change.Symbol as h
@@ -32,14 +36,14 @@ use Rattle.capi.proofs.with_file.Key.{name as #f}
 use Rattle.capi.proofs.with_file.Statement as stated
 use Rattle.capi.proofs.with_file.Code as code
 
--- the arguments after the file's number: the body's length, client, request, reply, both columns of totals and both masks
-abbrev args : List Arg
-args = num w64 ∷ num w64 ∷ slice w8 ∷ slice-mut w8 ∷ slice-mut w64 ∷ slice-mut w64 ∷ ref-mut w32 ∷ ref-mut w32 ∷ []
+-- the arguments after the file's number, of which `claim_at` is shown client and request: the body's length, client, request, reply, both columns of totals and both masks
+abbrev shows : List Show
+shows = kept (num w64) ∷ number w64 ∷ shared w8 ∷ kept (slice-mut w8) ∷ kept (slice-mut w64) ∷ kept (slice-mut w64) ∷ kept (ref-mut w32) ∷ kept (ref-mut w32) ∷ []
 
 pub with-file-spec : {M : Type 1} → stated.statement M
 unfolding code.routine files head
 with-file-spec 𝓤 H 𝓜 𝓖 𝓡 =
-    spec parts outcome args (passed parts (omega arith) outcome args changedFiles) w64 sought
+    spec parts claim w64 shows (λ r i x. claimIn r i (x .0) (x .1 .0) (x .1 .1 .0)) outcome (passed-told parts (omega arith) outcome (args shows) changedFiles) sought
     (λ l i s o. (s ≡ outcomeBy (l .1 .0) (l .1 .1 .0) (i .1 .0) (i .1 .1 .0) (l .0) (bodyRead (l .1 .1 .0) (i .0))) × (o .1 .1 .1 .0 ≡ replyBy (s .status) (s .stateid) (i .1 .1 .1 .0))
     × (o .1 .1 .1 .1 .0 ≡ columnOf (s .totals .read .bytes) (i .1 .1 .1 .1 .0)) × (o .1 .1 .1 .1 .1 .0 ≡ columnOf (s .totals .written .bytes) (i .1 .1 .1 .1 .1 .0))
     × (o .1 .1 .1 .1 .1 .1 .0 ≡ s .totals .read .over) × (o .1 .1 .1 .1 .1 .1 .1 .0 ≡ s .totals .written .over))
@@ -61,5 +65,5 @@ with-file-spec 𝓤 H 𝓜 𝓖 𝓡 =
       e .4 ∙ ap (λ (a : Returned). a .totals .read .over) so,
       e .5 ∙ ap (λ (a : Returned). a .totals .written .over) so,
     ))
-    𝓤 H 𝓜 𝓖 𝓡 code.env #f (p.name, (g.name, (h.name, tt))) (p.routine, (g.routine, (h.routine, tt))) (code.calls-capi·position, (code.calls-capi·answered, (code.calls-capi·change, tt))) (code.unfolded 𝓤 H 𝓜 𝓡)
-    (p-thm.met 𝓤 H 𝓜 𝓖 𝓡, (g-thm.met 𝓤 H 𝓜 𝓖 𝓡, (h-thm.met 𝓤 H 𝓜 𝓖 𝓡, tt)))
+    𝓤 H 𝓜 𝓖 𝓡 code.env #f (p.name, (g.name, (q.name, (h.name, tt)))) (p.routine, (g.routine, (q.routine, (h.routine, tt)))) (code.calls-capi·position, (code.calls-capi·answered, (code.calls-capi·claim-at, (code.calls-capi·change, tt)))) (code.unfolded 𝓤 H 𝓜 𝓡)
+    (p-thm.met 𝓤 H 𝓜 𝓖 𝓡, (g-thm.met 𝓤 H 𝓜 𝓖 𝓡, (q-thm.met 𝓤 H 𝓜 𝓖 𝓡, (h-thm.met 𝓤 H 𝓜 𝓖 𝓡, tt))))
