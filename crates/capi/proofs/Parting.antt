@@ -20,11 +20,14 @@ use Rattle.wire.specs.declared.request.Kind.the-variants.{Anonymous, Bypass, Cu
 use Rattle.wire.specs.declared.request.Request.{Request}
 use Rattle.wire.specs.declared.request.Request.the-variants as request
 use Rattle.intents.specs.Intents.{isStated, statedIf}
-use Rattle.files.specs.File.{noFile, withIntents, changedFile, raisedFile}
+use Rattle.files.specs.File.{noFile, withIntents, blamedFile, raisedFile}
 use Rattle.files.specs.declared.file.File.{File}
 use Rattle.files.specs.declared.head.Head.{Head}
 use Rattle.layoutreturn.specs.LayoutReturn.{phaseOf, decided, decisionOf, outcomeBy, fileAfter}
+use Rattle.layoutreturn.specs.Settled.{withoutTotals, settledFile}
 use Rattle.layoutreturn.specs.declared.Outcome.{Outcome}
+use Rattle.layoutreturn.specs.declared.Settled.{Settled}
+use Rattle.layoutreturn.proofs.Settling.{file-so}
 use Rattle.layoutreturn.specs.declared.Decision.{Decision}
 use Rattle.layoutreturn.specs.declared.Decision.the-variants.{Answered, HandedOn, ReadBody, ReturnBody}
 use Rattle.recovery.specs.Record.{withFiles, withHead, placeIn, fileAt}
@@ -37,13 +40,13 @@ use Rattle.capi.proofs.Fields.{files}
 use Rattle.capi.proofs.Places.{sought-place}
 
 -- ---- the file is what it is by value; where the return is refused, it stays
-abbrev pub report : File → Outcome → File
-report f o = changedFile (o .change) f
+abbrev pub report : File → Settled → File
+report f o = blamedFile (o .marks) (o .blamed) f
 
-abbrev pub raises : Outcome → Bool
+abbrev pub raises : Settled → Bool
 raises o = isStated (o .stateid)
 
-pub changed-so : (r : Record) (i : ℕ) (o : Outcome) → length (r .files) ≡ 64 → amends files noFile report raises raisedEach r i o ≡ changedFiles r i o
+pub changed-so : (r : Record) (i : ℕ) (o : Settled) → length (r .files) ≡ 64 → amends files noFile report raises raisedEach r i o ≡ changedFiles r i o
 unfolding files raisedEach changedFiles raisedFile
 changed-so r i o long = by (ltb i 64) refl (raises o)
   where
@@ -60,16 +63,19 @@ changed-so r i o long = by (ltb i 64) refl (raises o)
         let l : 64 ≤ i = ltb-false i 64 e in
         sym (ap (λ fs. withFiles fs r) (set-out (r .files) i (cond z h g) (omega (arith, long, l))))
 
-abbrev pub after-change : Record → ℕ → Outcome → Record
+abbrev pub after-change : Record → ℕ → Settled → Record
 after-change r i o = withHead (o .head) (if-called (eqb (o .status) 0) (changedFiles r i o) r)
 
-pub returned-so : (r : Record) (i : ℕ) (o : Outcome) → (eqb (o .status) 0 ≡ false → fileAfter (getD (r .files) i noFile) o ≡ getD (r .files) i noFile) → after-change r i o ≡ returnedAt r i o .after
+pub returned-so : (r : Record) (i : ℕ) (o : Outcome) → (eqb (o .status) 0 ≡ false → fileAfter (getD (r .files) i noFile) o ≡ getD (r .files) i noFile) → after-change r i (withoutTotals o) ≡ returnedAt r i o .after
 unfolding changedFiles
 returned-so r i o stays = by (eqb (o .status) 0) refl
   where
-    by : (b : Bool) → eqb (o .status) 0 ≡ b → withHead (o .head) (if-called b (withFiles (set (r .files) i (fileAfter (getD (r .files) i noFile) o)) r) r) ≡ returnedAt r i o .after
-    by true e = refl
-    by false e = sym (ap (λ f. withHead (o .head) (withFiles (set (r .files) i f) r)) (stays e) ∙ ap (λ fs. withHead (o .head) (withFiles fs r)) (set-getD (r .files) i noFile))
+    f : File
+    f = getD (r .files) i noFile
+
+    by : (b : Bool) → eqb (o .status) 0 ≡ b → withHead (o .head) (if-called b (withFiles (set (r .files) i (settledFile f (withoutTotals o))) r) r) ≡ returnedAt r i o .after
+    by true e = ap (λ g. withHead (o .head) (withFiles (set (r .files) i g) r)) (file-so f o)
+    by false e = sym (ap (λ g. withHead (o .head) (withFiles (set (r .files) i g) r)) (stays e) ∙ ap (λ fs. withHead (o .head) (withFiles fs r)) (set-getD (r .files) i noFile))
 
 -- ---- at the place that is sought
 pub sought-so : (n len c : ℕ) (s : List ℕ) (r : Record) → length (r .files) ≡ 64 → returnedAt r (soughtIn n r) (outcomeIn n len c s r (getD (r .files) (soughtIn n r) noFile)) ≡ returnedIn n len c s r

@@ -1,25 +1,21 @@
 -- The record, its head, a file, an intent, a stateid, what a call on a record or a file answers, what open and close decide, and what a listing carries, as the laws of `walks` and `records` take them.
 use denote.Enum.Declared.{field as enum-field}
 use denote.Struct.Declared.{field}
-use denote.Struct.Field.{u64-field, usize-field, bool-field}
+use denote.Struct.Field.{u32-field, u64-field, usize-field, bool-field}
 use denote.Struct.Laws as LL
 use mathlib.Core.List.{[], _∷_}
 use Rattle.walks.proofs.Types.{Rec, Headed, Stored, stored-as}
 use Rattle.records.proofs.Listed as listed-by
 use Rattle.records.proofs.Lent.{Sited}
 use Rattle.records.proofs.Parted.{Parting}
-use Rattle.mirroring.proofs.blame.Change as C
-use Rattle.mirroring.proofs.blame.Change.Laws as C′
-use Rattle.mirroring.proofs.totals.Totals as U
-use Rattle.mirroring.proofs.totals.Totals.Laws as U′
 use Rattle.wire.proofs.stateid.Stateid as S
 use Rattle.wire.proofs.stateid.Stateid.Laws as S′
 use Rattle.intents.proofs.Intent as X
 use Rattle.intents.proofs.Intent.Laws as X′
-use Rattle.layoutreturn.specs.declared.Outcome.{Outcome}
+use Rattle.layoutreturn.specs.declared.Settled.{Settled}
 use Rattle.layoutreturn.proofs.Claim as K
 use Rattle.layoutreturn.proofs.Claim.Laws as K′
-use Rattle.layoutreturn.proofs.Outcome as O
+use Rattle.layoutreturn.proofs.Settled as O
 use Rattle.files.specs.declared.file.Closing.{Closing}
 use Rattle.files.specs.declared.file.FileAnswered.{FileAnswered}
 use Rattle.files.specs.declared.file.Opening.{Opening}
@@ -85,17 +81,17 @@ opening = record {
 abbrev pub closing : Sited heading
 closing = record { name = Q.the-type .name; D = Closing; others = []; status = λ s. s .status; head = λ s. s .head; at = λ s. s .at; rest = λ s. tt; one = Q.the-type .to-one; laws = tt; plain = tt }
 
-abbrev pub outcome : Headed heading
-outcome = record {
+abbrev pub settled : Headed heading
+settled = record {
   name = O.the-type .name;
-  D = Outcome;
-  others = field C.the-type ∷ field U.the-type ∷ u64-field ∷ field S.the-type ∷ [];
+  D = Settled;
+  others = bool-field ∷ u32-field ∷ u64-field ∷ field S.the-type ∷ [];
   status = λ o. o .status;
   head = λ o. o .head;
-  rest = λ o. (C.the-type .to (o .change), (U.the-type .to (o .totals), (o .client, (S.the-type .to (o .stateid), tt))));
+  rest = λ o. (o .marks, (o .blamed, (o .client, (S.the-type .to (o .stateid), tt))));
   one = O.the-type .to-one;
-  laws = (LL.field-laws C.the-type C′.the-laws C′.lowers, (LL.field-laws U.the-type U′.the-laws U′.lowers, (LL.u64-laws, (LL.field-laws S.the-type S′.the-laws S′.lowers, tt))));
-  plain = (LL.field-plain C.the-type C′.the-plain, (LL.field-plain U.the-type U′.the-plain, (LL.u64-plain, (LL.field-plain S.the-type S′.the-plain, tt))));
+  laws = (LL.bool-laws, (LL.u32-laws, (LL.u64-laws, (LL.field-laws S.the-type S′.the-laws S′.lowers, tt))));
+  plain = (LL.bool-plain, (LL.u32-plain, (LL.u64-plain, (LL.field-plain S.the-type S′.the-plain, tt))));
 }
 
 abbrev pub begun : Parting

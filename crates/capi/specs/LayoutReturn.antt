@@ -11,10 +11,12 @@ use Rattle.intents.specs.Intents.{statedIf}
 use Rattle.files.specs.File.{noFile, withIntents}
 use Rattle.files.specs.declared.file.File.{File}
 use Rattle.files.specs.declared.head.Head.{Head}
-use Rattle.layoutreturn.specs.LayoutReturn.{handedOnCode, outcomeBy, fileAfter}
+use Rattle.layoutreturn.specs.LayoutReturn.{handedOnCode, outcomeBy}
+use Rattle.layoutreturn.specs.Settled.{settledFile}
 use Rattle.layoutreturn.specs.declared.Decision.{Decision}
 use Rattle.layoutreturn.specs.declared.Decision.the-variants.{Answered, HandedOn, ReadBody, ReturnBody}
 use Rattle.layoutreturn.specs.declared.Outcome.{Outcome}
+use Rattle.layoutreturn.specs.declared.Settled.{Settled}
 use Rattle.recovery.specs.Record.{withFiles, fileAt, onPlace}
 use Rattle.recovery.specs.LayoutReturn.{returning, answeredBy}
 use Rattle.recovery.specs.declared.record.Record.{Record}
@@ -45,8 +47,8 @@ unfoldable pub stateidFor : FileNumber → ℕ → Client → Bytes → Record �
 stateidFor n len c s r = outcomeIn n len c s r (fileAt n r) .stateid
 
 -- ---- what a return that is accepted changes: the client's stateid in each intent of the file f, whatever its place; and the file at the place i
-unfoldable pub raisedEach : File → ℕ → Outcome → File
+unfoldable pub raisedEach : File → ℕ → Settled → File
 raisedEach f i o = withIntents (map (statedIf (o .client) (o .stateid)) (f .intents)) f
 
-unfoldable pub changedFiles : Record → ℕ → Outcome → Record
-changedFiles r i o = withFiles (set (r .files) i (fileAfter (getD (r .files) i noFile) o)) r
+unfoldable pub changedFiles : Record → ℕ → Settled → Record
+changedFiles r i o = withFiles (set (r .files) i (settledFile (getD (r .files) i noFile) o)) r

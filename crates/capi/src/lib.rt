@@ -7,6 +7,7 @@
 // then what changes more than one file, what changes one intent, and the calls in the paper's order.
 mod counts;
 mod listing;
+mod settle;
 mod totals;
 
 use files::file::Closing;
@@ -18,8 +19,7 @@ use files::head::Head;
 use intents::Intent;
 use layoutreturn::Claim;
 use layoutreturn::Decision;
-use layoutreturn::Outcome;
-use mirroring::totals::Totals;
+use layoutreturn::Settled;
 use recovery::record::Record;
 use wire::stateid::Stateid;
 ghost use mathlib.Core.Path.{_≡_};
@@ -157,16 +157,6 @@ fn begin(head: Head, request: &[u8], room: usize) -> Begun
     }
 }
 
-// What was decided where a file is wanted: a body is read in grace, and an ordinary return is one out of it.
-fn to_read(head: Head, len: usize) -> Decision
-    ensures { λ d. ⌜ d ≡ bodyRead head len ⌝ }
-{
-    if head.grace {
-        return Decision::ReadBody(len);
-    }
-    Decision::ReturnBody(len)
-}
-
 // A LAYOUTRETURN for which no file is wanted: its reply, and no totals. It gets the arguments that the call on a file gets.
 fn without_file(
     status: u32,
@@ -186,43 +176,8 @@ fn without_file(
         × (now («written_over» .exit) ≡ noTotals .written .over) ⌝ }
 {
     layoutreturn::reply(status, Stateid::none(), reply);
-    let t = Totals::none();
-    let none = t.read;
-    *read_over = totals::hand_out(none, read);
-    *written_over = totals::hand_out(none, written);
+    totals::hand_out_none(read, written, read_over, written_over);
     status
-}
-
-// LAYOUTRETURN on one file, but for the change, with its reply and its totals handed out: steps 5 to 7, or an ordinary return.
-fn answered(
-    f: File,
-    number: u64,
-    head: Head,
-    claim: Claim,
-    len: usize,
-    client: u64,
-    request: &[u8],
-    reply: &mut [u8],
-    read: &mut [u64],
-    written: &mut [u64],
-    read_over: &mut u32,
-    written_over: &mut u32,
-) -> Outcome
-    ensures { λ o. ⌜ (o ≡ outcomeBy number head client (now (request .entry)) f (bodyRead head len))
-        × (now (reply .exit) ≡ replyBy (o .status) (o .stateid) (now (reply .entry)))
-        × (now (read .exit) ≡ columnOf (o .totals .read .bytes) (now (read .entry)))
-        × (now (written .exit) ≡ columnOf (o .totals .written .bytes) (now (written .entry)))
-        × (now («read_over» .exit) ≡ o .totals .read .over)
-        × (now («written_over» .exit) ≡ o .totals .written .over) ⌝ }
-{
-    let d = to_read(head, len);
-    let o = layoutreturn::answer(d, f, number, head, client, request, reply);
-    let t = o.totals;
-    let r = t.read;
-    let w = t.written;
-    *read_over = totals::hand_out(r, read);
-    *written_over = totals::hand_out(w, written);
-    o
 }
 
 // Whether an `other` may not be a new stateid's; a file uses it where `at` is a place.
@@ -746,7 +701,7 @@ pub extern "C" fn sc_record_restart(r: &mut Record) -> u32
 }
 
 // Each of a file's intents, of which the client's have the raised stateid then; the file's place is not asked for.
-fn raise_each(f: &mut File, at: usize, s: Outcome)
+fn raise_each(f: &mut File, at: usize, s: Settled)
     ensures { λ _. ⌜ now (f .exit) ≡ raisedEach (now (f .entry)) at s ⌝ }
 {
     let mut i: usize = 0;
@@ -757,7 +712,7 @@ fn raise_each(f: &mut File, at: usize, s: Outcome)
 }
 
 // A return that is accepted, on its file's place: what the report says, and then the client's stateid, where it is raised.
-fn change(r: &mut Record, at: usize, s: Outcome)
+fn change(r: &mut Record, at: usize, s: Settled)
     ensures { λ _. ⌜ now (r .exit) ≡ changedFiles (now (r .entry)) at s ⌝ }
 {
     if at < 64 {
@@ -809,7 +764,7 @@ fn with_file(
 {
     let i = position(r, file);
     let c = claim_at(r, i, file, client, request);
-    let s = answered(
+    let s = settle::answered(
         r.files[i],
         file,
         r.head,

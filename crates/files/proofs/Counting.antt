@@ -18,7 +18,7 @@ use Rattle.wire.specs.declared.stateid.Stateid.{Stateid}
 use Rattle.intents.specs.Intents.{noIntent, intentOf, isFree, firstTaken, reclaimedIf, isStated, statedIf}
 use Rattle.intents.specs.declared.Intent.{Intent}
 use Rattle.files.specs.Counts.{standing, recounted, withCounts, movedBy}
-use Rattle.files.specs.File.{isFile, withMark, withMirrors, withIntents, isListed, isReady, standingOf, movedHead, countedHead, tallied, changedFile, raisedFile}
+use Rattle.files.specs.File.{isFile, withMark, withMirrors, withIntents, isListed, isReady, standingOf, movedHead, countedHead, tallied, changedFile, raisedFile, marksFile, markedIf, headMarked, headAfter}
 use Rattle.files.specs.declared.counts.Standing.{Standing}
 use Rattle.files.specs.declared.file.File.{File}
 use Rattle.files.specs.declared.head.Head.{Head}
@@ -71,32 +71,27 @@ only-used : (u : Bool) → cond u true false ≡ u
 only-used true = refl
 only-used false = refl
 
-pub told-marks : (x : Change) (f : File) → cond (x .unknown) true (x .failed) ≡ true → standingOf (changedFile x f) ≡ standing (f .used) (firstTaken (f .intents))
-unfolding changedFile
-told-marks x f e = by (x .unknown) (x .failed) e
-  where
-    by : (u v : Bool) → cond u true v ≡ true → standingOf (cond u (withMark true f) (cond v (withMark true (withMirrors (blamedAt (x .blamed) (f .mirrors)) f)) f)) ≡ standing (f .used) (firstTaken (f .intents))
-    by true v q = ap (λ l. standing l (firstTaken (f .intents))) (only-used (f .used))
-    by false true q = ap (λ l. standing l (firstTaken (f .intents))) (only-used (f .used))
-    by false false q = true-false (sym q)
+pub told-marks : (f : File) → standingOf (markedIf true f) ≡ standing (f .used) (firstTaken (f .intents))
+told-marks f = ap (λ l. standing l (firstTaken (f .intents))) (only-used (f .used))
 
 -- one that is on the lists already stays where it is
-pub told-listed : (x : Change) (f : File) (h : Head) → cond (x .unknown) true (x .failed) ≡ true → isListed f ≡ true → movedHead f (changedFile x f) h ≡ h
-told-listed x f h e l = ap (λ s. movedBy (standingOf f) s h) (told-marks x f e) ∙ by (f .used) (f .marked) l
+pub told-listed : (f : File) (h : Head) → isListed f ≡ true → movedHead f (markedIf true f) h ≡ h
+told-listed f h l = ap (λ s. movedBy (standingOf f) s h) (told-marks f) ∙ by (f .used) (f .marked) l
   where
     by : (u m : Bool) → cond u m false ≡ true → movedBy (standing (cond u m false) (firstTaken (f .intents))) (standing u (firstTaken (f .intents))) h ≡ h
     by true true q = stands true (firstTaken (f .intents)) h
     by true false q = true-false (sym q)
     by false m q = true-false (sym q)
 
-pub told-leaves : (x : Change) (f : File) → cond (x .unknown) true (x .failed) ≡ false → changedFile x f ≡ f
-unfolding changedFile
-told-leaves x f e = by (x .unknown) (x .failed) e
+-- of a report no more is told than whether it marks
+pub told-change : (x : Change) (f : File) (h : Head) → headMarked (marksFile x) h f ≡ headAfter x h f
+unfolding headMarked headAfter changedFile
+told-change x f h = by (x .unknown) (x .failed)
   where
-    by : (u v : Bool) → cond u true v ≡ false → cond u (withMark true f) (cond v (withMark true (withMirrors (blamedAt (x .blamed) (f .mirrors)) f)) f) ≡ f
-    by true v q = true-false q
-    by false true q = true-false q
-    by false false q = refl
+    by : (u v : Bool) → movedHead f (markedIf (cond u true v) f) h ≡ movedHead f (cond u (withMark true f) (cond v (withMark true (withMirrors (blamedAt (x .blamed) (f .mirrors)) f)) f)) h
+    by true v = refl
+    by false true = refl
+    by false false = refl
 
 -- ---- the file of a number is one
 pub is-used : (n : ℕ) (f : File) → isFile n f ≡ true → f .used ≡ true

@@ -190,7 +190,23 @@ changedFile x f = cond (x .unknown) (withMark true f) (cond (x .failed) (withMar
 unfoldable pub raisedFile : Client → Stateid → File → File
 raisedFile c t f = cond (isStated t) (withIntents (map (statedIf c t) (f .intents)) f) f
 
+-- the same by its parts: whether it marks the file, and the places that it blames
+abbrev pub marksFile : Change → Bool
+marksFile x = cond (x .unknown) true (x .failed)
+
+abbrev pub blamesPlaces : Change → ℕ
+blamesPlaces x = cond (x .unknown) 0 (cond (x .failed) (x .blamed) 0)
+
+abbrev pub markedIf : Bool → File → File
+markedIf b f = withMark (cond b true (f .marked)) f
+
+abbrev pub blamedFile : Bool → ℕ → File → File
+blamedFile b places f = markedIf b (withMirrors (blamedAt places (f .mirrors)) f)
+
 -- what stands beside the files then
+unfoldable pub headMarked : Bool → Head → File → Head
+headMarked b h f = movedHead f (markedIf b f) h
+
 unfoldable pub headAfter : Change → Head → File → Head
 headAfter x h f = movedHead f (changedFile x f) h
 

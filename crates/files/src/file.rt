@@ -13,7 +13,7 @@ use wire::stateid::Stateid;
 ghost use mathlib.Core.Path.{_≡_};
 ghost use mathlib.Core.Bool.{true, cond};
 ghost use Rattle.intents.specs.Intents.{intentOf};
-ghost use Rattle.files.specs.File.{noFile, blankFile, fileOf, isFile, isVacant, fileAnswered, unplaced, openedBy, openedFile, reclaimedFile, closedBy, closedFile, repairedFile, forgettable, proxyAddedFile, proxyRemovedFile, statedFile, usesStateid, raisedFile, restartedFile, endedFile, isListed, isReady, sourceOf, changedFile, standingOf, countedHead, headAfter};
+ghost use Rattle.files.specs.File.{noFile, blankFile, fileOf, isFile, isVacant, fileAnswered, unplaced, openedBy, openedFile, reclaimedFile, closedBy, closedFile, repairedFile, forgettable, proxyAddedFile, proxyRemovedFile, statedFile, usesStateid, raisedFile, restartedFile, endedFile, isListed, isReady, sourceOf, blamedFile, changedFile, standingOf, countedHead, headMarked, headAfter, marksFile, blamesPlaces};
 
 // The wide fields stand first. A place of the record is a file's if `used`.
 #[repr(C)]
@@ -401,14 +401,14 @@ impl File {
         self
     }
 
-    // The file once a report has changed it: step 7 of a LAYOUTRETURN. By its fields, as after a restart.
-    pub fn apply(self, change: Change) -> File
-        ensures { λ r. ⌜ r ≡ changedFile change self ⌝ }
+    // The file once it is marked, if it is, and the mirrors of a set of places are blamed. By its fields, as after a restart.
+    pub fn blame(self, marks: bool, places: u32) -> File
+        ensures { λ r. ⌜ r ≡ blamedFile marks places self ⌝ }
     {
         let old = self.mirrors;
-        let ms = mirroring::mirrors::with_blame(old, blamed_by(change));
+        let ms = mirroring::mirrors::with_blame(old, places);
         let xs = self.intents;
-        let marked = marked_if(marks(change), self.marked);
+        let marked = marked_if(marks, self.marked);
         File {
             number: self.number,
             mirrors: ms,
@@ -418,11 +418,18 @@ impl File {
         }
     }
 
-    // What stands beside the files then: a report that marks a file enters it on the lists, unless it is there.
-    pub fn head_after(self, head: Head, change: Change) -> Head
-        ensures { λ r. ⌜ r ≡ headAfter change head self ⌝ }
+    // The file once a report has changed it: step 7 of a LAYOUTRETURN.
+    pub fn apply(self, change: Change) -> File
+        ensures { λ r. ⌜ r ≡ changedFile change self ⌝ }
     {
-        if marks(change) {
+        self.blame(marks(change), blamed_by(change))
+    }
+
+    // What stands beside the files once the file is marked, if it is: it is entered on the lists, unless it is there.
+    pub fn head_marked(self, head: Head, marks: bool) -> Head
+        ensures { λ r. ⌜ r ≡ headMarked marks head self ⌝ }
+    {
+        if marks {
             if self.listed() {
                 return head;
             }
@@ -432,6 +439,13 @@ impl File {
             return head.moved(was, is);
         }
         head
+    }
+
+    // What stands beside the files once a report has changed the file.
+    pub fn head_after(self, head: Head, change: Change) -> Head
+        ensures { λ r. ⌜ r ≡ headAfter change head self ⌝ }
+    {
+        self.head_marked(head, marks(change))
     }
 
     // The file after a restart: nobody has reclaimed. By its fields, so that the compiler copies nothing that stays.
@@ -516,14 +530,14 @@ fn marked_if(anew: bool, marked: bool) -> bool
 
 // Whether a report marks a file.
 fn marks(change: Change) -> bool
-    ensures { λ r. ⌜ r ≡ cond (change .unknown) true (change .failed) ⌝ }
+    ensures { λ r. ⌜ r ≡ marksFile change ⌝ }
 {
     change.unknown || change.failed
 }
 
 // The places that a report blames: one that names an unknown device blames none.
 fn blamed_by(change: Change) -> u32
-    ensures { λ r. ⌜ r ≡ cond (change .unknown) 0 (cond (change .failed) (change .blamed) 0) ⌝ }
+    ensures { λ r. ⌜ r ≡ blamesPlaces change ⌝ }
 {
     if change.unknown {
         return 0;

@@ -1,2 +1,3 @@
 pub mod LayoutReturn
 pub mod OneWalk
+pub mod Settled

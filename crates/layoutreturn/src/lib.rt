@@ -14,9 +14,10 @@ use wire::stateid::Stateid;
 ghost use mathlib.Core.Path.{_≡_};
 ghost use Rattle.reports.specs.Report.{reportOf};
 ghost use Rattle.intents.specs.Intents.{isStated, statedIf};
-ghost use Rattle.files.specs.File.{changedFile};
+ghost use Rattle.files.specs.File.{blamedFile};
 ghost use Rattle.layoutreturn.specs.LayoutReturn.{outOfGrace, phaseOf, decisionOf, outcomeWith, byAge, byStateid, outcomeBy, replyBy, fileAfter};
 ghost use Rattle.layoutreturn.specs.OneWalk.{readsBody, isOrdinary, lengthOf, unreadStatus, lateOn, anonymousClaim, ordinaryClaim, claimBy, takenBy, assessedBy, raisedIf};
+ghost use Rattle.layoutreturn.specs.Settled.{refusedAs, acceptedAs};
 
 // What is known of a request before any file is looked at.
 pub enum Decision {
@@ -346,22 +347,70 @@ pub fn apply(f: File, o: Outcome) -> File
     g.apply(change)
 }
 
-// The file afterwards, where it lies: as the report changes it; whether the client's stateid is raised; and each of the file's intents where it is.
-pub fn reported(f: File, o: Outcome) -> File
-    ensures { λ r. ⌜ r ≡ changedFile (o .change) f ⌝ }
-{
-    let change = o.change;
-    f.apply(change)
+// What an answer says but for the totals, which C is handed apart: its change is whether the file is marked, and the set of the places that are blamed.
+pub struct Settled {
+    pub status: u32,
+    pub head: Head,
+    pub marks: bool,
+    pub blamed: u32,
+    pub client: u64,
+    pub stateid: Stateid,
 }
 
-pub fn raises(o: Outcome) -> bool
+impl Settled {
+    // A refusal: nothing changes.
+    pub fn refused(status: u32, head: Head, client: u64) -> Settled
+        ensures { λ r. ⌜ r ≡ refusedAs status head client ⌝ }
+    {
+        let none = Stateid::none();
+        Settled {
+            status,
+            head,
+            marks: false,
+            blamed: 0,
+            client,
+            stateid: none,
+        }
+    }
+
+    // A return that is accepted on the file.
+    pub fn accepted(
+        f: File,
+        marks: bool,
+        blamed: u32,
+        head: Head,
+        client: u64,
+        t: Stateid,
+    ) -> Settled
+        ensures { λ r. ⌜ r ≡ acceptedAs marks blamed head client t f ⌝ }
+    {
+        let next = f.head_marked(head, marks);
+        Settled {
+            status: 0,
+            head: next,
+            marks,
+            blamed,
+            client,
+            stateid: t,
+        }
+    }
+}
+
+// The file afterwards, where it lies: as the report changes it; whether the client's stateid is raised; and each of the file's intents where it is.
+pub fn reported(f: File, o: Settled) -> File
+    ensures { λ r. ⌜ r ≡ blamedFile (o .marks) (o .blamed) f ⌝ }
+{
+    f.blame(o.marks, o.blamed)
+}
+
+pub fn raises(o: Settled) -> bool
     ensures { λ r. ⌜ r ≡ isStated (o .stateid) ⌝ }
 {
     let t = o.stateid;
     intents::stated(t)
 }
 
-pub fn raised(x: Intent, o: Outcome) -> Intent
+pub fn raised(x: Intent, o: Settled) -> Intent
     ensures { λ r. ⌜ r ≡ statedIf (o .client) (o .stateid) x ⌝ }
 {
     let t = o.stateid;

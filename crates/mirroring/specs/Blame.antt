@@ -14,6 +14,7 @@ use Rattle.mirroring.specs.TotalsSteps.{mirrorTotals}
 use Rattle.mirroring.specs.declared.mirrors.Mirror.{Mirror}
 use Rattle.mirroring.specs.declared.blame.Change.{Change}
 use Rattle.mirroring.specs.declared.blame.Assessment.{Assessment}
+use Rattle.mirroring.specs.declared.blame.Errors.{Errors}
 use Rattle.mirroring.specs.declared.blame.Tallied.{Tallied}
 use Rattle.mirroring.specs.declared.totals.Totals.{Totals}
 use Rattle.places.specs.declared.Found.{Found}
@@ -77,6 +78,10 @@ unfoldable pub assessmentOf : List Mirror → Report → Assessment
 assessmentOf ms p = withTotals (cond (errorsAssessed ms p .change .unknown) noTotals (mirrorTotals ms p)) (errorsAssessed ms p)
 
 -- ---- the same by its two halves
+-- what the device errors change
+abbrev pub changeIn : Errors → Change
+changeIn e = record { unknown = e .unknown; failed = e .failed; blamed = e .blamed }
+
 -- the statistics records' status and totals, which are none where they do not count
 unfoldable pub talliedOf : List Mirror → Bool → Report → Tallied
 talliedOf ms b (Whole xs ys) = record { status = 0; totals = cond b (mirrorTotals ms (Whole [] ys)) noTotals }

@@ -16,7 +16,7 @@ ghost use lib.ListN.{length, drop};
 ghost use Rattle.reports.specs.Report.{reportOf, over};
 ghost use Rattle.reports.specs.ReportSteps.{errorsIn};
 ghost use Rattle.reports.specs.StatisticsSteps.{statisticsFrom};
-ghost use Rattle.mirroring.specs.Blame.{noChange, blaming, statusOnly, changed, changedOf, assessmentOf, talliedOf, settledOf};
+ghost use Rattle.mirroring.specs.Blame.{noChange, blaming, statusOnly, changed, changedOf, changeIn, assessmentOf, talliedOf, settledOf};
 
 // What a report changes in a file: whether a device was named that is neither a mirror nor the proxy; whether a device error of one of these had a
 // status other than 0; and the set of the places that such a device error blames.
@@ -58,11 +58,25 @@ impl Change {
             blamed: 0,
         }
     }
+}
+
+impl Errors {
+    // No device error yet.
+    fn none(next: Cursor) -> Errors
+        ensures { λ r. ⌜ changeIn r ≡ noChange ⌝ }
+    {
+        Errors {
+            unknown: false,
+            failed: false,
+            blamed: 0,
+            next,
+        }
+    }
 
     // The mirror at a place is blamed too.
-    pub(crate) fn blame(mut self, at: usize) -> Change
+    pub(crate) fn blame(mut self, at: usize) -> Errors
         requires { ⌜ at < 32 ⌝ }
-        ensures { λ r. ⌜ r ≡ blaming at self ⌝ }
+        ensures { λ r. ⌜ changeIn r ≡ blaming at (changeIn self) ⌝ }
     {
         self.blamed = masks::with(self.blamed, at as u32);
         self.failed = true;
@@ -70,8 +84,8 @@ impl Change {
     }
 
     // One device error more.
-    fn device_error(mut self, mirrors: [Mirror; PLACES], high: u64, low: u64, status: u32) -> Change
-        ensures { λ r. ⌜ r ≡ changedOf mirrors self high low status ⌝ }
+    fn device_error(mut self, mirrors: [Mirror; PLACES], high: u64, low: u64, status: u32) -> Errors
+        ensures { λ r. ⌜ changeIn r ≡ changedOf mirrors (changeIn self) high low status ⌝ }
     {
         let Found::At(i) = place(mirrors, high, low) else {
             self.unknown = true;
@@ -99,16 +113,17 @@ impl Assessment {
     }
 }
 
-// The device errors of one record: `n` of them from `from` on, which are all there.
+// The device errors of one record: `n` of them from `from` on, which are all there. What they say goes with a cursor: a change alone is a word, which the compiler
+// would take apart and put together at each of them.
 fn record_errors(
-    so_far: Change,
+    so_far: Errors,
     mirrors: [Mirror; PLACES],
     body: &[u8],
     from: usize,
     n: u32,
-) -> Change
+) -> Errors
     requires { ⌜ from + 24 * n ≤ length (now body) ⌝ }
-    ensures { λ r. ⌜ r ≡ over (changed mirrors) «so_far» (errorsIn n (drop from (now (body .entry)))) ⌝ }
+    ensures { λ r. ⌜ changeIn r ≡ over (changed mirrors) (changeIn «so_far») (errorsIn n (drop from (now (body .entry)))) ⌝ }
 {
     let mut x = so_far;
     let mut at = from;
@@ -135,10 +150,10 @@ fn record_errors(
 
 // What the device errors of a report's body say.
 pub fn blamed(mirrors: [Mirror; PLACES], body: &[u8]) -> Errors
-    ensures { λ r. ⌜ settledOf mirrors (record { unknown = r .unknown; failed = r .failed; blamed = r .blamed }) (statisticsFrom (now (body .entry)) (r .next)) ≡ assessmentOf mirrors (reportOf (now (body .entry))) ⌝ }
+    ensures { λ r. ⌜ settledOf mirrors (changeIn r) (statisticsFrom (now (body .entry)) (r .next)) ≡ assessmentOf mirrors (reportOf (now (body .entry))) ⌝ }
 {
-    let mut x = Change::none();
     let mut c = reports::report::start(body);
+    let mut x = Errors::none(c);
     loop {
         match reports::report::next(body, c) {
             Entry::Record { at, devices, next } => {

@@ -1,11 +1,10 @@
 -- The reply is what `reply` promises of no stateid; no totals are handed out.
 use mathlib.Core.Path.{refl, ap, _∙_}
-use borrow.Author.Needs.{needs}
 use denote.Ref.{now}
 use Rattle.wire.specs.declared.stateid.Stateid.{Stateid}
-use Rattle.mirroring.specs.declared.totals.Totals.{Totals}
 use Rattle.layoutreturn.specs.LayoutReturn.{replyBy}
-use Rattle.capi.specs.Lent.{columnOf}
+use Rattle.capi.proofs.Settling.{none-over}
+use borrow.Author.Needs.{needs}
 use Rattle.capi.proofs.without_file.Statement.{statement}
 use Rattle.capi.proofs.without_file.Tie as tie
 
@@ -15,14 +14,8 @@ none-requires c κs = search needs
 reply-requires : tie.Need-reply-requires
 reply-requires c κs = search needs
 
-none-requires-2 : tie.Need-none-requires-2
-none-requires-2 c κs = search needs
-
-hand-out-requires : tie.Need-hand-out-requires
-hand-out-requires c κs = search needs
-
-hand-out-requires-2 : tie.Need-hand-out-requires-2
-hand-out-requires-2 c κs = search needs
+hand-out-none-requires : tie.Need-hand-out-none-requires
+hand-out-none-requires c κs = search needs
 
 same-length : tie.Need-same-length
 same-length c = search needs
@@ -34,14 +27,19 @@ same-length-3 : tie.Need-same-length-3
 same-length-3 c = search needs
 
 returns : tie.Need-returns
-returns c = (
-  refl,
-  c .before .before .before .before .before .before .before .before .before .before .before .before .reply .ensures ∙ ap (λ (t : Stateid). replyBy (c .before .before .before .before .before .before .before .before .before .before .before .before .before .before .before .before .before .before .before .args .status) t (now (c .before .before .before .before .before .before .before .before .before .before .before .before .before .before .before .before .before .before .before .args .reply))) (c .before .before .before .before .before .before .before .before .before .before .before .before .before .before .none .ensures),
-  c .before .before .before .before .before .before .hand-out .ensures .1 ∙ ap (λ (t : Totals). columnOf (t .read .bytes) (now (c .before .before .before .before .before .before .before .before .before .before .before .before .before .before .before .before .before .before .before .args .read))) (c .before .before .before .before .before .before .before .before .before .none2 .ensures),
-  c .before .before .hand-out2 .ensures .1 ∙ ap (λ (t : Totals). columnOf (t .read .bytes) (now (c .before .before .before .before .before .before .before .before .before .before .before .before .before .before .before .before .before .before .before .args .written))) (c .before .before .before .before .before .before .before .before .before .none2 .ensures),
-  c .before .before .before .before .before .before .hand-out .ensures .0 ∙ ap (λ (t : Totals). t .read .over) (c .before .before .before .before .before .before .before .before .before .none2 .ensures),
-  c .before .before .hand-out2 .ensures .0 ∙ ap (λ (t : Totals). t .read .over) (c .before .before .before .before .before .before .before .before .before .none2 .ensures),
-)
+returns c =
+    let a = c .before .before .before .before .before .before .before .before .before .before .before .before .before .before .before .before .before .before .args in
+    let h = c .before .before .before .before .hand-out-none .ensures in
+    (refl, c .before .before .before .before .before .before .before .before .before .before .before .reply .ensures ∙ ap (λ (t : Stateid). replyBy (a .status) t (now (a .reply))) (c .before .before .before .before .before .before .before .before .before .before .before .before .before .none .ensures), h .0, h .1, h .2 ∙ none-over, h .3 ∙ none-over)
 
 pub without-file-spec : {M : Type 1} → statement M
-without-file-spec = tie.close (tie.spec none-requires reply-requires none-requires-2 hand-out-requires hand-out-requires-2 same-length same-length-2 same-length-3 returns)
+without-file-spec =
+    tie.close
+    (tie.spec
+    none-requires
+    reply-requires
+    hand-out-none-requires
+    same-length
+    same-length-2
+    same-length-3
+    returns)

@@ -7,14 +7,14 @@ use Rattle.reports.specs.Report.{over}
 use Rattle.reports.specs.ReportSteps.{errorIn, errorsIn}
 use Rattle.reports.proofs.Reports.{device-read-as, device-missing, row-more, row-done}
 use Rattle.mirroring.proofs.Assessing.{change-given}
-use Rattle.mirroring.specs.Blame.{changed}
+use Rattle.mirroring.specs.Blame.{changed, changeIn}
 use borrow.Author.Needs.{needs}
 use Rattle.mirroring.proofs.blame.record_errors.Statement.{statement}
 use Rattle.mirroring.proofs.blame.record_errors.Tie as tie
 
 abbrev Inv-loop : tie.InvT-loop
 Inv-loop mirrors body from n x₀ at₀ left₀ x at left =
-    (at + 24 * left ≤ length body) × (over (changed mirrors) x (errorsIn left (drop at body)) ≡ over (changed mirrors) x₀ (errorsIn n (drop from body)))
+    (at + 24 * left ≤ length body) × (over (changed mirrors) (changeIn x) (errorsIn left (drop at body)) ≡ over (changed mirrors) (changeIn x₀) (errorsIn n (drop from body)))
 
 abbrev μ-loop : tie.MeasureT-loop
 μ-loop mirrors body from n x₀ at₀ left₀ x at left = left
@@ -43,8 +43,8 @@ loop-again c =
     let l = c .before .before .before .before .before .before .loop in
     let r = device-read-as (a .body .now) (l .at) (sym (c .before .before .before .before .device .ensures) ∙ c .before .before .high .given .1) in (
       omega arith,
-      rw (c .device-error .ensures ∙ change-given (a .mirrors) (l .x) (r .given), r .past)
-          (row-more (changed (a .mirrors)) (l .x) (a .body .now) (l .at) (l .left) (l .inv .1) (λ h. omega arith)),
+      rw (c .device-error .ensures ∙ change-given (a .mirrors) (changeIn (l .x)) (r .given), r .past)
+          (row-more (changed (a .mirrors)) (changeIn (l .x)) (a .body .now) (l .at) (l .left) (l .inv .1) (λ h. omega arith)),
     )
 
 enum-told : tie.Need-enum-told Inv-loop μ-loop
@@ -57,7 +57,7 @@ returns-2 : tie.Need-returns-2 Inv-loop μ-loop
 returns-2 c =
     let a = c .before .before .before .args in
     let l = c .before .loop in
-    row-done (changed (a .mirrors)) (l .x) (a .body .now) (l .at) (l .left) (l .inv .1) (omega arith)
+    row-done (changed (a .mirrors)) (changeIn (l .x)) (a .body .now) (l .at) (l .left) (l .inv .1) (omega arith)
 
 pub record-errors-spec : {M : Type 1} → statement M
 record-errors-spec =

@@ -8,8 +8,8 @@ use borrow.Author.Tests.{eq-eqb, ne-eqb}
 use Rattle.mirroring.specs.Blame.{changedOf}
 use native.Mathlib.Omega.{arith}
 use borrow.Author.Needs.{needs}
-use Rattle.mirroring.proofs.blame.Change.device_error.Statement.{statement}
-use Rattle.mirroring.proofs.blame.Change.device_error.Tie as tie
+use Rattle.mirroring.proofs.blame.Errors.device_error.Statement.{statement}
+use Rattle.mirroring.proofs.blame.Errors.device_error.Tie as tie
 
 long : (c : tie.Start) → length (c .args .mirrors) ≡ 5
 long c = search (mapped-length, needs)

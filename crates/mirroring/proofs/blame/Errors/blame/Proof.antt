@@ -1,8 +1,8 @@
 -- By the set that `masks::with` answers.
 use native.Mathlib.Omega.{arith}
 use borrow.Author.Needs.{needs}
-use Rattle.mirroring.proofs.blame.Change.blame.Statement.{statement}
-use Rattle.mirroring.proofs.blame.Change.blame.Tie as tie
+use Rattle.mirroring.proofs.blame.Errors.blame.Statement.{statement}
+use Rattle.mirroring.proofs.blame.Errors.blame.Tie as tie
 
 cast-with : tie.Need-cast-with
 cast-with c = omega arith
