@@ -3,7 +3,7 @@
 // changes both in their place, open and close one intent alone, and LAYOUTRETURN looks one up only where it is wanted; fresh, register, forget, restart and the end of grace move or change the files where they lie;
 // the two lists, and the set-up of a stateid before its own file, read each file where it lies.
 // A function that takes a reference has the form that the law of `walks` or `records` which proves it is stated for: each test is a function of values,
-// a loop is left by `break`, and a field is reached anew each time. First a file's place, then the functions by value that `recovery` and `files` lack,
+// a loop is left by `break`, and a field is reached anew each time. First a file's place, then the functions by value that `recovery` and `files` lack (LAYOUTRETURN's on one file stand in `settle`),
 // then what changes more than one file, what changes one intent, and the calls in the paper's order.
 mod counts;
 mod listing;

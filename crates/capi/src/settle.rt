@@ -136,7 +136,8 @@ fn accepted(
     Settled::accepted(f, marks, blamed, head, client, none)
 }
 
-// LAYOUTRETURN on one file, but for the change, with its reply and its totals handed out: steps 5 to 7, or an ordinary return.
+// LAYOUTRETURN on one file, but for the change, with its reply and its totals handed out: steps 5 to 7, or an ordinary return. The claim was made of the file's number, which is not
+// asked again.
 pub(crate) fn answered(
     f: File,
     number: u64,
