@@ -46,17 +46,19 @@ fn tally_out(
     mirrors: [Mirror; PLACES],
     body: &[u8],
     from: Cursor,
-    counts: bool,
+    unknown: bool,
+    late: u32,
+    head: Head,
     read: &mut [u64],
     written: &mut [u64],
     read_over: &mut u32,
     written_over: &mut u32,
 ) -> u32
-    ensures { λ s. ⌜ (s ≡ talliedOf mirrors counts (statisticsFrom (now (body .entry)) from) .status)
-        × (now (read .exit) ≡ columnOf (talliedOf mirrors counts (statisticsFrom (now (body .entry)) from) .totals .read .bytes) (now (read .entry)))
-        × (now (written .exit) ≡ columnOf (talliedOf mirrors counts (statisticsFrom (now (body .entry)) from) .totals .written .bytes) (now (written .entry)))
-        × (now («read_over» .exit) ≡ talliedOf mirrors counts (statisticsFrom (now (body .entry)) from) .totals .read .over)
-        × (now («written_over» .exit) ≡ talliedOf mirrors counts (statisticsFrom (now (body .entry)) from) .totals .written .over) ⌝ }
+    ensures { λ s. ⌜ (s ≡ talliedOf mirrors (countsIf unknown late (isSilent head (not (head .grace)))) (statisticsFrom (now (body .entry)) from) .status)
+        × (now (read .exit) ≡ columnOf (talliedOf mirrors (countsIf unknown late (isSilent head (not (head .grace)))) (statisticsFrom (now (body .entry)) from) .totals .read .bytes) (now (read .entry)))
+        × (now (written .exit) ≡ columnOf (talliedOf mirrors (countsIf unknown late (isSilent head (not (head .grace)))) (statisticsFrom (now (body .entry)) from) .totals .written .bytes) (now (written .entry)))
+        × (now («read_over» .exit) ≡ talliedOf mirrors (countsIf unknown late (isSilent head (not (head .grace)))) (statisticsFrom (now (body .entry)) from) .totals .read .over)
+        × (now («written_over» .exit) ≡ talliedOf mirrors (countsIf unknown late (isSilent head (not (head .grace)))) (statisticsFrom (now (body .entry)) from) .totals .written .over) ⌝ }
 {
     if from.left == 0 {
         totals::hand_out_none(read, written, read_over, written_over);
@@ -65,6 +67,7 @@ fn tally_out(
         }
         return 0;
     }
+    let counts = counting(unknown, late, silent_in(head));
     let x = mirroring::blame::tally(mirrors, body, from, counts);
     let t = x.totals;
     let r = t.read;
@@ -113,27 +116,32 @@ fn blaming(unknown: bool, failed: bool, blamed: u32, silent: bool) -> u32
     0
 }
 
-// A return that is accepted: its reply, with the client's stateid raised where it is ordinary, and what it changes.
+// A return that is accepted: its reply, with the client's stateid raised where it is ordinary, and what its device errors change.
 fn accepted(
     f: File,
     own: Stateid,
-    marks: bool,
+    unknown: bool,
+    failed: bool,
     blamed: u32,
     head: Head,
     client: u64,
-    returning: bool,
     reply: &mut [u8],
 ) -> Settled
-    ensures { λ r. ⌜ (r ≡ acceptedAs marks blamed head client (raisedAs own returning) f) × (now (reply .exit) ≡ replyBy 0 (raisedAs own returning) (now (reply .entry))) ⌝ }
+    ensures { λ r. ⌜ (r ≡ acceptedAs (marksFile (silenced (isSilent head (not (head .grace))) (record { unknown = unknown; failed = failed; blamed = blamed }))) (blamesPlaces (silenced (isSilent head (not (head .grace))) (record { unknown = unknown; failed = failed; blamed = blamed }))) head client (raisedAs own (not (head .grace))) f)
+        × (now (reply .exit) ≡ replyBy 0 (raisedAs own (not (head .grace))) (now (reply .entry))) ⌝ }
 {
-    if returning {
-        let t = own.raise();
-        layoutreturn::reply(0, t, reply);
-        return Settled::accepted(f, marks, blamed, head, client, t);
+    if head.grace {
+        let none = Stateid::none();
+        layoutreturn::reply(0, none, reply);
+        let marks = marking(unknown, failed, blamed, false);
+        let places = blaming(unknown, failed, blamed, false);
+        return Settled::accepted(f, marks, places, head, client, none);
     }
-    let none = Stateid::none();
-    layoutreturn::reply(0, none, reply);
-    Settled::accepted(f, marks, blamed, head, client, none)
+    let t = own.raise();
+    layoutreturn::reply(0, t, reply);
+    let marks = marking(unknown, failed, blamed, head.old);
+    let places = blaming(unknown, failed, blamed, head.old);
+    Settled::accepted(f, marks, places, head, client, t)
 }
 
 // LAYOUTRETURN on one file, but for the change, with its reply and its totals handed out: steps 5 to 7, or an ordinary return. The claim was made of the file's number, which is not
@@ -166,16 +174,15 @@ pub(crate) fn answered(
         return Settled::refused(c.barred, head, client);
     }
     let body = wire::body::part(request, len);
-    let returning = !head.grace;
-    let silent = silent_in(head);
     let ms = f.mirrors;
     let e = mirroring::blame::blamed(ms, body);
-    let counts = counting(e.unknown, c.late, silent);
     let form = tally_out(
         ms,
         body,
         e.next,
-        counts,
+        e.unknown,
+        c.late,
+        head,
         read,
         written,
         read_over,
@@ -186,8 +193,15 @@ pub(crate) fn answered(
         layoutreturn::reply(status, none, reply);
         return Settled::refused(status, head, client);
     }
-    let marks = marking(e.unknown, e.failed, e.blamed, silent);
-    let blamed = blaming(e.unknown, e.failed, e.blamed, silent);
     let own = c.own;
-    accepted(f, own, marks, blamed, head, client, returning, reply)
+    accepted(
+        f,
+        own,
+        e.unknown,
+        e.blamed != 0,
+        e.blamed,
+        head,
+        client,
+        reply,
+    )
 }

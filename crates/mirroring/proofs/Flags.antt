@@ -1,11 +1,15 @@
--- A map by place that blames where the place is in a set gives the mirrors with that blame; and how far a place that is found is.
-use mathlib.Core.Path.{_≡_, refl, ap, _∙_}
+-- A map by place that blames where the place is in a set gives the mirrors with that blame; how far a place that is found is; and a set that a place was put into is not none.
+use mathlib.Core.Path.{_≡_, refl, sym, ap, _∙_}
 use mathlib.Core.List.{List, [], _∷_}
 use mathlib.Core.Bool.{Bool, true, false, cond}
-use Prim.Native.Nat.{ℕ, suc, _≤_}
+use Prim.Native.Nat.{ℕ, suc, _<_, _≤_}
 use native.Mathlib.Omega.{arith}
 use lib.ListN.{length}
+use lib.Dec.{eqb}
+use borrow.Author.Tests.{ne-eqb}
 use Rattle.masks.specs.Mask as mask
+use Rattle.masks.proofs.Laws.{has-zero, plus-node}
+use Rattle.places.proofs.Sets.{true-false}
 use Rattle.places.specs.Places.{bump, first, placeOr}
 use Rattle.places.proofs.Loops.{mapAt, Mapping, mapped-at}
 use Rattle.places.specs.declared.Found.{Found}
@@ -34,3 +38,7 @@ at-most p (x ∷ xs) = bumped (p x) (first p xs) (length xs) (at-most p xs)
 
 pub found-within : {A : Type 0} (p : A → Bool) (xs : List A) (i : ℕ) → first p xs ≡ At i → i ≤ length xs
 found-within p xs i e = rw (ap (placeOr 0) e) at (at-most p xs)
+
+-- ---- a set with a place
+pub some-place : (m i : ℕ) → i < 32 → eqb (mask.plus m i) 0 ≡ false
+some-place m i h = ne-eqb (mask.plus m i) 0 (λ e. true-false (sym (plus-node m i h) ∙ ap (λ n. mask.has n i) e ∙ has-zero i))

@@ -1,6 +1,6 @@
 -- MODEL. What a report says of a file's mirrors, in this order: what it changes; one device error; all of a report; the same by its two halves.
 use mathlib.Core.List.{List, []}
-use mathlib.Core.Bool.{Bool, true, false, cond}
+use mathlib.Core.Bool.{Bool, true, false, cond, not}
 use Prim.Native.Nat.{ℕ}
 use Rattle.masks.specs.Mask.{plus}
 use lib.Dec.{eqb}
@@ -78,9 +78,9 @@ unfoldable pub assessmentOf : List Mirror → Report → Assessment
 assessmentOf ms p = withTotals (cond (errorsAssessed ms p .change .unknown) noTotals (mirrorTotals ms p)) (errorsAssessed ms p)
 
 -- ---- the same by its two halves
--- what the device errors change
+-- what the device errors change: one has failed where a place is blamed
 abbrev pub changeIn : Errors → Change
-changeIn e = record { unknown = e .unknown; failed = e .failed; blamed = e .blamed }
+changeIn e = record { unknown = e .unknown; failed = not (eqb (e .blamed) 0); blamed = e .blamed }
 
 -- the statistics records' status and totals, which are none where they do not count
 unfoldable pub talliedOf : List Mirror → Bool → Report → Tallied

@@ -36,7 +36,6 @@ pub struct Assessment {
 // What the device errors of a report say, and the cursor at its first statistics record. Where they are malformed, so is what is left.
 pub struct Errors {
     pub unknown: bool,
-    pub failed: bool,
     pub blamed: u32,
     pub next: Cursor,
 }
@@ -67,7 +66,6 @@ impl Errors {
     {
         Errors {
             unknown: false,
-            failed: false,
             blamed: 0,
             next,
         }
@@ -79,7 +77,6 @@ impl Errors {
         ensures { λ r. ⌜ changeIn r ≡ blaming at (changeIn self) ⌝ }
     {
         self.blamed = masks::with(self.blamed, at as u32);
-        self.failed = true;
         self
     }
 
@@ -163,7 +160,6 @@ pub fn blamed(mirrors: [Mirror; PLACES], body: &[u8]) -> Errors
             Entry::Statistics(next) => {
                 return Errors {
                     unknown: x.unknown,
-                    failed: x.failed,
                     blamed: x.blamed,
                     next,
                 };
@@ -171,7 +167,6 @@ pub fn blamed(mirrors: [Mirror; PLACES], body: &[u8]) -> Errors
             Entry::Malformed => {
                 return Errors {
                     unknown: x.unknown,
-                    failed: x.failed,
                     blamed: x.blamed,
                     next: reports::cursor::none(body),
                 };
@@ -236,7 +231,7 @@ pub fn assess(mirrors: [Mirror; PLACES], body: &[u8]) -> Assessment
         status: 0,
         change: Change {
             unknown: e.unknown,
-            failed: e.failed,
+            failed: e.blamed != 0,
             blamed: e.blamed,
         },
         totals,

@@ -1,6 +1,5 @@
 -- By the claim, and by the status of steps 5 and 6: `Settling` puts together what the calls promise.
-use mathlib.Core.Path.{_≡_, refl, sym, ap, _∙_}
-use mathlib.Core.Bool.{not}
+use mathlib.Core.Path.{_≡_, sym, ap, _∙_}
 use denote.Ref.{now}
 use lib.Dec.{eqb}
 use borrow.Author.Tests.{eq-eqb, ne-eqb}
@@ -8,12 +7,11 @@ use Rattle.reports.specs.Report.{Report, reportOf}
 use Rattle.reports.specs.StatisticsSteps.{statisticsFrom}
 use Rattle.wire.specs.Request.{partOf}
 use Rattle.wire.specs.declared.stateid.Stateid.{Stateid}
-use Rattle.mirroring.specs.Blame.{changeIn, assessmentOf, talliedOf, settledOf}
+use Rattle.mirroring.specs.Blame.{changeIn, assessmentOf, settledOf}
 use Rattle.mirroring.specs.declared.blame.Change.{Change}
 use Rattle.mirroring.specs.declared.totals.Totals.{Totals}
-use Rattle.files.specs.File.{marksFile, blamesPlaces}
 use Rattle.layoutreturn.specs.LayoutReturn.{replyBy}
-use Rattle.layoutreturn.specs.Settled.{refusedAs, acceptedAs, countsIf, laterOf, silenced, raisedAs}
+use Rattle.layoutreturn.specs.Settled.{refusedAs, laterOf}
 use Rattle.layoutreturn.specs.declared.Settled.{Settled}
 use Rattle.capi.specs.Lent.{columnOf}
 use Rattle.capi.proofs.Settling.{barred-so, barred-totals, settled-refused, settled-accepted, settled-totals, none-over}
@@ -60,14 +58,8 @@ returns c =
 part-requires : tie.Need-part-requires
 part-requires c κs = search needs
 
-silent-in-requires : tie.Need-silent-in-requires
-silent-in-requires c κs = search needs
-
 blamed-requires : tie.Need-blamed-requires
 blamed-requires c κs = search needs
-
-counting-requires : tie.Need-counting-requires
-counting-requires c κs = search needs
 
 tally-out-requires : tie.Need-tally-out-requires
 tally-out-requires c κs = search needs
@@ -92,33 +84,25 @@ same-length-6 c = search needs
 
 returns-2 : tie.Need-returns-2
 returns-2 c =
-    let a = c .before .before .before .before .before .before .before .before .before .before .before .before .before .before .before .before .before .before .before .before .before .before .before .before .before .before .before .before .before .args in
-    let body = c .before .before .before .before .before .before .before .before .before .before .before .before .before .before .before .before .before .before .before .before .before .part in
-    let quiet = c .before .before .before .before .before .before .before .before .before .before .before .before .before .before .before .before .before .before .before .silent-in .ensures in
-    let e = c .before .before .before .before .before .before .before .before .before .before .before .before .before .before .before .before .before .blamed in
+    let a = c .before .before .before .before .before .before .before .before .before .before .before .before .before .before .before .before .before .before .before .before .before .before .before .before .before .before .args in
+    let body = c .before .before .before .before .before .before .before .before .before .before .before .before .before .before .before .before .before .before .part in
+    let e = c .before .before .before .before .before .before .before .before .before .before .before .before .before .before .before .before .blamed in
     let sums = c .before .before .before .before .before .before .before .before .before .before .before .tally-out .ensures in
     let k = c .before .before .before .before .before .before .later in
     let x : Change = changeIn (e .result) in
     let p : Report = reportOf (partOf (a .len) (now (a .request))) in
     let tail : Report = statisticsFrom (now (body .result)) (e .result .next) in
-    let passes = eq-eqb _ _ (c .before .before .before .before .before .before .before .before .before .before .before .before .before .before .before .before .before .before .before .before .before .before .if1 .left) in
+    let passes = eq-eqb _ _ (c .before .before .before .before .before .before .before .before .before .before .before .before .before .before .before .before .before .before .before .if1 .left) in
     let told : settledOf (a .f .mirrors) x tail ≡ assessmentOf (a .f .mirrors) p = e .ensures ∙ ap (λ y. assessmentOf (a .f .mirrors) (reportOf y)) (body .ensures) in
-    let counts = c .before .before .before .before .before .before .before .before .before .before .before .before .before .before .before .before .counting .ensures ∙ ap (countsIf (x .unknown) (a .c .late)) quiet in
-    let is = k .ensures ∙ ap (λ y. laterOf y (a .c .late)) (sums .0 ∙ ap (λ z. talliedOf (a .f .mirrors) z tail .status) counts) in
+    let is = k .ensures ∙ ap (λ y. laterOf y (a .c .late)) (sums .0) in
     let t = settled-totals (a .head) (a .client) (a .c) p (a .f) x tail passes told in (
       c .refused2 .ensures ∙ ap (λ y. refusedAs y (a .head) (a .client)) is ∙ settled-refused (a .head) (a .client) (a .c) p (a .f) x tail passes told (ap (λ y. eqb y 0) (sym is) ∙ ne-eqb _ _ (c .before .before .before .before .before .if2 .taken)),
-      c .before .before .before .reply3 .ensures ∙ ap (λ (u : Stateid). replyBy (k .result) u (now (a .reply))) (c .before .before .before .before .before .before .before .before .before .before .before .before .before .before .before .before .before .before .before .before .before .before .before .before .none .ensures) ∙ ap (λ (y : Settled). replyBy (y .status) (y .stateid) (now (a .reply))) (sym (c .refused2 .ensures)),
-      sums .1 ∙ ap (λ z. columnOf (talliedOf (a .f .mirrors) z tail .totals .read .bytes) (now (a .read))) counts ∙ ap (λ (u : Totals). columnOf (u .read .bytes) (now (a .read))) t,
-      sums .2 ∙ ap (λ z. columnOf (talliedOf (a .f .mirrors) z tail .totals .written .bytes) (now (a .written))) counts ∙ ap (λ (u : Totals). columnOf (u .written .bytes) (now (a .written))) t,
-      sums .3 ∙ ap (λ z. talliedOf (a .f .mirrors) z tail .totals .read .over) counts ∙ ap (λ (u : Totals). u .read .over) t,
-      sums .4 ∙ ap (λ z. talliedOf (a .f .mirrors) z tail .totals .written .over) counts ∙ ap (λ (u : Totals). u .written .over) t,
+      c .before .before .before .reply3 .ensures ∙ ap (λ (u : Stateid). replyBy (k .result) u (now (a .reply))) (c .before .before .before .before .before .before .before .before .before .before .before .before .before .before .before .before .before .before .before .before .before .none .ensures) ∙ ap (λ (y : Settled). replyBy (y .status) (y .stateid) (now (a .reply))) (sym (c .refused2 .ensures)),
+      sums .1 ∙ ap (λ (u : Totals). columnOf (u .read .bytes) (now (a .read))) t,
+      sums .2 ∙ ap (λ (u : Totals). columnOf (u .written .bytes) (now (a .written))) t,
+      sums .3 ∙ ap (λ (u : Totals). u .read .over) t,
+      sums .4 ∙ ap (λ (u : Totals). u .written .over) t,
     )
-
-marking-requires : tie.Need-marking-requires
-marking-requires c κs = search needs
-
-blaming-requires : tie.Need-blaming-requires
-blaming-requires c κs = search needs
 
 accepted-requires : tie.Need-accepted-requires
 accepted-requires c κs = search needs
@@ -134,29 +118,24 @@ same-length-9 c = search needs
 
 returns-3 : tie.Need-returns-3
 returns-3 c =
-    let a = c .before .before .before .before .before .before .before .before .before .before .before .before .before .before .before .before .before .before .before .before .before .before .before .before .before .before .before .before .before .before .before .args in
-    let body = c .before .before .before .before .before .before .before .before .before .before .before .before .before .before .before .before .before .before .before .before .before .before .before .part in
-    let quiet = c .before .before .before .before .before .before .before .before .before .before .before .before .before .before .before .before .before .before .before .before .before .silent-in .ensures in
-    let e = c .before .before .before .before .before .before .before .before .before .before .before .before .before .before .before .before .before .before .before .blamed in
-    let sums = c .before .before .before .before .before .before .before .before .before .before .before .before .before .tally-out .ensures in
-    let k = c .before .before .before .before .before .before .before .before .later in
+    let a = c .before .before .before .before .before .before .before .before .before .before .before .before .before .before .before .before .before .before .before .before .before .before .before .before .before .before .before .args in
+    let body = c .before .before .before .before .before .before .before .before .before .before .before .before .before .before .before .before .before .before .before .part in
+    let e = c .before .before .before .before .before .before .before .before .before .before .before .before .before .before .before .before .before .blamed in
+    let sums = c .before .before .before .before .before .before .before .before .before .before .before .before .tally-out .ensures in
+    let k = c .before .before .before .before .before .before .before .later in
     let x : Change = changeIn (e .result) in
     let p : Report = reportOf (partOf (a .len) (now (a .request))) in
     let tail : Report = statisticsFrom (now (body .result)) (e .result .next) in
-    let passes = eq-eqb _ _ (c .before .before .before .before .before .before .before .before .before .before .before .before .before .before .before .before .before .before .before .before .before .before .before .before .if1 .left) in
+    let passes = eq-eqb _ _ (c .before .before .before .before .before .before .before .before .before .before .before .before .before .before .before .before .before .before .before .before .if1 .left) in
     let told : settledOf (a .f .mirrors) x tail ≡ assessmentOf (a .f .mirrors) p = e .ensures ∙ ap (λ y. assessmentOf (a .f .mirrors) (reportOf y)) (body .ensures) in
-    let counts = c .before .before .before .before .before .before .before .before .before .before .before .before .before .before .before .before .before .before .counting .ensures ∙ ap (countsIf (x .unknown) (a .c .late)) quiet in
-    let is = k .ensures ∙ ap (λ y. laterOf y (a .c .late)) (sums .0 ∙ ap (λ z. talliedOf (a .f .mirrors) z tail .status) counts) in
-    let t = settled-totals (a .head) (a .client) (a .c) p (a .f) x tail passes told in
-    let g = c .before .before .accepted .ensures in
-    let m = c .before .before .before .before .before .before .marking .ensures ∙ ap (λ z. marksFile (silenced z x)) quiet in
-    let n = c .before .before .before .before .before .blaming .ensures ∙ ap (λ z. blamesPlaces (silenced z x)) quiet in (
-      g .0 ∙ (λ j. acceptedAs (m j) (n j) (a .head) (a .client) (raisedAs (a .c .own) (not (a .head .grace))) (a .f)) ∙ settled-accepted (a .head) (a .client) (a .c) p (a .f) x tail passes told (ap (λ y. eqb y 0) (sym is) ∙ eq-eqb _ _ (c .before .before .before .before .before .before .before .if2 .left)),
-      g .1 ∙ ap (λ (y : Settled). replyBy (y .status) (y .stateid) (now (a .reply))) (sym (g .0)),
-      sums .1 ∙ ap (λ z. columnOf (talliedOf (a .f .mirrors) z tail .totals .read .bytes) (now (a .read))) counts ∙ ap (λ (u : Totals). columnOf (u .read .bytes) (now (a .read))) t,
-      sums .2 ∙ ap (λ z. columnOf (talliedOf (a .f .mirrors) z tail .totals .written .bytes) (now (a .written))) counts ∙ ap (λ (u : Totals). columnOf (u .written .bytes) (now (a .written))) t,
-      sums .3 ∙ ap (λ z. talliedOf (a .f .mirrors) z tail .totals .read .over) counts ∙ ap (λ (u : Totals). u .read .over) t,
-      sums .4 ∙ ap (λ z. talliedOf (a .f .mirrors) z tail .totals .written .over) counts ∙ ap (λ (u : Totals). u .written .over) t,
+    let is = k .ensures ∙ ap (λ y. laterOf y (a .c .late)) (sums .0) in
+    let t = settled-totals (a .head) (a .client) (a .c) p (a .f) x tail passes told in (
+      c .before .before .accepted .ensures .0 ∙ settled-accepted (a .head) (a .client) (a .c) p (a .f) x tail passes told (ap (λ y. eqb y 0) (sym is) ∙ eq-eqb _ _ (c .before .before .before .before .before .before .if2 .left)),
+      c .before .before .accepted .ensures .1 ∙ ap (λ (y : Settled). replyBy (y .status) (y .stateid) (now (a .reply))) (sym (c .before .before .accepted .ensures .0)),
+      sums .1 ∙ ap (λ (u : Totals). columnOf (u .read .bytes) (now (a .read))) t,
+      sums .2 ∙ ap (λ (u : Totals). columnOf (u .written .bytes) (now (a .written))) t,
+      sums .3 ∙ ap (λ (u : Totals). u .read .over) t,
+      sums .4 ∙ ap (λ (u : Totals). u .written .over) t,
     )
 
 pub answered-spec : {M : Type 1} → statement M
@@ -172,9 +151,7 @@ answered-spec =
     same-length-3
     returns
     part-requires
-    silent-in-requires
     blamed-requires
-    counting-requires
     tally-out-requires
     later-requires
     reply-requires-2
@@ -183,8 +160,6 @@ answered-spec =
     same-length-5
     same-length-6
     returns-2
-    marking-requires
-    blaming-requires
     accepted-requires
     same-length-7
     same-length-8

@@ -1,16 +1,11 @@
 -- By what the two halves answer.
 use mathlib.Core.Path.{_∙_}
 use Rattle.reports.specs.StatisticsSteps.{statisticsFrom}
-use Rattle.mirroring.specs.declared.blame.Change.{Change}
-use Rattle.mirroring.specs.declared.blame.Errors.{Errors}
+use Rattle.mirroring.specs.Blame.{changeIn}
 use Rattle.mirroring.proofs.Assessing.{both-refused, both-settled}
 use borrow.Author.Needs.{needs}
 use Rattle.mirroring.proofs.blame.assess.Statement.{statement}
 use Rattle.mirroring.proofs.blame.assess.Tie as tie
-
--- what the device errors change
-abbrev changeIn : Errors → Change
-changeIn e = record { unknown = e .unknown; failed = e .failed; blamed = e .blamed }
 
 blamed-requires : tie.Need-blamed-requires
 blamed-requires c κs = search needs
@@ -31,9 +26,9 @@ returns c =
 
 returns-2 : tie.Need-returns-2
 returns-2 c =
-    let a = c .before .before .before .before .before .before .before .before .args in
-    let e = c .before .before .before .before .before .before .blamed in
-    both-settled (a .mirrors) (changeIn (e .result)) (statisticsFrom (a .body .now) (e .result .next)) (c .before .before .before .tally .ensures) (c .before .if1 .left)
+    let a = c .before .before .before .before .before .before .before .before .before .args in
+    let e = c .before .before .before .before .before .before .before .blamed in
+    both-settled (a .mirrors) (changeIn (e .result)) (statisticsFrom (a .body .now) (e .result .next)) (c .before .before .before .before .tally .ensures) (c .before .before .if1 .left)
     ∙ e .ensures
 
 pub assess-spec : {M : Type 1} → statement M
