@@ -7,7 +7,7 @@ ghost use Rattle.committing.specs.Ranges.{range_at};
 ghost use Rattle.commits.specs.Spot.{number_in, end_in, range_begin, range_end, is_kind, always, marks_in, Tops, span_of, Sought, Left, Spotted, Settled, edge_in, turn_of, moved_to};
 
 // A row or a range, and the bytes where it begins and ends; past the last, no byte.
-#[derive(Drop)]
+#[derive(Clone, Copy)]
 pub(crate) struct Span {
     pub place: usize,
     pub lo: u64,
@@ -15,7 +15,7 @@ pub(crate) struct Span {
 }
 
 // A byte, and the three intervals there; `again` says that its piece of an invalid row is still to come.
-#[derive(Drop)]
+#[derive(Clone, Copy)]
 pub(crate) struct Spot {
     pub at: u64,
     pub other: Span,
@@ -215,7 +215,7 @@ pub(crate) fn either(a: bool, b: bool) -> bool
 
 // Which piece comes next, up to which byte nothing else begins or ends: whether there is one, and whether the byte is bare, which is to say committed and under neither
 // invalid nor read-write; of which row, that begins at `lo`, in which state; and whether one more of this byte comes after it.
-#[derive(Drop)]
+#[derive(Clone, Copy)]
 pub(crate) struct Turn {
     pub upto: u64,
     pub live: bool,

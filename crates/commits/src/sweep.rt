@@ -62,7 +62,7 @@ fn put_started(d: &mut [u8], n: usize, devs: &[u8], p: Piece, write: bool)
 }
 
 // What a sweep finds: how many extents there are after the commit, and whether a committed byte is under neither invalid nor read-write.
-#[derive(Drop)]
+#[derive(Clone, Copy)]
 pub(crate) struct Found {
     pub count: usize,
     pub bare: bool,

@@ -26,7 +26,7 @@ use Rattle.epochs.specs.Epochs.{member, needs, no_grace, above31, all_enforce, f
 use Rattle.epochs.specs.History.{Call, join, leave, start, enforce, finish, stop_enforcing, may_reclaim, called, after, is_start, raises, raised, Sound, AfterAnyCalls, RefusedUnchanged}
 
 -- ---- a call is refused by one of its rules, or none applies
-pub judged-by : (Q : Answered → Type 0) (e : Epochs) (rules : List (Rule ℕ)) (next : Epochs) → Each (λ s. refused s e) Q rules → (NoneApplies rules → Q (accepted next)) → Q (judged e rules next)
+judged-by : (Q : Answered → Type 0) (e : Epochs) (rules : List (Rule ℕ)) (next : Epochs) → Each (λ s. refused s e) Q rules → (NoneApplies rules → Q (accepted next)) → Q (judged e rules next)
 unfolding judged
 judged-by Q e rules next refusals accepts = decided-by (λ s. refused s e) Q rules (accepted next) refusals accepts
 

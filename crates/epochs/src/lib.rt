@@ -7,7 +7,7 @@ ghost use Rattle.epochs.specs.Epochs.{fresh, accepted, refused, flagged, join_of
 const LAST_EPOCH: u64 = 18446744073709551615;
 
 #[repr(C)]
-#[derive(Drop)]
+#[derive(Clone, Copy)]
 pub struct Epochs {
     // C, the current epoch.
     pub current: u64,
@@ -19,13 +19,13 @@ pub struct Epochs {
 }
 
 // What a call answers, and the record afterwards.
-#[derive(Drop)]
+#[derive(Clone, Copy)]
 pub struct Answered {
     pub status: u32,
     pub epochs: Epochs,
 }
 
-#[derive(Drop)]
+#[derive(Clone, Copy)]
 pub enum MayReclaim {
     Yes,
     No,

@@ -7,7 +7,7 @@ use crate::head::Head;
 
 // Which lists a file is on.
 #[repr(C)]
-#[derive(Drop)]
+#[derive(Clone, Copy)]
 pub struct Standing {
     pub listed: bool,
     pub offered: bool,

@@ -16,7 +16,7 @@ use wire::stateid::Stateid;
 
 // The wide fields stand first. A place of the record is a file's if `used`.
 #[repr(C)]
-#[derive(Drop)]
+#[derive(Clone, Copy)]
 pub struct File {
     pub number: u64,
     pub mirrors: [Mirror; PLACES],
@@ -27,7 +27,7 @@ pub struct File {
 
 // What a call answers, and what stands beside the files and the file afterwards.
 #[repr(C)]
-#[derive(Drop)]
+#[derive(Clone, Copy)]
 pub struct FileAnswered {
     pub status: u32,
     pub head: Head,
@@ -36,7 +36,7 @@ pub struct FileAnswered {
 
 // What open decides: the status, what stands beside the files afterwards, the place of a new intent, which is 8 for none, and its client.
 #[repr(C)]
-#[derive(Drop)]
+#[derive(Clone, Copy)]
 pub struct Opening {
     pub status: u32,
     pub head: Head,
@@ -67,7 +67,7 @@ impl Opening {
 
 // What close decides: the status, what stands beside the files afterwards, and the place of the intent that goes.
 #[repr(C)]
-#[derive(Drop)]
+#[derive(Clone, Copy)]
 pub struct Closing {
     pub status: u32,
     pub head: Head,

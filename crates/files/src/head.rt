@@ -4,7 +4,7 @@ ghost use Rattle.std.specs.Prelude.{◌≡◌};
 ghost use Rattle.files.specs.Head.{is_old, fresh_head, edition_of};
 
 // Whether a site's clients know RFC 9737. A record keeps the edition that it is set up with.
-#[derive(Drop)]
+#[derive(Clone, Copy)]
 pub enum Edition {
     Current,
     Old,
@@ -22,7 +22,7 @@ impl Edition {
 }
 
 #[repr(C)]
-#[derive(Drop)]
+#[derive(Clone, Copy)]
 pub struct Head {
     pub waiting: u8,
     pub offered: u8,

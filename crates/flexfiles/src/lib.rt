@@ -19,7 +19,7 @@ pub extern "C" fn sc_report_check(body: &[u8]) -> u32
 }
 
 // A place among the device errors: where the next byte is, the error records still to come, and the device errors still to come of the record at hand.
-#[derive(Drop)]
+#[derive(Clone, Copy)]
 struct ErrorCursor {
     at: usize,
     records: u32,
@@ -27,7 +27,7 @@ struct ErrorCursor {
 }
 
 // What comes next there.
-#[derive(Drop)]
+#[derive(Clone, Copy)]
 enum Answer {
     // A device error: the place of its device's sixteen bytes, its status, and the cursor past it.
     Error {

@@ -13,9 +13,9 @@ no_intent = record { client = 0; stateid = no_stateid; taken = false; reclaimed 
 abbrev pub intent_of : Client → Intent
 intent_of c = record { client = c; stateid = no_stateid; taken = true; reclaimed = false }
 
--- one that stays at the end of grace, or a free place; in grace nobody has a stateid, and out of it no place says who reclaimed
+-- one that stays at the end of grace, or a free place; in grace nobody has a stateid
 abbrev pub stayed_of : Client → Bool → Intent
-stayed_of c b = record { client = c; stateid = no_stateid; taken = b; reclaimed = false }
+stayed_of c b = record { client = c; stateid = no_stateid; taken = b; reclaimed = b }
 
 abbrev pub client_of : Intent → Client
 client_of x = x.client

@@ -8,10 +8,10 @@ ghost use Rattle.intents.specs.Intents.{no_intent, intent_of, is_intent, is_free
 use places::Found;
 use wire::stateid::Stateid;
 
-// A place for an intent: its client, the client's stateid, which is none where its seqid is 0, whether the place is taken, and, in grace, whether the client
-// has reclaimed since the latest restart.
+// A place for an intent: its client, the client's stateid, which is none where its seqid is 0, whether the place is taken, and whether the client has reclaimed
+// since the latest restart.
 #[repr(C)]
-#[derive(Drop)]
+#[derive(Clone, Copy)]
 pub struct Intent {
     pub client: u64,
     pub stateid: Stateid,
@@ -113,7 +113,7 @@ impl Intent {
             client,
             stateid: none,
             taken: there,
-            reclaimed: false,
+            reclaimed: there,
         }
     }
 
@@ -359,7 +359,7 @@ pub fn lost(intents: [Intent; 8]) -> bool
 
 // The clients of the intents that stay at the end of grace, and how many they are. The places after them are 0, and one more is to spare: each client
 // is written there, whether its intent stays or not.
-#[derive(Drop)]
+#[derive(Clone, Copy)]
 struct Kept {
     clients: [u64; 9],
     count: usize,

@@ -10,7 +10,7 @@ ghost use Rattle.joining.specs.Joiner.{no_run, place_of, le_number, joins_run, l
 use layouts::placing;
 
 // An extent, or a part of one, whose device stays where it lies: 16 bytes in row `row` of a column of devices.
-#[derive(Drop)]
+#[derive(Clone, Copy)]
 pub struct Piece {
     pub row: usize,
     pub offset: u64,
@@ -21,7 +21,7 @@ pub struct Piece {
 
 // A run that the next piece of its state may lengthen: its place in the result, a row with its device, where it begins, and where it ends in the file and in
 // storage. No piece begins at 2^64 - 1: where there is no run, it ends there.
-#[derive(Drop)]
+#[derive(Clone, Copy)]
 pub struct Run {
     pub slot: usize,
     pub row: usize,
@@ -49,8 +49,7 @@ pub fn state_place(st: u32) -> usize
     (st % 4) as usize
 }
 
-// Eight bytes as a number, the first the lowest: the compiler makes one load of it. It is half of a device id, which is compared and means no number: fields
-// that are 8-byte numbers are fetched in two halves of four bytes by `xdr` (Ticket 4).
+// Eight bytes as a number, the first the lowest: the compiler makes one load of it.
 fn eight(a: u8, b: u8, c: u8, d: u8, e: u8, f: u8, g: u8, h: u8) -> u64
     ensures { result ≡ a + b * 256 + c * 65536 + d * 16777216 + e * 4294967296 + f * 1099511627776 + g * 281474976710656 + h * 72057594037927936 }
 {

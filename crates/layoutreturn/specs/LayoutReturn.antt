@@ -35,28 +35,23 @@ handed_on_code = 4294967295
 abbrev pub out_of_grace : Head → Decision → Decision
 out_of_grace h d = cond h.grace (Answered 10013) d
 
--- the bar k, where it is not 0, and d where it is
-abbrev pub unbarred : Status → Decision → Decision
-unbarred k d = cond (eqb k 0) d (Answered k)
-
--- step 4: by the kind of stateid, the edition, the bar and the phase
-abbrev pub phase_of : Kind → Head → Status → ℕ → Decision
-phase_of Anonymous h k len = cond h.old (Answered 10025) (unbarred k (cond h.grace (ReadBody len) (Answered 10033)))
-phase_of Bypass h k len = out_of_grace h (Answered 10025)
-phase_of Invalid h k len = out_of_grace h (Answered 10025)
-phase_of Current h k len = out_of_grace h HandedOn
-phase_of Ordinary h k len = out_of_grace h (ReturnBody len)
+-- step 4: by the kind of stateid, the edition and the phase
+abbrev pub phase_of : Kind → Head → ℕ → Decision
+phase_of Anonymous h len = cond h.old (Answered 10025) (cond h.grace (ReadBody len) (Answered 10033))
+phase_of Bypass h len = out_of_grace h (Answered 10025)
+phase_of Invalid h len = out_of_grace h (Answered 10025)
+phase_of Current h len = out_of_grace h HandedOn
+phase_of Ordinary h len = out_of_grace h (ReturnBody len)
 
 -- steps 1 to 4
-abbrev pub decided : Head → Status → Request → Decision
-decided h k (request.Refused j) = Answered j
-decided h k request.Bulk = HandedOn
-decided h k (request.File kind len) = phase_of kind h k len
+abbrev pub decided : Head → Request → Decision
+decided h (request.Refused k) = Answered k
+decided h request.Bulk = HandedOn
+decided h (request.File kind len) = phase_of kind h len
 
--- 28 for a reply buffer of under 24 bytes before them. The bar k is what an all-zero report gets in step 4 from a head of a cluster that may not reclaim (02,
--- Ticket 12); 0 bars nothing, as for a single record
-unfoldable pub decision_of : Head → Status → Bytes → ℕ → Decision
-decision_of h k s room = cond (ltb room 24) (Answered 28) (decided h k (request_of s))
+-- 28 for a reply buffer of under 24 bytes before them
+unfoldable pub decision_of : Head → Bytes → ℕ → Decision
+decision_of h s room = cond (ltb room 24) (Answered 28) (decided h (request_of s))
 
 -- ---- steps 5 to 7 on the file f
 -- step 6

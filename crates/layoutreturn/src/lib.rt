@@ -1,14 +1,13 @@
-// LAYOUTRETURN on one file (paper 01, "LAYOUTRETURN"; 02, Tickets 1, 3, 6, 12 and 13), its steps in the paper's order. In this order: what is decided before any
+// LAYOUTRETURN on one file (paper 01, "LAYOUTRETURN"; 02, Tickets 1, 3, 6 and 13), its steps in the paper's order. In this order: what is decided before any
 // file is looked at, from the 28 for a short reply to step 4; what an answer says; steps 5 to 7 on a file; an ordinary return on a file; the reply; the file
 // afterwards.
-ghost use Rattle.std.specs.Prelude.{◌≡◌, cond};
+ghost use Rattle.std.specs.Prelude.{◌≡◌};
 ghost use Rattle.reports.specs.Report.{report_of};
 ghost use Rattle.intents.specs.Intents.{is_stated, stated_if};
 ghost use Rattle.files.specs.File.{blamed_file};
-ghost use Rattle.layoutreturn.specs.LayoutReturn.{out_of_grace, unbarred, phase_of, decision_of, outcome_with, by_age, by_stateid, outcome_by, reply_by, file_after};
+ghost use Rattle.layoutreturn.specs.LayoutReturn.{out_of_grace, phase_of, decision_of, outcome_with, by_age, by_stateid, outcome_by, reply_by, file_after};
 ghost use Rattle.layoutreturn.specs.OneWalk.{reads_body, is_ordinary, length_of, unread_status, late_on, anonymous_claim, ordinary_claim, claim_by, taken_by, assessed_by, raised_if};
 ghost use Rattle.layoutreturn.specs.Settled.{refused_as, accepted_as};
-ghost use Rattle.layoutreturn.specs.declared.Decision.TheVariants.{Answered, ReadBody};
 
 use files::file::File;
 use files::head::Head;
@@ -20,7 +19,7 @@ use wire::seqid::Age;
 use wire::stateid::Stateid;
 
 // What is known of a request before any file is looked at.
-#[derive(Drop)]
+#[derive(Clone, Copy)]
 pub enum Decision {
     // It is answered with this status, and no file is asked.
     Answered(u32),
@@ -42,36 +41,19 @@ fn out_of_grace(head: Head, d: Decision) -> Decision
     d
 }
 
-// The bar, where it is not 0, and `d` where it is.
-fn unbarred(bar: u32, d: Decision) -> Decision
-    ensures { result ≡ unbarred bar d }
-{
-    if bar == 0 {
-        return d;
-    }
-    Decision::Answered(bar)
-}
-
-// An all-zero report by the phase alone: 10033 out of grace.
-fn anonymous(head: Head, len: usize) -> Decision
-    ensures { result ≡ cond head.grace (ReadBody len) (Answered 10033) }
-{
-    if head.grace {
-        return Decision::ReadBody(len);
-    }
-    Decision::Answered(statuses::NO_GRACE)
-}
-
-// Step 4: by the kind of stateid, the edition, the bar and the phase.
-fn phase(kind: Kind, head: Head, bar: u32, len: usize) -> Decision
-    ensures { result ≡ phase_of kind head bar len }
+// Step 4: by the kind of stateid, the edition and the phase.
+fn phase(kind: Kind, head: Head, len: usize) -> Decision
+    ensures { result ≡ phase_of kind head len }
 {
     match kind {
         Kind::Anonymous => {
             if head.old {
                 return Decision::Answered(statuses::BAD_STATEID);
             }
-            unbarred(bar, anonymous(head, len))
+            if head.grace {
+                return Decision::ReadBody(len);
+            }
+            Decision::Answered(statuses::NO_GRACE)
         }
         Kind::Bypass => out_of_grace(head, Decision::Answered(statuses::BAD_STATEID)),
         Kind::Invalid => out_of_grace(head, Decision::Answered(statuses::BAD_STATEID)),
@@ -80,10 +62,9 @@ fn phase(kind: Kind, head: Head, bar: u32, len: usize) -> Decision
     }
 }
 
-// A reply buffer of under 24 bytes gets 28 before all else; then steps 1 to 4. `bar` is what an all-zero report gets from a head of a cluster that may not
-// reclaim, 0 where nothing bars it.
-pub fn decide(head: Head, bar: u32, request: &[u8], room: usize) -> Decision
-    ensures { result ≡ decision_of head bar request.now room }
+// A reply buffer of under 24 bytes gets 28 before all else; then steps 1 to 4.
+pub fn decide(head: Head, request: &[u8], room: usize) -> Decision
+    ensures { result ≡ decision_of head request.now room }
 {
     if room < 24 {
         return Decision::Answered(statuses::NOSPC);
@@ -91,7 +72,7 @@ pub fn decide(head: Head, bar: u32, request: &[u8], room: usize) -> Decision
     match wire::request::read(request) {
         Request::Refused(k) => Decision::Answered(k),
         Request::Bulk => Decision::HandedOn,
-        Request::File { kind, len } => phase(kind, head, bar, len),
+        Request::File { kind, len } => phase(kind, head, len),
     }
 }
 
@@ -145,7 +126,7 @@ fn status_of(d: Decision) -> u32
 
 // All that an answer says: its status, HANDED_ON where the request is handed on; what stands beside the files; what changes in the file; the totals of
 // bytes by mirror; and the stateid of the reply, which is the client's from then on, or none.
-#[derive(Drop)]
+#[derive(Clone, Copy)]
 pub struct Outcome {
     pub status: u32,
     pub head: Head,
@@ -199,7 +180,7 @@ fn by_stateid(t: Stateid, own: Stateid) -> u32
 
 // What a file says of a return's client: the status of step 4, which an ordinary return may meet; that of step 6, which an anonymous one may; and the client's
 // stateid there, where the return is ordinary.
-#[derive(Drop)]
+#[derive(Clone, Copy)]
 pub struct Claim {
     pub barred: u32,
     pub late: u32,
@@ -369,7 +350,7 @@ pub fn apply(f: File, o: Outcome) -> File
 }
 
 // What an answer says but for the totals, which C is handed apart: its change is whether the file is marked, and the set of the places that are blamed.
-#[derive(Drop)]
+#[derive(Clone, Copy)]
 pub struct Settled {
     pub status: u32,
     pub head: Head,

@@ -55,7 +55,7 @@ pub fn held(kind: Kind, s: &[u8]) -> usize
 }
 
 // The numbers of an extent.
-#[derive(Drop)]
+#[derive(Clone, Copy)]
 pub struct Numbers {
     pub offset: u64,
     pub len: u64,

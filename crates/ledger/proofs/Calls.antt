@@ -12,7 +12,7 @@ use borrow.Author.Tests.{eqb-false, le-leb, lt-leb, leb-true, leb-false, ltb-tru
 use Rattle.statuses.specs.Names.{Bytes}
 use Rattle.statuses.specs.Rules.{◌⇒◌, refused}
 use Rattle.reports.specs.Device.{Device}
-use Rattle.places.specs.Lists.{any, chosen, fill, none, discard, amend, Above, Rising}
+use Rattle.places.specs.Lists.{any, none, discard, amend, Above, Rising}
 use Rattle.places.specs.Places.{first, bump, is_found, place_or}
 use Rattle.wire.specs.Stateid.{new_stateid, bad_other}
 use Rattle.mirroring.specs.Devices.{mirrors_in, bad_mirrors}
@@ -226,7 +226,7 @@ without-length i fs = simp (length-append, pulled-length) (sym (length-append (t
 pulled-slots : {g : Bool} {fs : List File} {ws : List Row} (x : File) → Slots (FileIs g) NoFile fs ws → Slots (FileIs g) NoFile (pulled (x ∷ fs)) ws
 unfolding pulled
 pulled-slots x (Slots.rest All.All-nil) = Slots.rest (All.All-cons refl All.All-nil)
-pulled-slots {g} x (Slots.rest (All.All-cons {x = y} {xs = ys} e f)) = subst (λ (b : Bool). Slots (FileIs g) NoFile (cond (not b) (blank_file ∷ y ∷ ys) (y ∷ pulled (y ∷ ys))) []) (sym (ap (λ (f : File). f.used) e)) (Slots.rest (All.All-cons refl (All.All-cons e f)))
+pulled-slots {g} x (Slots.rest (All.All-cons {x = y} {xs = ys} e f)) = subst (λ (b : Bool). Slots (FileIs g) NoFile (cond (not b) (blank_file ∷ y ∷ ys) (y ∷ pulled (y ∷ ys))) []) (sym e) (Slots.rest (All.All-cons refl (All.All-cons e f)))
 pulled-slots {g} x (Slots.item {x = f} {y = w} e s) = rw (is-used g f w e) (Slots.item e (pulled-slots f s))
 
 no-such-place : {i : ℕ} → Nothing ≡ At i → ⊥
@@ -429,7 +429,7 @@ full_by n true e = sym (le-leb 64 n (omega (arith, ltb-true 63 n e)))
 full_by n false e = sym (lt-leb 64 n (omega (arith, ltb-false 63 n e)))
 
 is-full : {r : Record} {l : Ledger} → Matches r l → is_full r ≡ leb 64 (length l.rows)
-is-full {r} {l} m = slots_at (λ (f : File). f.used) (λ f w h. h.used) (λ f h. ap (λ (g : File). g.used) h) 63 no_file (omega (arith, m.long)) m.rows ∙ full_by (length l.rows) (ltb 63 (length l.rows)) refl
+is-full {r} {l} m = slots_at (λ (f : File). f.used) (λ f w h. h.used) (λ f h. h) 63 no_file (omega (arith, m.long)) m.rows ∙ full_by (length l.rows) (ltb 63 (length l.rows)) refl
 
 abbrev joined : ℕ → List Device → Ledger → Ledger
 joined n ds l = with_rows (insert (new_row n ds) l.rows) l
@@ -467,12 +467,12 @@ register-agrees {r} {l} m n s = branch l.grace m.grace (λ z. record { same = re
 
 -- ---- the end of grace and restart
 ended-free : (f : File) → NoFile f → NoFile (ended_file f)
-unfolding ended_file any chosen fill
-ended-free f h = ap ended_file h
+unfolding ended_file
+ended-free f h = h
 
 restarted-free : (f : File) → NoFile f → NoFile (restarted_file f)
 unfolding restarted_file
-restarted-free f h = ap restarted_file h
+restarted-free f h = h
 
 abbrev ended_record : Record → Record
 ended_record r = record { files = map ended_file r.files; head = ended_head (map ended_file r.files) r.head }

@@ -32,16 +32,16 @@ use Rattle.layoutreturn.specs.LayoutReturn.{decision_of}
 use Rattle.layoutreturn.specs.declared.Decision.{Decision}
 use Rattle.layoutreturn.specs.declared.Decision.TheVariants as decision
 use Rattle.recovery.specs.Calls.{Call, register, opening, set_up, reclaim, close, repaired, add_proxy, remove_proxy, forget, end_grace, restart, layout_return, listing}
-use Rattle.recovery.specs.Counts.{counts, counts_of}
-use Rattle.recovery.specs.LayoutReturn.{answered_by, report_file, return_file, reported_of, ordinary_of, returned_by, return_under}
+use Rattle.recovery.specs.Counts.{counts}
+use Rattle.recovery.specs.LayoutReturn.{answered_by, report_file, return_file, reported_of, ordinary_of, returned_by, layoutreturn_of}
 use Rattle.recovery.specs.Record.{fresh_as, with_files, answered, place_in, file_at, on_place, open_of, is_barred, set_up_of, reclaim_of, close_of, repaired_of, add_proxy_of, remove_proxy_of, raised, room_in, enter, pulled, without_file, is_full, register_with, register_of, forgets, forget_of, ended_head, end_of, restart_of, is_wanted}
 use Rattle.recovery.specs.declared.counts.Counts.{Counts}
 use Rattle.recovery.specs.declared.listing.Listing.TheVariants.{Resilver, Offered}
 use Rattle.recovery.specs.declared.record.Answered.{Answered}
 use Rattle.recovery.specs.declared.record.Record.{Record}
-use Rattle.ledger.specs.Counts.{lengths, CountsAgree}
+use Rattle.ledger.specs.Counts.{CountsAgree}
 use Rattle.ledger.specs.Ledger.{Ledger, no_rows, feed, is_on}
-use Rattle.ledger.specs.History.{step_under, step, record_after}
+use Rattle.ledger.specs.History.{step, record_after}
 use Rattle.ledger.proofs.Calls.{same_test, free-not-on}
 use Rattle.ledger.proofs.History.{step-agrees, after-all, fresh-matches}
 use Rattle.ledger.proofs.OneCall.{Does, keeps, makes, open-does, set-up-does, reclaim-does, close-does, repaired-does, add-proxy-does, remove-proxy-does, report-does, return-does}
@@ -259,12 +259,8 @@ unfolding end_of
 ending r c = by-test r.head.grace (answering 0 (counted-anew r)) (answering 10033 c)
 
 -- ---- a step
-pub counted-under : (b : ℕ) (r : Record) (n k : ℕ) (s d : List ℕ) → length r.files ≡ 64 → Counted r → Counted (step_under b r n k s d).after
-unfolding return_under
-counted-under b r n k s d long c = return-by n k s r long c (decision_of r.head b s (length d))
-
 pub counted_step : (r : Record) (x : Call) → length r.files ≡ 64 → Counted r → Counted (step r x).after
-unfolding step register_of open_of set_up_of reclaim_of close_of repaired_of add_proxy_of remove_proxy_of forget_of
+unfolding step register_of open_of set_up_of reclaim_of close_of repaired_of add_proxy_of remove_proxy_of forget_of layoutreturn_of
 counted_step r (register n s) long c = (by-test r.head.grace (answering 10013 c) (registering n (enrolled_of s) r long c)).so
 counted_step r (opening n k) long c = on-place n (opened_file n r.head k) r long c (open-does r.head (file_at n r) n k)
 counted_step r (set_up n k s) long c =
@@ -278,7 +274,7 @@ counted_step r (remove_proxy n) long c = on-place n (proxy_removed_file n r.head
 counted_step r (forget n) long c = (forgetting n r long c).so
 counted_step r end_grace long c = (ending r c).so
 counted_step r restart long c = restarting r c
-counted_step r (layout_return n k s d) long c = counted-under 0 r n k s d long c
+counted_step r (layout_return n k s d) long c = return-by n k s r long c (decision_of r.head s (length d))
 counted_step r (listing k e a b) long c = c
 
 -- ---- any list of calls
@@ -287,16 +283,14 @@ unfolding record_after
 counted-all [] r l m c = c
 counted-all (x ∷ xs) r l m c = let s = step-agrees r l x m in counted-all xs (step r x).after (feed l x (step r x).answer) (rw s.answer s.after) (counted_step r x m.long c)
 
-pub fresh-counted : (e : Edition) → Counted (fresh_as e)
+fresh-counted : (e : Edition) → Counted (fresh_as e)
 unfolding chosen
 fresh-counted e = record { waiting = refl; offered = refl }
 
-pub counts-so : {r : Record} {l : Ledger} → Matches r l → Counted r → counts_of r.head ≡ lengths l
+pub counted : CountsAgree
 unfolding is_wanted
-counts-so m c =
+counted e calls =
+    let c = counted-all calls (fresh_as e) (no_rows e) (fresh-matches e) (fresh-counted e) in
+    let m = after-all calls (fresh_as e) (no_rows e) (fresh-matches e) in
     ap₂ {C = Counts} counts (c.waiting ∙ pairs-length (slots-chosen (is_wanted Resilver) (is_on Resilver) (same_test m Resilver) (free-not-on m Resilver) m.rows))
     (c.offered ∙ pairs-length (slots-chosen (is_wanted Offered) (is_on Offered) (same_test m Offered) (free-not-on m Offered) m.rows))
-
-pub counted : CountsAgree
-counted e calls =
-    counts-so (after-all calls (fresh_as e) (no_rows e) (fresh-matches e)) (counted-all calls (fresh_as e) (no_rows e) (fresh-matches e) (fresh-counted e))

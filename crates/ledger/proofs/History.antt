@@ -5,25 +5,22 @@ use mathlib.Core.Bool.{Bool, true, false, cond}
 use Prim.Native.Nat.{ℕ}
 use lib.Dec.{leb}
 use lib.ListN.{length}
-use Rattle.places.specs.Lists.{has, fill}
+use Rattle.places.specs.Lists.{fill}
 use Rattle.files.specs.File.{blank_file}
 use Rattle.places.proofs.Slots.{All, Slots, all_replicate}
 use Rattle.files.specs.declared.head.Edition.{Edition}
 use Rattle.files.specs.declared.head.Edition.TheVariants.{Current, Old}
-use Rattle.files.specs.Head.{is_old, edition_of}
-use Rattle.mirroring.specs.declared.source.Direction.{Direction}
+use Rattle.files.specs.Head.{is_old}
 use Rattle.files.specs.declared.file.File.{File}
 use Rattle.recovery.specs.Calls.{Call, register, opening, set_up, reclaim, close, repaired, add_proxy, remove_proxy, forget, end_grace, restart, layout_return, listing, Answer, said, listed, lend}
-use Rattle.ledger.specs.Ledger.{Row, Ledger, no_rows, judge, apply, accepted, feed, is_on, rows_on, sources}
-use Rattle.ledger.specs.Lists.{OneList}
-use Rattle.recovery.specs.Record.{fresh_as, listing_of}
-use Rattle.recovery.specs.declared.listing.Listing.{Listing}
+use Rattle.ledger.specs.Ledger.{Row, Ledger, no_rows, judge, apply, accepted, feed, is_on}
+use Rattle.recovery.specs.Record.{fresh_as}
 use Rattle.ledger.specs.History.{step_of, step, answers, verdicts, record_after, ledger_after}
-use Rattle.ledger.specs.Demand3.{Demand3}
+use Rattle.ledger.specs.Demand3.{ledger_of, Demand3}
 use Rattle.recovery.specs.declared.record.Record.{Record}
 use Rattle.recovery.specs.declared.record.Answered.{Answered}
 use Rattle.ledger.proofs.Relation.{FileIs, NoFile, Matches, RecordAgrees}
-use Rattle.mirroring.proofs.Copies.{few-devices}
+use Rattle.ledger.proofs.OneFile.{few-devices}
 use Rattle.ledger.proofs.Calls.{open-agrees, set-up-agrees, reclaim-agrees, close-agrees, repaired-agrees, add-proxy-agrees, remove-proxy-agrees, forget-agrees, register-agrees, end-agrees, restart-agrees, list-agrees}
 use Rattle.ledger.proofs.Returns.{StepIs, return-agrees}
 use Rattle.ledger.proofs.Sentences.{FewMirrors, never-the-proxy, one_list}
@@ -68,7 +65,7 @@ step-agrees r l (layout_return n c s d) m = return-agrees m n c s d
 step-agrees r l (listing k e a b) m = by-list _ r l (listing k e a b) _ _ a b (list-agrees m k e a b) m
 
 -- ---- any list of calls
-pub same-edition : (l : Ledger) (x : Call) → (apply l x).edition ≡ l.edition
+same-edition : (l : Ledger) (x : Call) → (apply l x).edition ≡ l.edition
 unfolding apply
 same-edition l (register n s) = refl
 same-edition l (opening n c) = refl
@@ -119,28 +116,14 @@ named : (ed : Edition) → cond (is_old ed) Old Current ≡ ed
 named Current = refl
 named Old = refl
 
--- what a record and a ledger that go together say of the lists and of the edition
-module _ {r : Record} {l : Ledger} (m : Matches r l) where
-  pub listings-so : (k : Listing) (e : Direction) (a b : List ℕ) → listing_of k e r a b ≡ judge l (listing k e a b)
-  unfolding judge
-  listings-so k e a b = list-agrees m k e a b
-
-  pub lists-so : (k : Listing) (e : Direction) → OneList e (is_on k) l (rows_on k l)
-  lists-so k e = one_list e (is_on k) l m.rising
-
-  pub ordinary-so : (k : Listing) (e : Direction) → has 4 (sources e (rows_on k l)) ≡ false
-  ordinary-so k e = never-the-proxy e (is_on k) (few-rows m.rows)
-
-  pub edition-so : edition_of r.head ≡ l.edition
-  edition-so = ap (λ b. cond b Old Current) m.old ∙ named l.edition
-
 pub history : Demand3
+unfolding judge
 history ed calls =
     let m = after-all calls (fresh_as ed) (no_rows ed) (fresh-matches ed) in
     record {
       answered = all-answered calls (fresh_as ed) (no_rows ed) (fresh-matches ed);
-      listings = listings-so m;
-      lists = lists-so m;
-      ordinary = ordinary-so m;
-      edition = edition-so m ∙ kept-edition calls (no_rows ed) (answers (fresh_as ed) calls);
+      listings = λ k a b. list-agrees m k a b;
+      lists = λ k e. one_list e (is_on k) (ledger_of ed calls) m.rising;
+      ordinary = λ k e. never-the-proxy e (is_on k) (few-rows m.rows);
+      edition = ap (λ b. cond b Old Current) (m.old ∙ ap is_old (kept-edition calls (no_rows ed) (answers (fresh_as ed) calls))) ∙ named ed;
     }

@@ -4,13 +4,12 @@ mod OneFile
 mod Stated
 mod Calls
 mod Totalled
-pub mod Returns
+mod Returns
 pub mod Sentences
 pub mod History
 pub mod Others
 mod OneCall
 pub mod Counted
-pub mod RecordOf
 mod Fed
 mod Within
 mod Worse

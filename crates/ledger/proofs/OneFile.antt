@@ -1,6 +1,6 @@
 -- Calls on one file: each answers what the rules of its row say, and leaves a file that goes with the row as the ledger changes it. In this order: tests of
 -- intents; open; reclaim; close; repaired; the proxy; restart; the end of grace; a report; the source; a new file.
-use mathlib.Core.Path.{◌≡◌, refl, ap, ◌∙◌, subst}
+use mathlib.Core.Path.{◌≡◌, refl, ap, sym, ◌∙◌, subst}
 use mathlib.Core.List.{List, [], ◌∷◌, ◌++◌, map}
 use mathlib.Core.Bool.{Bool, true, false, not, cond}
 use Prim.Native.Nat.{ℕ, suc, ◌+◌, ◌<◌, ◌≤◌}
@@ -55,7 +55,7 @@ at-intent {g} {f} {w} c h = focus (is_intent c) (is_holder c) (is-intent g w.rec
 first_taken_lem : {g : Bool} {rs : List ℕ} {xs : List Intent} {hs : List Holder} → Slots (IntentIs g rs) NoIntent xs hs → first_taken xs ≡ not (none hs)
 unfolding none
 first_taken_lem (Slots.rest All.All-nil) = refl
-first_taken_lem (Slots.rest (All.All-cons h t)) = rw h
+first_taken_lem (Slots.rest (All.All-cons h t)) = h
 first_taken_lem (Slots.item r s) = r.taken
 
 pub some-taken : {g : Bool} {f : File} {w : Row} → FileIs g f w → first_taken f.intents ≡ not (none w.intents)
@@ -71,7 +71,7 @@ takes_one {f} {w} d c h (room i s) = rw (s.at, lt-leb 8 (length w.intents) (omeg
   kept = record {
     head = refl;
     file = with-intents h (record {
-      places = s.put (intent_of c) (holder c no_layout) (record { taken = refl; client = refl; reclaimed = refl; stateid = no-stateid refl; bare = λ z. refl });
+      places = s.put (intent_of c) (holder c no_layout) (record { taken = refl; client = refl; reclaimed = λ z. true-false (sym z); stateid = no-stateid refl; bare = λ z. refl });
       eight = simp length-set h.intents.eight;
     });
   };
@@ -90,7 +90,7 @@ reclaimed-intent : (rs : List ℕ) (c : ℕ) (x : Intent) (y : Holder) → Inten
 reclaimed-intent rs c x y h = record {
   taken = h.taken;
   client = h.client;
-  reclaimed = rw (has-with c y.client rs, h.taken, h.client, h.reclaimed);
+  reclaimed = λ z. rw (has-with c y.client rs, h.taken, h.client, h.reclaimed refl);
   stateid = h.stateid;
   bare = h.bare;
 }
@@ -107,7 +107,7 @@ reclaims-at {f} {w} d c h (found i y t) = rw (t.at, t.there) (record {
       number = h.number;
       copies = h.copies;
       intents = record {
-        places = slots-left (reclaimed_if c) (reclaimed-intent w.reclaimed c) (λ x k. ap (reclaimed_if c) k) h.intents.places;
+        places = slots-left (reclaimed_if c) (reclaimed-intent w.reclaimed c) (λ x k. k) h.intents.places;
         eight = length-map f.intents (reclaimed_if c) ∙ h.intents.eight;
       };
       marked = h.marked;
@@ -119,15 +119,15 @@ pub file-reclaimed : {f : File} {w : Row} (d : Head) (c : ℕ) → FileIs true f
 file-reclaimed d c h = reclaims-at d c h (at-intent c h)
 
 -- ---- close
-grace-test : (g a b : Bool) → a ≡ cond g b false → cond g (not a) false ≡ cond g (not b) false
-grace-test true a b h = ap not h
+grace-test : (g a b : Bool) → (g ≡ true → a ≡ b) → cond g (not a) false ≡ cond g (not b) false
+grace-test true a b h = ap not (h refl)
 grace-test false a b h = refl
 
 leaves_at : {g : Bool} {f : File} {w : Row} (d : Head) (c : ℕ) → d.grace ≡ g → FileIs g f w → AtIntent c g f w → FileAgrees d g (leaves d f (first (is_intent c) f.intents)) w (closed c w) (refused (close_rules g c w))
 unfolding has
 leaves_at {g} {f} {w} d c e h (missing a b) = rw (a, b) (record { same = refl; kept = record { head = refl; file = h } })
 leaves_at {g} {f} {w} d c e h (found i y t) = rw (t.at, e, t.there) (branch (cond g (not (has c w.reclaimed)) false)
-    (grace-test g _ _ ((t.pair no_intent).reclaimed ∙ ap (λ x. cond g (has x w.reclaimed) false) (eqb-true y.client c t.passes)))
+    (grace-test g _ _ (λ z. (t.pair no_intent).reclaimed z ∙ ap (λ x. has x w.reclaimed) (eqb-true y.client c t.passes)))
     (λ z. record { same = refl; kept = record { head = refl; file = h } })
     (λ z. record { same = refl; kept = record { head = refl; file = with-intents h (record { places = t.out no_intent refl; eight = left_out-length no_intent i f.intents ∙ h.intents.eight }) } }))
 
@@ -171,7 +171,7 @@ file-restarted g f w h = record {
   number = h.number;
   copies = h.copies;
   intents = record {
-    places = slots_map unreclaimed_intent (λ (y : Holder). holder y.client no_layout) (λ x y k. record { taken = k.taken; client = k.client; reclaimed = refl; stateid = no-stateid refl; bare = λ z. refl }) (λ x k. ap unreclaimed_intent k) h.intents.places;
+    places = slots_map unreclaimed_intent (λ (y : Holder). holder y.client no_layout) (λ x y k. record { taken = k.taken; client = k.client; reclaimed = λ z. refl; stateid = no-stateid refl; bare = λ z. refl }) (λ x k. k) h.intents.places;
     eight = length-map f.intents unreclaimed_intent ∙ h.intents.eight;
   };
   marked = h.marked;
@@ -185,14 +185,14 @@ pairs-left f k (Pairs.pairs-cons {x} {y} r s) = Pairs.pairs-cons (k x y r) (pair
 
 kept-intents : {f : File} {w : Row} → FileIs true f w
     → Pairs (IntentIs true w.reclaimed) (chosen is_kept f.intents) (chosen (λ (y : Holder). reclaimed_by y.client w) w.intents)
-kept-intents {w} h = slots-chosen is_kept (λ (y : Holder). reclaimed_by y.client w) (λ x y k. rw k.taken k.reclaimed) (λ x k. rw k) h.intents.places
+kept-intents {w} h = slots-chosen is_kept (λ (y : Holder). reclaimed_by y.client w) (λ x y k. rw k.taken (k.reclaimed refl)) (λ x k. rw k) h.intents.places
 
 lost-intents : {f : File} {w : Row} → FileIs true f w → any is_lost f.intents ≡ lost w
-lost-intents {w} h = slots-any is_lost (λ (y : Holder). not (reclaimed_by y.client w)) (λ x y k. rw (k.taken, k.reclaimed)) (λ x k. rw k) h.intents.places
+lost-intents {w} h = slots-any is_lost (λ (y : Holder). not (reclaimed_by y.client w)) (λ x y k. rw (k.taken, k.reclaimed refl)) (λ x k. rw k) h.intents.places
 
--- one that stays has no stateid, and out of grace nobody has reclaimed
+-- one that stays has no stateid
 stays : (rs : List ℕ) (x : Intent) (y : Holder) → IntentIs true rs x y → IntentIs false rs (stayed_intent x) y
-stays rs x y k = record { taken = refl; client = k.client; reclaimed = refl; stateid = rw (k.bare refl) (no-stateid refl); bare = λ z. k.bare refl }
+stays rs x y k = record { taken = refl; client = k.client; reclaimed = λ z. true-false (sym z); stateid = rw (k.bare refl) (no-stateid refl); bare = λ z. k.bare refl }
 
 pub file-ended : (f : File) (w : Row) → FileIs true f w → FileIs false (ended_file f) (ended w)
 unfolding ended_file
@@ -227,7 +227,7 @@ file-reported d c xs ys h = reports-at d c xs ys h (at-intent c h)
 -- no place after the mirrors is good
 good_none : {p : Proxy} {n : ℕ} {ms : List Mirror} (k : ℕ) → PlacesAre p n ms [] → good_from k (take n ms) ≡ []
 unfolding good_from
-good_none k (PlacesAre.bare h) = refl
+good_none k (PlacesAre.bare h e) = refl
 good_none k (PlacesAre.proxied h) = refl
 good_none k (PlacesAre.free h s) = rw h (good_none (suc k) s)
 
@@ -241,11 +241,17 @@ good-item ms ds k bs false e q r h = rw (e, r.present, q) (ap {B = List ℕ} (λ
 good-from : {p : Proxy} {n : ℕ} {ms : List Mirror} {ds : List Device} (k : ℕ) (bs : List ℕ) → PlacesAre p n ms ds → ((i : ℕ) → i < length ms → (get_or ms i no_mirror).blamed ≡ has (k + i) bs)
     → good_from k (take n ms) ≡ unblamed_from k ds bs
 unfolding good_from unblamed_from
-good-from k bs (PlacesAre.bare h) f = refl
+good-from k bs (PlacesAre.bare h e) f = refl
 good-from k bs (PlacesAre.proxied h) f = refl
 good-from k bs (PlacesAre.free {m = m} h s) f = good_none k (PlacesAre.free {m = m} h s)
 good-from k bs (PlacesAre.item {k = n} {ms = ms} {ds = ds} r s) f =
     good-item (take n ms) ds k bs (has k bs) refl (f 0 (omega arith) ∙ ap (λ j. has j bs) (omega arith)) r (good-from (suc k) bs s (λ i p. f (suc i) (omega arith) ∙ ap (λ j. has j bs) (omega arith)))
+
+pub few-devices : {p : Proxy} {n : ℕ} {ms : List Mirror} {ds : List Device} → PlacesAre p n ms ds → length ds ≤ n
+few-devices (PlacesAre.bare h e) = omega arith
+few-devices (PlacesAre.proxied h) = omega arith
+few-devices (PlacesAre.free h s) = omega arith
+few-devices (PlacesAre.item r s) = omega (arith, few-devices s)
 
 pub file-source : (d : Direction) (g : Bool) (f : File) (w : Row) → FileIs g f w → source_of d f ≡ source d w
 unfolding source_of source_in

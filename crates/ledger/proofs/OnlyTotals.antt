@@ -36,7 +36,7 @@ use Rattle.layoutreturn.specs.declared.Decision.TheVariants.{Answered, HandedOn,
 use Rattle.layoutreturn.specs.declared.Outcome.{Outcome}
 use Rattle.recovery.specs.Calls.{layout_return, Answer, replied, handed_on}
 use Rattle.recovery.specs.Record.{with_files, place_in, file_at, put_file}
-use Rattle.recovery.specs.LayoutReturn.{answered_by, reported_of, ordinary_of, returned_by, return_under, stateid_by, reply_under}
+use Rattle.recovery.specs.LayoutReturn.{answered_by, reported_of, ordinary_of, returned_by, layoutreturn_of, stateid_by, reply_after}
 use Rattle.recovery.specs.declared.returns.Returned.{Returned}
 use Rattle.recovery.specs.declared.record.Record.{Record}
 use Rattle.ledger.specs.Ledger.{is_ordinary}
@@ -154,14 +154,14 @@ module _ (r : Record) (n c : ℕ) (d : List ℕ) where
         }
 
     -- what is decided is the same whatever the body's length
-    phase-same : (j k : ℕ) (a : Kind) → Same (phase_of a r.head 0 j) (phase_of a r.head 0 k)
+    phase-same : (j k : ℕ) (a : Kind) → Same (phase_of a r.head j) (phase_of a r.head k)
     phase-same j k kind.Anonymous = either r.head.old (answers 10025) (either r.head.grace (reads j k) (answers 10033))
     phase-same j k kind.Bypass = either r.head.grace (answers 10013) (answers 10025)
     phase-same j k kind.Invalid = either r.head.grace (answers 10013) (answers 10025)
     phase-same j k kind.Current = either r.head.grace (answers 10013) (record { after = refl; answer = refl })
     phase-same j k kind.Ordinary = either r.head.grace (answers 10013) (states j k)
 
-    decided-same : (p q : Request) → kind_of p ≡ kind_of q → Same (decided r.head 0 p) (decided r.head 0 q)
+    decided-same : (p q : Request) → kind_of p ≡ kind_of q → Same (decided r.head p) (decided r.head q)
     decided-same (request.Refused j) (request.Refused k) x = let z : j ≡ k = cc in rw z (answers k)
     decided-same (request.Refused j) request.Bulk x = let z : ◌≡◌ {A = ℕ} 0 1 = cc in absurd (omega arith)
     decided-same (request.Refused j) (request.File b k) x = let z : ◌≡◌ {A = ℕ} 0 1 = cc in absurd (omega arith)
@@ -173,7 +173,7 @@ module _ (r : Record) (n c : ℕ) (d : List ℕ) where
     decided-same (request.File a j) (request.File b k) x = let z : a ≡ b = cc in rw z (phase-same j k b)
 
     pub both-alike : Alike r (layout_return n c s d) (layout_return n c t d)
-    unfolding step return_under reply_under decision_of
+    unfolding step layoutreturn_of reply_after decision_of
     both-alike = let z = either (ltb (length d) 24) (answers 28) (decided-same (request_of s) (request_of t) e.kind) in record { after = z.after; answer = z.answer }
 
   -- ---- a report without device errors: it leaves the record, but for the stateid that rises
@@ -228,8 +228,8 @@ module _ (r : Record) (n c : ℕ) (d : List ℕ) where
     silent-by (ReturnBody len) = raise-alone
 
     pub silent-is : without_stateids (step r (layout_return n c s d)).after ≡ without_stateids r
-    unfolding step return_under
-    silent-is = silent-by (decision_of r.head 0 s (length d))
+    unfolding step layoutreturn_of
+    silent-is = silent-by (decision_of r.head s (length d))
 
     -- any other return leaves the whole record
     record Left (x : Decision) : Type 0 where
@@ -246,7 +246,7 @@ module _ (r : Record) (n c : ℕ) (d : List ℕ) where
     unfolding reported_of
     reading len = record { left = nothing_said }
 
-    unraised-by : (q : Request) → is_ordinary q ≡ false → Left (decided r.head 0 q)
+    unraised-by : (q : Request) → is_ordinary q ≡ false → Left (decided r.head q)
     unraised-by (request.Refused k) o = answering k
     unraised-by request.Bulk o = record { left = refl }
     unraised-by (request.File kind.Anonymous len) o = one_of r.head.old (answering 10025) (one_of r.head.grace (reading len) (answering 10033))
@@ -256,7 +256,7 @@ module _ (r : Record) (n c : ℕ) (d : List ℕ) where
     unraised-by (request.File kind.Ordinary len) o = true-false o
 
     pub unraised-is : is_ordinary (request_of s) ≡ false → (step r (layout_return n c s d)).after ≡ r
-    unfolding step return_under decision_of
+    unfolding step layoutreturn_of decision_of
     unraised-is o = (one_of (ltb (length d) 24) (answering 28) (unraised-by (request_of s) o)).left
 
 pub only-totals : (r : Record) (n c : ℕ) (s d : List ℕ) → OnlyTotals r n c s d

@@ -9,10 +9,8 @@ use lib.Dec.{eqb}
 use Rattle.places.specs.Lists.{has, Rising}
 use Rattle.files.specs.Head.{is_old}
 use Rattle.files.specs.File as file
-use Rattle.files.specs.File.{blank_file}
-use Rattle.intents.specs.Intents.{no_intent, is_stated}
+use Rattle.intents.specs.Intents.{is_stated}
 use Rattle.intents.specs.declared.Intent.{Intent}
-use Rattle.wire.specs.Stateid.{no_stateid}
 use Rattle.wire.specs.declared.stateid.Stateid.{Stateid}
 use Rattle.mirroring.specs.Devices.{Proxy}
 use Rattle.mirroring.specs.declared.mirrors.Mirror.{Mirror}
@@ -25,21 +23,21 @@ use Rattle.ledger.specs.Ledger.{Layout, no_layout, held, Holder, Row, Ledger, nu
 use Rattle.recovery.specs.declared.record.Record.{Record}
 use Rattle.recovery.specs.declared.record.Answered.{Answered}
 
--- ---- a place's stateid and a client's: none is zeros
+-- ---- a place's stateid and a client's: a seqid of 0 is none
 pub data LayoutIs (t : Stateid) : Layout → Type 0 where
-  no-stateid : t ≡ no_stateid → LayoutIs t no_layout
+  no-stateid : is_stated t ≡ false → LayoutIs t no_layout
   its-stateid : {u : Stateid} → t ≡ u → is_stated u ≡ true → LayoutIs t (held u)
 
--- ---- a file's intents and a row's holders; g: in grace. Only there does a place say that its client has reclaimed, and there nobody has a stateid
+-- ---- a file's intents and a row's holders; g: in grace. Only there does a place say whether its client has reclaimed, and there nobody has a stateid
 pub record IntentIs (g : Bool) (rs : List ℕ) (x : Intent) (h : Holder) : Type 0 where
   pub taken : x.taken ≡ true
   pub client : x.client ≡ h.client
-  pub reclaimed : x.reclaimed ≡ cond g (has h.client rs) false
+  pub reclaimed : g ≡ true → x.reclaimed ≡ has h.client rs
   pub stateid : LayoutIs x.stateid h.layout
   pub bare : g ≡ true → h.layout ≡ no_layout
 
 abbrev pub NoIntent : Intent → Type 0
-NoIntent x = x ≡ no_intent
+NoIntent x = x.taken ≡ false
 
 pub record Intents (g : Bool) (rs : List ℕ) (xs : List Intent) (hs : List Holder) : Type 0 where
   pub places : Slots (IntentIs g rs) NoIntent xs hs
@@ -54,7 +52,7 @@ pub record FileIs (g : Bool) (f : File) (w : Row) : Type 0 where
   pub marked : f.marked ≡ w.marked
 
 abbrev pub NoFile : File → Type 0
-NoFile f = f ≡ blank_file
+NoFile f = f.used ≡ false
 
 -- ---- THE RELATION
 pub record Matches (r : Record) (l : Ledger) : Type 0 where

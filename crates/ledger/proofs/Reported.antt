@@ -3,7 +3,7 @@
 use mathlib.Core.Path.{◌≡◌, refl, ap, ◌∙◌}
 use mathlib.Core.List.{List, [], ◌∷◌}
 use mathlib.Core.Bool.{Bool, true, false, not, cond}
-use Prim.Native.Nat.{ℕ}
+use Prim.Native.Nat.{ℕ, ◌<◌}
 use lib.Dec.{eqb}
 use Rattle.reports.specs.Statistics.{Statistic}
 use Rattle.reports.specs.Report.{DeviceError, Whole, Malformed, over}
@@ -27,7 +27,7 @@ use Rattle.recovery.specs.LayoutReturn.{answered_by}
 use Rattle.places.specs.declared.Found.{Found}
 use Rattle.places.specs.declared.Found.TheVariants.{At, Nothing}
 use Rattle.places.proofs.Sets.{none_first}
-use Rattle.mirroring.proofs.Copies.{Copies, known, CopyAt, placed, none-blamed, place-blamed}
+use Rattle.mirroring.proofs.Copies.{Copies, known, places_with, placed, none-blamed, place-blamed}
 use Rattle.files.specs.declared.head.Edition.TheVariants.{Current}
 use Rattle.mirroring.proofs.Assessing.{status-kept}
 use Rattle.ledger.specs.Ledger.{Row, names, place_in, is_fault, is_stranger, blame, reported, with_mark, with_blame}
@@ -64,7 +64,7 @@ module _ {was : List ℕ} (ms : List Mirror) (w : Row) (s : Copies ms w.mirrors 
   unfolding with_error_of
   error-stranger x e = rw (none_first (is_device (device_of x)) ms (known (device_of x) s ∙ e))
 
-  error-at : {bs : List ℕ} {b : Bool} (t i : ℕ) → CopyAt 4 i w.mirrors w.proxy → Sees ms h w bs b → (z : Bool) → eqb t 0 ≡ z → Sees ms (with_error_at h t (At i)) w (cond (not z) (with i bs) bs) (cond (not z) true b)
+  error-at : {bs : List ℕ} {b : Bool} (t i : ℕ) → i < places_with 4 w.proxy → Sees ms h w bs b → (z : Bool) → eqb t 0 ≡ z → Sees ms (with_error_at h t (At i)) w (cond (not z) (with i bs) bs) (cond (not z) true b)
   error-at t i p k true e = rw e k
   error-at t i p k false e = rw e (record {
     copies = place-blamed ms h.change.blamed i p k.copies;

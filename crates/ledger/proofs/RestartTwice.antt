@@ -115,7 +115,7 @@ report-side n c k Malformed h = side h
 report-side n c k (Whole xs ys) h = one-file Current n (λ w. refused (intent_rules c w)) (reported Current xs) (report-kept c xs) h
 
 return-side : (o : Edition) (n c : ℕ) (s d : List ℕ) (q : Request) → request_of s ≡ q → {ws vs : List Row} → Pairs Worse ws vs
-    → Side (feed (in_grace o ws) (layout_return n c s d) (judge_request 0 (in_grace o ws) n c s d q)) (feed (in_grace o vs) (layout_return n c s d) (judge_request 0 (in_grace o vs) n c s d q))
+    → Side (feed (in_grace o ws) (layout_return n c s d) (judge_request (in_grace o ws) n c s d q)) (feed (in_grace o vs) (layout_return n c s d) (judge_request (in_grace o vs) n c s d q))
 unfolding feed apply
 return-side o n c s d (request.Refused k) e h = rw (ne_eqb k 0 (refused-number s e)) (side h)
 return-side o n c s d request.Bulk e h = side h
@@ -143,7 +143,7 @@ step-side o end_grace k h = absurd (k refl)
 step-side o restart k h = side (pairs-both restarted restart-kept h)
 step-side o (layout_return n c s d) {ws} {vs} k h = by (ltb (length d) 24)
   where
-    by : (b : Bool) → Side (feed (in_grace o ws) (layout_return n c s d) (cond b (replied 28 no_totals d) (judge_request 0 (in_grace o ws) n c s d (request_of s)))) (feed (in_grace o vs) (layout_return n c s d) (cond b (replied 28 no_totals d) (judge_request 0 (in_grace o vs) n c s d (request_of s))))
+    by : (b : Bool) → Side (feed (in_grace o ws) (layout_return n c s d) (cond b (replied 28 no_totals d) (judge_request (in_grace o ws) n c s d (request_of s)))) (feed (in_grace o vs) (layout_return n c s d) (cond b (replied 28 no_totals d) (judge_request (in_grace o vs) n c s d (request_of s))))
     by true = side h
     by false = return-side o n c s d (request_of s) refl h
 step-side o (listing which by a b) {ws} {vs} k h = rw (lend-changes-nothing _ _ a b, lend-changes-nothing _ _ a b) (side h)

@@ -7,7 +7,7 @@ use Prim.Native.Nat.{ℕ, ◌<◌}
 use native.Mathlib.Omega.{arith}
 use lib.ListN.{length}
 use lib.Dec.{eqb, ltb}
-use borrow.Author.Tests.{eqb-true, eqb-false, ne_eqb}
+use borrow.Author.Tests.{eqb-true, ne_eqb}
 use Rattle.statuses.specs.Names.{Bytes, Client, FileNumber}
 use Rattle.statuses.specs.Rules.{◌⇒◌, first_of, refused}
 use Rattle.reports.specs.Report.{DeviceError, Report, Whole, Malformed, report_of}
@@ -31,14 +31,14 @@ use Rattle.files.specs.declared.file.File.{File}
 use Rattle.files.specs.declared.file.FileAnswered.{FileAnswered}
 use Rattle.layoutreturn.specs.LayoutReturn.{handed_on_code, phase_of, decided, decision_of, report_on, held_on, return_on, raised_on, reply_by}
 use Rattle.layoutreturn.specs.declared.Decision.{Decision}
-use Rattle.layoutreturn.specs.declared.Decision.TheVariants.{Answered, ReadBody}
+use Rattle.layoutreturn.specs.declared.Decision.TheVariants.{Answered}
 use Rattle.recovery.specs.Calls.{Call, layout_return, Answer, replied, handed_on}
 use Rattle.recovery.specs.Record.{file_at, on_place}
-use Rattle.recovery.specs.LayoutReturn.{returning, return_file, reported_of, ordinary_of, returned_by, return_under, stateid_by, reply_under}
+use Rattle.recovery.specs.LayoutReturn.{returning, return_file, reported_of, ordinary_of, returned_by, layoutreturn_of, stateid_by, reply_after}
 use Rattle.recovery.specs.declared.record.Record.{Record}
 use Rattle.recovery.specs.declared.returns.Returned.{Returned}
-use Rattle.ledger.specs.Ledger.{Layout, Row, Ledger, registered, row_of, holds, layout_of, is_other, age_in, raised_layout, layout_bytes, is_older, is_newer, intent_rules, stateid_rules, body_rules, report_rules, return_rules, row_totals, totals_in, refusal, reply, judge_request, judge_return, judge, is_fault, is_stranger, blame, with_mark, with_blame, reported, errors_of, on_row, apply, feed}
-use Rattle.ledger.specs.History.{Step, return_step, step_under, step}
+use Rattle.ledger.specs.Ledger.{Layout, Row, Ledger, registered, row_of, holds, layout_of, is_other, age_in, raised_layout, layout_bytes, is_older, is_newer, intent_rules, stateid_rules, body_rules, report_rules, return_rules, row_totals, totals_in, refusal, reply, judge_request, judge, is_fault, is_stranger, blame, with_mark, with_blame, reported, errors_of, on_row, apply, feed}
+use Rattle.ledger.specs.History.{Step, return_step, step}
 use Rattle.ledger.proofs.Relation.{Matches, RecordAgrees}
 use Rattle.ledger.proofs.Reported.{assessed_file, nothing-changed, whole-report, malformed-report}
 use Rattle.ledger.proofs.OneFile.{file-reported}
@@ -176,65 +176,54 @@ module _ {r : Record} {l : Ledger} (m : Matches r l) (n c : ℕ) (s d : List ℕ
   abbrev answers_by : Decision → Step
   answers_by x = returns (returned_by n c s r x) (stateid_by n c s r x) d
 
-  -- b is the bar
-  abbrev phase : ℕ → Kind → ℕ → Bool → Bool → Step
-  phase b a k o g = answers_by (phase_of a (record { waiting = r.head.waiting; offered = r.head.offered; grace = g; old = o }) b k)
+  abbrev phase : Kind → ℕ → Bool → Bool → Step
+  phase a k o g = answers_by (phase_of a (record { waiting = r.head.waiting; offered = r.head.offered; grace = g; old = o }) k)
 
-  bypass : (b k : ℕ) (o g : Bool) → StepIs (phase b kind.Bypass k o g) l this (first_of (g ⇒ refusal 10013 d ∷ []) (refusal 10025 d))
-  bypass b k o true = refuses 10013 (omega arith) (λ e. omega arith) refl
-  bypass b k o false = refuses 10025 (omega arith) (λ e. omega arith) refl
+  bypass : (k : ℕ) (o g : Bool) → StepIs (phase kind.Bypass k o g) l this (first_of (g ⇒ refusal 10013 d ∷ []) (refusal 10025 d))
+  bypass k o true = refuses 10013 (omega arith) (λ e. omega arith) refl
+  bypass k o false = refuses 10025 (omega arith) (λ e. omega arith) refl
 
-  current : (b k : ℕ) (o g : Bool) → StepIs (phase b kind.Current k o g) l this (first_of (g ⇒ refusal 10013 d ∷ []) (handed_on no_totals d))
-  current b k o true = refuses 10013 (omega arith) (λ e. omega arith) refl
-  current b k o false = hands_on
+  current : (k : ℕ) (o g : Bool) → StepIs (phase kind.Current k o g) l this (first_of (g ⇒ refusal 10013 d ∷ []) (handed_on no_totals d))
+  current k o true = refuses 10013 (omega arith) (λ e. omega arith) refl
+  current k o false = hands_on
 
-  ordinary : (b k : ℕ) (o g : Bool) → request_of s ≡ request.File kind.Ordinary k → l.grace ≡ g
-      → StepIs (phase b kind.Ordinary k o g) l this
+  ordinary : (k : ℕ) (o g : Bool) → request_of s ≡ request.File kind.Ordinary k → l.grace ≡ g
+      → StepIs (phase kind.Ordinary k o g) l this
       (first_of (g ⇒ refusal 10013 d ∷ []) (reply (refused (return_rules l n c (stateid_in s) report)) (totals_in l.edition report (row_of n l)) (layout_bytes (raised_layout (layout_of c (row_of n l)))) d))
-  ordinary b k o true q e = refuses 10013 (omega arith) (λ e. omega arith) refl
-  ordinary b k o false q e = ordinary-reads k q e
+  ordinary k o true q e = refuses 10013 (omega arith) (λ e. omega arith) refl
+  ordinary k o false q e = ordinary-reads k q e
 
-  anonymous : (b k : ℕ) → b < 20000 → (o g : Bool) → request_of s ≡ request.File kind.Anonymous k → is_old l.edition ≡ o
-      → StepIs (phase b kind.Anonymous k o g) l this (reply (refused (o ⇒ 10025 ∷ not (eqb b 0) ⇒ b ∷ not g ⇒ 10033 ∷ report_rules l n c report)) (row_totals report (row_of n l)) (zeros 16) d)
-  anonymous b k low true g q e = refuses 10025 (omega arith) (λ z. omega arith) refl
-  anonymous b k low false g q e = by (eqb b 0) refl g
-    where
-      by : (z : Bool) → eqb b 0 ≡ z → (g : Bool)
-          → StepIs (answers_by (cond z (cond g (ReadBody k) (Answered 10033)) (Answered b))) l this (reply (cond (not z) b (cond (not g) 10033 (refused (report_rules l n c report)))) (row_totals report (row_of n l)) (zeros 16) d)
-      by true i false = refuses 10033 (omega arith) (λ z. omega arith) refl
-      by true i true = reads k q e
-      by false i g = refuses b low (eqb-false b 0 i) (rw i)
+  anonymous : (k : ℕ) (o g : Bool) → request_of s ≡ request.File kind.Anonymous k → is_old l.edition ≡ o
+      → StepIs (phase kind.Anonymous k o g) l this (reply (refused (o ⇒ 10025 ∷ not g ⇒ 10033 ∷ report_rules l n c report)) (row_totals report (row_of n l)) (zeros 16) d)
+  anonymous k true g q e = refuses 10025 (omega arith) (λ z. omega arith) refl
+  anonymous k false false q e = refuses 10033 (omega arith) (λ z. omega arith) refl
+  anonymous k false true q e = reads k q e
 
-  in-phase : (b : ℕ) (a : Kind) (k : ℕ) {t : Answer} → StepIs (phase b a k (is_old l.edition) l.grace) l this t → StepIs (phase b a k r.head.old r.head.grace) l this t
-  in-phase b a k {t} h =
-      subst (λ (o : Bool). StepIs (phase b a k o r.head.grace) l this t) (sym m.old)
-      (subst (λ (g : Bool). StepIs (phase b a k (is_old l.edition) g) l this t) (sym m.grace) h)
+  in-phase : (a : Kind) (k : ℕ) {t : Answer} → StepIs (phase a k (is_old l.edition) l.grace) l this t → StepIs (phase a k r.head.old r.head.grace) l this t
+  in-phase a k {t} h =
+      subst (λ (o : Bool). StepIs (phase a k o r.head.grace) l this t) (sym m.old)
+      (subst (λ (g : Bool). StepIs (phase a k (is_old l.edition) g) l this t) (sym m.grace) h)
 
   -- ---- steps 1 to 7
-  judged : (b : ℕ) → b < 20000 → (q : Request) → request_of s ≡ q → Read-as q → StepIs (answers_by (decided r.head b q)) l this (judge_request b l n c s d q)
-  judged b low (request.Refused k) e h = refuses k h.small h.nonzero refl
-  judged b low request.Bulk e h = hands_on
-  judged b low (request.File kind.Anonymous k) e h = in-phase b kind.Anonymous k (anonymous b k low (is_old l.edition) l.grace e refl)
-  judged b low (request.File kind.Bypass k) e h = in-phase b kind.Bypass k (bypass b k (is_old l.edition) l.grace)
-  judged b low (request.File kind.Invalid k) e h = in-phase b kind.Invalid k (bypass b k (is_old l.edition) l.grace)
-  judged b low (request.File kind.Current k) e h = in-phase b kind.Current k (current b k (is_old l.edition) l.grace)
-  judged b low (request.File kind.Ordinary k) e h = in-phase b kind.Ordinary k (ordinary b k (is_old l.edition) l.grace e refl)
+  judged : (q : Request) → request_of s ≡ q → Read-as q → StepIs (answers_by (decided r.head q)) l this (judge_request l n c s d q)
+  judged (request.Refused k) e h = refuses k h.small h.nonzero refl
+  judged request.Bulk e h = hands_on
+  judged (request.File kind.Anonymous k) e h = in-phase kind.Anonymous k (anonymous k (is_old l.edition) l.grace e refl)
+  judged (request.File kind.Bypass k) e h = in-phase kind.Bypass k (bypass k (is_old l.edition) l.grace)
+  judged (request.File kind.Invalid k) e h = in-phase kind.Invalid k (bypass k (is_old l.edition) l.grace)
+  judged (request.File kind.Current k) e h = in-phase kind.Current k (current k (is_old l.edition) l.grace)
+  judged (request.File kind.Ordinary k) e h = in-phase kind.Ordinary k (ordinary k (is_old l.edition) l.grace e refl)
 
   -- a short reply buffer stays as it is
   short : ltb (length d) 24 ≡ true → StepIs (returns (returning 28 no_totals r) no_stateid d) l this (replied 28 no_totals d)
   unfolding feed reply_in_with
   short e = record { answer = rw e; after = m }
 
-  -- under any bar that is a number of NFS
-  pub under-agrees : (b : ℕ) → b < 20000 → StepIs (step_under b r n c s d) l this (judge_return b l n c s d)
-  unfolding return_under reply_under decision_of
-  under-agrees b low = by (ltb (length d) 24) refl
-    where
-      by : (z : Bool) → ltb (length d) 24 ≡ z
-          → StepIs (answers_by (cond z (Answered 28) (decided r.head b (request_of s)))) l this (cond z (replied 28 no_totals d) (judge_request b l n c s d (request_of s)))
-      by true e = short e
-      by false e = judged b low (request_of s) refl (read_as s (request_of s) refl)
-
   pub return-agrees : StepIs (step r this) l this (judge l this)
-  unfolding step judge
-  return-agrees = under-agrees 0 (omega arith)
+  unfolding step judge layoutreturn_of reply_after decision_of
+  return-agrees = by (ltb (length d) 24) refl
+    where
+      by : (b : Bool) → ltb (length d) 24 ≡ b
+          → StepIs (answers_by (cond b (Answered 28) (decided r.head (request_of s)))) l this (cond b (replied 28 no_totals d) (judge_request l n c s d (request_of s)))
+      by true e = short e
+      by false e = judged (request_of s) refl (read_as s (request_of s) refl)

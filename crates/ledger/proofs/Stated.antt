@@ -46,7 +46,7 @@ use Rattle.ledger.proofs.OneFile.{is-intent, AtIntent, at-intent, told-phase}
 
 -- ---- a place's stateid
 is-held : {u : Stateid} {y : Layout} → LayoutIs u y → is_stated u ≡ is_held y
-is-held (no-stateid e) = rw e
+is-held (no-stateid e) = e
 is-held (its-stateid q e) = rw q e
 
 has_other_lem : (t : Stateid) {u : Stateid} {y : Layout} → LayoutIs u y → cond (is_stated u) (has_other t u) false ≡ is_other t y
@@ -99,12 +99,12 @@ stated-intent : (rs : List ℕ) (c : ℕ) {t : Stateid} {y : Layout} → LayoutI
 stated-intent rs c {t} {y} k x z h = rw (is-intent false rs c x z h) (by (is_holder c z) refl)
   where
     by : (b : Bool) → is_holder c z ≡ b → IntentIs false rs (record { client = x.client; stateid = cond b t x.stateid; taken = x.taken; reclaimed = x.reclaimed }) (cond b (holder c y) z)
-    by true e = record { taken = h.taken; client = h.client ∙ eqb-true z.client c e; reclaimed = h.reclaimed; stateid = k; bare = λ q. true-false (sym q) }
+    by true e = record { taken = h.taken; client = h.client ∙ eqb-true z.client c e; reclaimed = λ q. true-false (sym q); stateid = k; bare = λ q. true-false (sym q) }
     by false e = h
 
 file-stated : {f : File} {w : Row} (c : ℕ) {t : Stateid} {y : Layout} → LayoutIs t y → FileIs false f w → FileIs false (file.with_intents (map (stated_if c t) f.intents) f) (stated c y w)
 file-stated {f} {w} c {t} {y} k h = with-intents h (record {
-  places = slots_map (stated_if c t) (λ (z : Holder). cond (is_holder c z) (holder c y) z) (stated-intent w.reclaimed c k) (λ x q. ap (stated_if c t) q) h.intents.places;
+  places = slots_map (stated_if c t) (λ (z : Holder). cond (is_holder c z) (holder c y) z) (stated-intent w.reclaimed c k) (λ x q. q) h.intents.places;
   eight = length-map f.intents (stated_if c t) ∙ h.intents.eight;
 })
 

@@ -30,11 +30,11 @@ use Rattle.files.specs.declared.file.File.{File}
 use Rattle.files.specs.declared.file.FileAnswered.{FileAnswered}
 use Rattle.recovery.specs.Calls.{register, opening, set_up, reclaim, close, repaired, add_proxy, remove_proxy, forget, end_grace, restart, layout_return, listing, replied, handed_on}
 use Rattle.recovery.specs.Record.{answered, file_at, on_place, open_of, is_barred, set_up_of, reclaim_of, close_of, repaired_of, add_proxy_of, remove_proxy_of, is_full, register_with, register_of, forgets, forget_of, end_of, restart_of}
-use Rattle.recovery.specs.LayoutReturn.{answered_by, report_file, return_file, asked, reported_of, ordinary_of, returned_by, return_under, reply_under}
+use Rattle.recovery.specs.LayoutReturn.{answered_by, report_file, return_file, asked, reported_of, ordinary_of, returned_by, layoutreturn_of, reply_after}
 use Rattle.recovery.specs.declared.record.Record.{Record}
 use Rattle.recovery.specs.declared.record.Answered.{Answered}
 use Rattle.ledger.specs.Ledger.{accepted}
-use Rattle.ledger.specs.History.{step_of, return_step, step_under, step}
+use Rattle.ledger.specs.History.{step_of, return_step, step}
 use Rattle.ledger.specs.Unchanged.{RefusedUnchanged, HeldUnchanged, AgainUnchanged, Unchanged}
 use Rattle.ledger.proofs.Calls.{still}
 use Rattle.ledger.proofs.OneCall.{Does, keeps, makes, open-does, set-up-does, reclaim-does, close-does, repaired-does, add-proxy-does, remove-proxy-does, report-does, return-does}
@@ -92,13 +92,9 @@ module _ (n c : ℕ) (s d : List ℕ) (r : Record) where
   return-by (decision.ReadBody len) h = asked-kept (report_file n c s r) (report-does r.head (file_at n r) n c (report_of (body_of s))) h
   return-by (decision.ReturnBody len) h = asked-kept (return_file n c s r) (return-does r.head (file_at n r) n c (stateid_in s) (report_of (body_of s))) h
 
-pub under-unchanged : (b : ℕ) (r : Record) (n c : ℕ) (s d : List ℕ) → accepted (step_under b r n c s d).answer ≡ false → (step_under b r n c s d).after ≡ r
-unfolding return_under
-under-unchanged b r n c s d h = return-by n c s (reply_under b n c s d r) r (decision_of r.head b s (length d)) h
-
 -- ---- a step
 refused-unchanged : RefusedUnchanged
-unfolding step register_of open_of set_up_of reclaim_of close_of repaired_of add_proxy_of remove_proxy_of forget_of end_of restart_of
+unfolding step register_of open_of set_up_of reclaim_of close_of repaired_of add_proxy_of remove_proxy_of forget_of end_of restart_of layoutreturn_of
 refused-unchanged r (register n s) h = as_before r _ (either r.head.grace (refuses r 10013) (registering n (enrolled_of s) r)) h
 refused-unchanged r (opening n c) h = as_before r _ (on-place n (opened_file n r.head c) r (open-does r.head (file_at n r) n c)) h
 refused-unchanged r (set_up n c s) h =
@@ -112,7 +108,7 @@ refused-unchanged r (remove_proxy n) h = as_before r _ (on-place n (proxy_remove
 refused-unchanged r (forget n) h = as_before r _ (forgetting (forgettable n r.head (file_at n r)) n r) h
 refused-unchanged r end_grace h = as_before r _ (either r.head.grace (accepts r _) (refuses r 10033)) h
 refused-unchanged r restart h = true-false h
-refused-unchanged r (layout_return n c s d) h = under-unchanged 0 r n c s d h
+refused-unchanged r (layout_return n c s d) h = return-by n c s (reply_after n c s d r) r (decision_of r.head s (length d)) h
 refused-unchanged r (listing k e a b) h = refl
 
 -- ---- open where the intent is held

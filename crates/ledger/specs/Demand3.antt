@@ -12,7 +12,7 @@ use Rattle.ledger.specs.Lists.{OneList}
 use Rattle.recovery.specs.Record.{fresh_as, listing_of}
 use Rattle.ledger.specs.History.{answers, record_after, verdicts, ledger_after}
 
--- the ledger after some calls, fed each call and the record's answer; e is how the record is set up
+-- the ledger after some calls, fed each call and the record's answer; old is how the record is set up
 abbrev pub ledger_of : Edition → List Call → Ledger
 ledger_of e calls = ledger_after (no_rows e) calls (answers (fresh_as e) calls)
 

@@ -1,11 +1,11 @@
 -- DEFINITION. A history (Rules 5.1): any list of calls, each on the record that the last one left, and the ledger that goes along with it. In this
 -- order: a step; the record's side of a history; the ledger's side.
 use Rattle.std.specs.Prelude.{List, [], ◌∷◌, cond}
-use Rattle.statuses.specs.Names.{Bytes, Status, Client, FileNumber}
+use Rattle.statuses.specs.Names.{Bytes}
 use Rattle.recovery.specs.Calls.{Call, register, opening, set_up, reclaim, close, repaired, add_proxy, remove_proxy, forget, end_grace, restart, layout_return, listing, Answer, said, replied, handed_on}
 use Rattle.ledger.specs.Ledger.{Ledger, judge, feed}
 use Rattle.recovery.specs.Record.{register_of, open_of, set_up_of, reclaim_of, close_of, repaired_of, add_proxy_of, remove_proxy_of, forget_of, end_of, restart_of, listing_of}
-use Rattle.recovery.specs.LayoutReturn.{return_under, reply_under}
+use Rattle.recovery.specs.LayoutReturn.{layoutreturn_of, reply_after}
 use Rattle.recovery.specs.declared.record.Record.{Record}
 use Rattle.recovery.specs.declared.record.Answered.{Answered}
 use Rattle.recovery.specs.declared.returns.Returned.{Returned}
@@ -22,10 +22,6 @@ step_of a = record { answer = said a.status; after = a.after }
 abbrev pub return_step : Returned → Bytes → Step
 return_step a d = record { answer = cond a.handed (handed_on a.totals d) (replied a.status a.totals d); after = a.after }
 
--- under a bar b, which a single record has none of: 0
-abbrev pub step_under : Status → Record → FileNumber → Client → Bytes → Bytes → Step
-step_under b r n c s d = return_step (return_under b n c s d r) (reply_under b n c s d r)
-
 unfoldable pub step : Record → Call → Step
 step r (register n s) = step_of (register_of n s r)
 step r (opening n c) = step_of (open_of n c r)
@@ -38,7 +34,7 @@ step r (remove_proxy n) = step_of (remove_proxy_of n r)
 step r (forget n) = step_of (forget_of n r)
 step r end_grace = step_of (end_of r)
 step r restart = step_of (restart_of r)
-step r (layout_return n c s d) = step_under 0 r n c s d
+step r (layout_return n c s d) = return_step (layoutreturn_of n c s d r) (reply_after n c s d r)
 step r (listing k e a b) = record { answer = listing_of k e r a b; after = r }
 
 -- ---- a history

@@ -266,24 +266,19 @@ abbrev pub return_rules : Ledger → FileNumber → Client → Stateid → Repor
 return_rules l n c t p = not (registered n l) ⇒ 70 ∷ stateid_rules c t (row_of n l) ++ body_rules p
 
 -- steps 1 to 6 (Rules 3.7): s is the request, d the reply buffer. Step 4, by the kind of stateid (02, Tickets 1, 6 and 13): the anonymous one gets 10025 from a record set up
--- as old, then the bar b, unless that is 0, and 10033 if not in grace; in grace any other gets 10013; out of it read bypass and an invalid one get 10025, the current one is
--- handed on, and an ordinary one is judged by the client's on the file, and the reply of one that is accepted has it with the next seqid. The bar is a head's of a cluster that
--- may not reclaim (02, Ticket 12); a single record has none, which is 0
-abbrev pub judge_request : Status → Ledger → FileNumber → Client → Bytes → Bytes → Request → Answer
-judge_request b l n c s d (request.Refused k) = refusal k d
-judge_request b l n c s d request.Bulk = handed_on no_totals d
-judge_request b l n c s d (request.File kind.Anonymous k) =
-    reply (refused (is_old l.edition ⇒ 10025 ∷ not (eqb b 0) ⇒ b ∷ not l.grace ⇒ 10033 ∷ report_rules l n c (report_of (body_of s)))) (row_totals (report_of (body_of s)) (row_of n l)) (zeros 16) d
-judge_request b l n c s d (request.File kind.Bypass k) = first_of (l.grace ⇒ refusal 10013 d ∷ []) (refusal 10025 d)
-judge_request b l n c s d (request.File kind.Invalid k) = first_of (l.grace ⇒ refusal 10013 d ∷ []) (refusal 10025 d)
-judge_request b l n c s d (request.File kind.Current k) = first_of (l.grace ⇒ refusal 10013 d ∷ []) (handed_on no_totals d)
-judge_request b l n c s d (request.File kind.Ordinary k) =
+-- as old, and 10033 if not in grace; in grace any other gets 10013; out of it read bypass and an invalid one get 10025, the current one is handed on, and an
+-- ordinary one is judged by the client's on the file, and the reply of one that is accepted has it with the next seqid
+abbrev pub judge_request : Ledger → FileNumber → Client → Bytes → Bytes → Request → Answer
+judge_request l n c s d (request.Refused k) = refusal k d
+judge_request l n c s d request.Bulk = handed_on no_totals d
+judge_request l n c s d (request.File kind.Anonymous k) =
+    reply (refused (is_old l.edition ⇒ 10025 ∷ not l.grace ⇒ 10033 ∷ report_rules l n c (report_of (body_of s)))) (row_totals (report_of (body_of s)) (row_of n l)) (zeros 16) d
+judge_request l n c s d (request.File kind.Bypass k) = first_of (l.grace ⇒ refusal 10013 d ∷ []) (refusal 10025 d)
+judge_request l n c s d (request.File kind.Invalid k) = first_of (l.grace ⇒ refusal 10013 d ∷ []) (refusal 10025 d)
+judge_request l n c s d (request.File kind.Current k) = first_of (l.grace ⇒ refusal 10013 d ∷ []) (handed_on no_totals d)
+judge_request l n c s d (request.File kind.Ordinary k) =
     first_of (l.grace ⇒ refusal 10013 d ∷ [])
     (reply (refused (return_rules l n c (stateid_in s) (report_of (body_of s)))) (totals_in l.edition (report_of (body_of s)) (row_of n l)) (layout_bytes (raised_layout (layout_of c (row_of n l)))) d)
-
--- a reply buffer of under 24 bytes gets 28 before step 1
-abbrev pub judge_return : Status → Ledger → FileNumber → Client → Bytes → Bytes → Answer
-judge_return b l n c s d = first_of (ltb (length d) 24 ⇒ replied 28 no_totals d ∷ []) (judge_request b l n c s d (request_of s))
 
 -- ---- what the ledger before a call says that it is answered
 unfoldable pub judge : Ledger → Call → Answer
@@ -298,7 +293,7 @@ judge l (remove_proxy n) = said (refused (l.grace ⇒ 10013 ∷ not (registered 
 judge l (forget n) = said (refused (l.grace ⇒ 10013 ∷ not (registered n l) ⇒ 70 ∷ forget_rules (row_of n l)))
 judge l end_grace = said (refused (not l.grace ⇒ 10033 ∷ []))
 judge l restart = said 0
-judge l (layout_return n c s d) = judge_return 0 l n c s d
+judge l (layout_return n c s d) = first_of (ltb (length d) 24 ⇒ replied 28 no_totals d ∷ []) (judge_request l n c s d (request_of s))
 judge l (listing k e a b) = list_of e (rows_on k l) a b
 
 -- ---- rows as calls change them

@@ -4,7 +4,6 @@ pub mod History
 pub mod Demand3
 pub mod Others
 pub mod Counts
-pub mod RecordOf
 pub mod RestartTwice
 pub mod OnlyTotals
 pub mod Unchanged

@@ -10,7 +10,7 @@ use layouts::kinds::Kind;
 use libc::{EINTR, STDERR_FILENO, STDIN_FILENO, STDOUT_FILENO};
 
 // What one call moved: so many bytes; whether it was the last; and whether it failed. An interrupted call moves none, and is not the last.
-#[derive(Drop)]
+#[derive(Clone, Copy)]
 struct Moved {
     n: usize,
     last: bool,

@@ -22,7 +22,7 @@ use Rattle.places.specs.Places.{first, pull}
 use Rattle.ledger.specs.History.{step, answers}
 use Rattle.ledger.specs.Ledger.{registered, row_of, unblamed_from, judge, blame, insert, apply, feed}
 use Rattle.recovery.specs.Record.{place_in, open_of, reclaim_of, close_of, enter, raised, room_in, register_of, end_of, restart_of, is_wanted, listing_of}
-use Rattle.recovery.specs.LayoutReturn.{reported_of, return_under, reply_under}
+use Rattle.recovery.specs.LayoutReturn.{reported_of, layoutreturn_of, reply_after}
 use Rattle.layoutreturn.specs.LayoutReturn.{decision_of, report_on}
 use Rattle.epochs.specs.Epochs.{judged, join_of, start_of, finish_of}
 use Rattle.epochs.specs.History.{after}
@@ -54,35 +54,35 @@ k4-to-k9 = refl
 
 -- ---- histories
 record-k10 : by_record (started ++ end_grace ∷ list ∷ []) ≡ said 0 ∷ said 0 ∷ said 0 ∷ said 0 ∷ seven 0 ∷ []
-unfolding be_nat be_bytes same_bytes number opaque boolean bounded in_turn reply_with reply_in_with device_error ioerr layoutreturn joined report_of over file_return return_of arguments refusal_of stateid_kind unless request_of body_of with_error_of errors_assessed sum_of totals_of mirror_totals assessment_of devices_in mirrors_in is_mirror place_of is_copy copy_place twice bad_mirrors opened_file reclaimed_file closed_file repaired_file blamed_by node-has plus set_of changed_file report_on decision_of restarted_file ended_file source_of any chosen has with none amend discard first_or fill source_in enrolled_of first pull step answers registered row_of unblamed_from first_by head_or good_from lend judge blame insert apply feed place_in open_of reclaim_of close_of enter raised room_in register_of end_of restart_of is_wanted listing_of reported_of return_under reply_under
+unfolding be_nat be_bytes same_bytes number opaque boolean bounded in_turn reply_with reply_in_with device_error ioerr layoutreturn joined report_of over file_return return_of arguments refusal_of stateid_kind unless request_of body_of with_error_of errors_assessed sum_of totals_of mirror_totals assessment_of devices_in mirrors_in is_mirror place_of is_copy copy_place twice bad_mirrors opened_file reclaimed_file closed_file repaired_file blamed_by node-has plus set_of changed_file report_on decision_of restarted_file ended_file source_of any chosen has with none amend discard first_or fill source_in enrolled_of first pull step answers registered row_of unblamed_from first_by head_or good_from lend judge blame insert apply feed place_in open_of reclaim_of close_of enter raised room_in register_of end_of restart_of is_wanted listing_of reported_of layoutreturn_of reply_after
 record-k10 = refl
 
 ledger-k10 : by_ledger (started ++ end_grace ∷ list ∷ []) ≡ said 0 ∷ said 0 ∷ said 0 ∷ said 0 ∷ seven 0 ∷ []
-unfolding be_nat be_bytes same_bytes number opaque boolean bounded in_turn reply_with reply_in_with device_error ioerr layoutreturn joined report_of over file_return return_of arguments refusal_of stateid_kind unless request_of body_of with_error_of errors_assessed sum_of totals_of mirror_totals assessment_of devices_in mirrors_in is_mirror place_of is_copy copy_place twice bad_mirrors opened_file reclaimed_file closed_file repaired_file blamed_by node-has plus set_of changed_file report_on decision_of restarted_file ended_file source_of any chosen has with none amend discard first_or fill source_in enrolled_of first pull step answers registered row_of unblamed_from first_by head_or good_from lend judge blame insert apply feed place_in open_of reclaim_of close_of enter raised room_in register_of end_of restart_of is_wanted listing_of reported_of return_under reply_under ledger_from
+unfolding be_nat be_bytes same_bytes number opaque boolean bounded in_turn reply_with reply_in_with device_error ioerr layoutreturn joined report_of over file_return return_of arguments refusal_of stateid_kind unless request_of body_of with_error_of errors_assessed sum_of totals_of mirror_totals assessment_of devices_in mirrors_in is_mirror place_of is_copy copy_place twice bad_mirrors opened_file reclaimed_file closed_file repaired_file blamed_by node-has plus set_of changed_file report_on decision_of restarted_file ended_file source_of any chosen has with none amend discard first_or fill source_in enrolled_of first pull step answers registered row_of unblamed_from first_by head_or good_from lend judge blame insert apply feed place_in open_of reclaim_of close_of enter raised room_in register_of end_of restart_of is_wanted listing_of reported_of layoutreturn_of reply_after ledger_from
 ledger-k10 = refl
 
 record-k11 : by_record (reclaimed ++ end_grace ∷ list ∷ []) ≡ said 0 ∷ said 0 ∷ said 0 ∷ said 0 ∷ said 0 ∷ none-listed ∷ []
-unfolding be_nat be_bytes same_bytes number opaque boolean bounded in_turn reply_with reply_in_with device_error ioerr layoutreturn joined report_of over file_return return_of arguments refusal_of stateid_kind unless request_of body_of with_error_of errors_assessed sum_of totals_of mirror_totals assessment_of devices_in mirrors_in is_mirror place_of is_copy copy_place twice bad_mirrors opened_file reclaimed_file closed_file repaired_file blamed_by node-has plus set_of changed_file report_on decision_of restarted_file ended_file source_of any chosen has with none amend discard first_or fill source_in enrolled_of first pull step answers registered row_of unblamed_from first_by head_or good_from lend judge blame insert apply feed place_in open_of reclaim_of close_of enter raised room_in register_of end_of restart_of is_wanted listing_of reported_of return_under reply_under
+unfolding be_nat be_bytes same_bytes number opaque boolean bounded in_turn reply_with reply_in_with device_error ioerr layoutreturn joined report_of over file_return return_of arguments refusal_of stateid_kind unless request_of body_of with_error_of errors_assessed sum_of totals_of mirror_totals assessment_of devices_in mirrors_in is_mirror place_of is_copy copy_place twice bad_mirrors opened_file reclaimed_file closed_file repaired_file blamed_by node-has plus set_of changed_file report_on decision_of restarted_file ended_file source_of any chosen has with none amend discard first_or fill source_in enrolled_of first pull step answers registered row_of unblamed_from first_by head_or good_from lend judge blame insert apply feed place_in open_of reclaim_of close_of enter raised room_in register_of end_of restart_of is_wanted listing_of reported_of layoutreturn_of reply_after
 record-k11 = refl
 
 ledger-k11 : by_ledger (reclaimed ++ end_grace ∷ list ∷ []) ≡ said 0 ∷ said 0 ∷ said 0 ∷ said 0 ∷ said 0 ∷ none-listed ∷ []
-unfolding be_nat be_bytes same_bytes number opaque boolean bounded in_turn reply_with reply_in_with device_error ioerr layoutreturn joined report_of over file_return return_of arguments refusal_of stateid_kind unless request_of body_of with_error_of errors_assessed sum_of totals_of mirror_totals assessment_of devices_in mirrors_in is_mirror place_of is_copy copy_place twice bad_mirrors opened_file reclaimed_file closed_file repaired_file blamed_by node-has plus set_of changed_file report_on decision_of restarted_file ended_file source_of any chosen has with none amend discard first_or fill source_in enrolled_of first pull step answers registered row_of unblamed_from first_by head_or good_from lend judge blame insert apply feed place_in open_of reclaim_of close_of enter raised room_in register_of end_of restart_of is_wanted listing_of reported_of return_under reply_under ledger_from
+unfolding be_nat be_bytes same_bytes number opaque boolean bounded in_turn reply_with reply_in_with device_error ioerr layoutreturn joined report_of over file_return return_of arguments refusal_of stateid_kind unless request_of body_of with_error_of errors_assessed sum_of totals_of mirror_totals assessment_of devices_in mirrors_in is_mirror place_of is_copy copy_place twice bad_mirrors opened_file reclaimed_file closed_file repaired_file blamed_by node-has plus set_of changed_file report_on decision_of restarted_file ended_file source_of any chosen has with none amend discard first_or fill source_in enrolled_of first pull step answers registered row_of unblamed_from first_by head_or good_from lend judge blame insert apply feed place_in open_of reclaim_of close_of enter raised room_in register_of end_of restart_of is_wanted listing_of reported_of layoutreturn_of reply_after ledger_from
 ledger-k11 = refl
 
 record-k12 : by_record (reclaimed ++ reports A ∷ end_grace ∷ list ∷ offers ∷ close 7 1 ∷ offers ∷ []) ≡ said 0 ∷ said 0 ∷ said 0 ∷ said 0 ∷ accepted ∷ said 0 ∷ seven 1 ∷ none-listed ∷ said 0 ∷ seven 1 ∷ []
-unfolding be_nat be_bytes same_bytes number opaque boolean bounded in_turn reply_with reply_in_with device_error ioerr layoutreturn joined report_of over file_return return_of arguments refusal_of stateid_kind stateid_bytes unless request_of body_of with_error_of errors_assessed sum_of totals_of mirror_totals assessment_of devices_in mirrors_in is_mirror place_of is_copy copy_place twice bad_mirrors opened_file reclaimed_file closed_file repaired_file blamed_by node-has plus set_of changed_file raised_file head_after report_on decision_of restarted_file ended_file source_of any chosen has with none amend discard first_or fill source_in enrolled_of first pull step answers registered row_of unblamed_from first_by head_or good_from lend judge blame insert apply feed place_in open_of reclaim_of close_of enter raised room_in register_of end_of restart_of is_wanted listing_of reported_of return_under reply_under
+unfolding be_nat be_bytes same_bytes number opaque boolean bounded in_turn reply_with reply_in_with device_error ioerr layoutreturn joined report_of over file_return return_of arguments refusal_of stateid_kind stateid_bytes unless request_of body_of with_error_of errors_assessed sum_of totals_of mirror_totals assessment_of devices_in mirrors_in is_mirror place_of is_copy copy_place twice bad_mirrors opened_file reclaimed_file closed_file repaired_file blamed_by node-has plus set_of changed_file raised_file head_after report_on decision_of restarted_file ended_file source_of any chosen has with none amend discard first_or fill source_in enrolled_of first pull step answers registered row_of unblamed_from first_by head_or good_from lend judge blame insert apply feed place_in open_of reclaim_of close_of enter raised room_in register_of end_of restart_of is_wanted listing_of reported_of layoutreturn_of reply_after
 record-k12 = refl
 
 ledger-k12 : by_ledger (reclaimed ++ reports A ∷ end_grace ∷ list ∷ offers ∷ close 7 1 ∷ offers ∷ []) ≡ said 0 ∷ said 0 ∷ said 0 ∷ said 0 ∷ accepted ∷ said 0 ∷ seven 1 ∷ none-listed ∷ said 0 ∷ seven 1 ∷ []
-unfolding be_nat be_bytes same_bytes number opaque boolean bounded in_turn reply_with reply_in_with device_error ioerr layoutreturn joined report_of over file_return return_of arguments refusal_of stateid_kind unless request_of body_of with_error_of errors_assessed sum_of totals_of mirror_totals assessment_of devices_in mirrors_in is_mirror place_of is_copy copy_place twice bad_mirrors opened_file reclaimed_file closed_file repaired_file blamed_by node-has plus set_of changed_file report_on decision_of restarted_file ended_file source_of any chosen has with none amend discard first_or fill source_in enrolled_of first pull step answers registered row_of unblamed_from first_by head_or good_from lend judge blame insert apply feed place_in open_of reclaim_of close_of enter raised room_in register_of end_of restart_of is_wanted listing_of reported_of return_under reply_under ledger_from
+unfolding be_nat be_bytes same_bytes number opaque boolean bounded in_turn reply_with reply_in_with device_error ioerr layoutreturn joined report_of over file_return return_of arguments refusal_of stateid_kind unless request_of body_of with_error_of errors_assessed sum_of totals_of mirror_totals assessment_of devices_in mirrors_in is_mirror place_of is_copy copy_place twice bad_mirrors opened_file reclaimed_file closed_file repaired_file blamed_by node-has plus set_of changed_file report_on decision_of restarted_file ended_file source_of any chosen has with none amend discard first_or fill source_in enrolled_of first pull step answers registered row_of unblamed_from first_by head_or good_from lend judge blame insert apply feed place_in open_of reclaim_of close_of enter raised room_in register_of end_of restart_of is_wanted listing_of reported_of layoutreturn_of reply_after ledger_from
 ledger-k12 = refl
 
 record-k13 : by_record (reclaimed ++ reports C ∷ end_grace ∷ list ∷ []) ≡ said 0 ∷ said 0 ∷ said 0 ∷ said 0 ∷ accepted ∷ said 0 ∷ seven 0 ∷ []
-unfolding be_nat be_bytes same_bytes number opaque boolean bounded in_turn reply_with reply_in_with device_error ioerr layoutreturn joined report_of over file_return return_of arguments refusal_of stateid_kind stateid_bytes unless request_of body_of with_error_of errors_assessed sum_of totals_of mirror_totals assessment_of devices_in mirrors_in is_mirror place_of is_copy copy_place twice bad_mirrors opened_file reclaimed_file closed_file repaired_file blamed_by node-has plus set_of changed_file raised_file head_after report_on decision_of restarted_file ended_file source_of any chosen has with none amend discard first_or fill source_in enrolled_of first pull step answers registered row_of unblamed_from first_by head_or good_from lend judge blame insert apply feed place_in open_of reclaim_of close_of enter raised room_in register_of end_of restart_of is_wanted listing_of reported_of return_under reply_under
+unfolding be_nat be_bytes same_bytes number opaque boolean bounded in_turn reply_with reply_in_with device_error ioerr layoutreturn joined report_of over file_return return_of arguments refusal_of stateid_kind stateid_bytes unless request_of body_of with_error_of errors_assessed sum_of totals_of mirror_totals assessment_of devices_in mirrors_in is_mirror place_of is_copy copy_place twice bad_mirrors opened_file reclaimed_file closed_file repaired_file blamed_by node-has plus set_of changed_file raised_file head_after report_on decision_of restarted_file ended_file source_of any chosen has with none amend discard first_or fill source_in enrolled_of first pull step answers registered row_of unblamed_from first_by head_or good_from lend judge blame insert apply feed place_in open_of reclaim_of close_of enter raised room_in register_of end_of restart_of is_wanted listing_of reported_of layoutreturn_of reply_after
 record-k13 = refl
 
 ledger-k13 : by_ledger (reclaimed ++ reports C ∷ end_grace ∷ list ∷ []) ≡ said 0 ∷ said 0 ∷ said 0 ∷ said 0 ∷ accepted ∷ said 0 ∷ seven 0 ∷ []
-unfolding be_nat be_bytes same_bytes number opaque boolean bounded in_turn reply_with reply_in_with device_error ioerr layoutreturn joined report_of over file_return return_of arguments refusal_of stateid_kind unless request_of body_of with_error_of errors_assessed sum_of totals_of mirror_totals assessment_of devices_in mirrors_in is_mirror place_of is_copy copy_place twice bad_mirrors opened_file reclaimed_file closed_file repaired_file blamed_by node-has plus set_of changed_file report_on decision_of restarted_file ended_file source_of any chosen has with none amend discard first_or fill source_in enrolled_of first pull step answers registered row_of unblamed_from first_by head_or good_from lend judge blame insert apply feed place_in open_of reclaim_of close_of enter raised room_in register_of end_of restart_of is_wanted listing_of reported_of return_under reply_under ledger_from
+unfolding be_nat be_bytes same_bytes number opaque boolean bounded in_turn reply_with reply_in_with device_error ioerr layoutreturn joined report_of over file_return return_of arguments refusal_of stateid_kind unless request_of body_of with_error_of errors_assessed sum_of totals_of mirror_totals assessment_of devices_in mirrors_in is_mirror place_of is_copy copy_place twice bad_mirrors opened_file reclaimed_file closed_file repaired_file blamed_by node-has plus set_of changed_file report_on decision_of restarted_file ended_file source_of any chosen has with none amend discard first_or fill source_in enrolled_of first pull step answers registered row_of unblamed_from first_by head_or good_from lend judge blame insert apply feed place_in open_of reclaim_of close_of enter raised room_in register_of end_of restart_of is_wanted listing_of reported_of layoutreturn_of reply_after ledger_from
 ledger-k13 = refl
 
 -- ---- epochs

@@ -33,7 +33,7 @@ pub record MirrorIs (m : Mirror) (d : Device) : Type 0 where
   pub low : m.low ≡ d.low
 
 abbrev pub NoMirror : Mirror → Type 0
-NoMirror m = m ≡ no_mirror
+NoMirror m = m.present ≡ false
 
 pub record ProxyIs (m : Mirror) (d : Device) : Type 0 where
   pub present : m.present ≡ true
@@ -41,9 +41,9 @@ pub record ProxyIs (m : Mirror) (d : Device) : Type 0 where
   pub high : m.high ≡ d.high
   pub low : m.low ≡ d.low
 
--- k places for mirrors, of which the first have the devices, in order; and then the proxy's; a place without a copy is zeros
+-- k places for mirrors, of which the first have the devices, in order; and then the proxy's, which is not blamed where there is none
 pub data PlacesAre : Proxy → ℕ → List Mirror → List Device → Type 0 where
-  bare : {m : Mirror} → NoMirror m → PlacesAre no_proxy 0 (m ∷ []) []
+  bare : {m : Mirror} → NoMirror m → m.blamed ≡ false → PlacesAre no_proxy 0 (m ∷ []) []
   proxied : {m : Mirror} {d : Device} → ProxyIs m d → PlacesAre (proxy_at d) 0 (m ∷ []) []
   free : {p : Proxy} {k : ℕ} {m : Mirror} {ms : List Mirror} → NoMirror m → PlacesAre p k ms [] → PlacesAre p (suc k) (m ∷ ms) []
   item : {p : Proxy} {k : ℕ} {m : Mirror} {d : Device} {ms : List Mirror} {ds : List Device} → MirrorIs m d → PlacesAre p k ms ds → PlacesAre p (suc k) (m ∷ ms) (d ∷ ds)
@@ -53,16 +53,10 @@ pub record Copies (ms : List Mirror) (ds : List Device) (p : Proxy) (bs : List �
   pub blame : (i : ℕ) → i < 5 → (get_or ms i no_mirror).blamed ≡ has i bs
 
 places-long : {p : Proxy} {k : ℕ} {ms : List Mirror} {ds : List Device} → PlacesAre p k ms ds → length ms ≡ suc k
-places-long (bare h) = refl
+places-long (bare h e) = refl
 places-long (proxied h) = refl
 places-long (free h s) = ap suc (places-long s)
 places-long (item h s) = ap suc (places-long s)
-
-pub few-devices : {p : Proxy} {k : ℕ} {ms : List Mirror} {ds : List Device} → PlacesAre p k ms ds → length ds ≤ k
-few-devices (bare h) = omega arith
-few-devices (proxied h) = omega arith
-few-devices (free h s) = omega arith
-few-devices (item h s) = omega (arith, few-devices s)
 
 pub five : {ms : List Mirror} {ds : List Device} {p : Proxy} {bs : List ℕ} → Copies ms ds p bs → length ms ≡ 5
 five c = places-long c.places
@@ -79,7 +73,7 @@ is-no-device d m h = rw h
 
 pub known-places : {p : Proxy} {k : ℕ} {ms : List Mirror} {ds : List Device} (d : Device) → PlacesAre p k ms ds → any (is_device d) ms ≡ is_copy d ds p
 unfolding is_copy is_mirror any
-known-places d (bare {m} h) = rw (is-no-device d m h)
+known-places d (bare {m} h e) = rw (is-no-device d m h)
 known-places d (proxied {m} {d = e} h) = rw (is-proxy d m e h) (by (same_device e d))
   where
     by : (b : Bool) → cond b true false ≡ b
@@ -95,55 +89,55 @@ known-places d (item {p} {m} {d = e} {ds = ds} h s) = rw (is-device d m e h, kno
 pub known : {ms : List Mirror} {ds : List Device} {p : Proxy} {bs : List ℕ} (d : Device) → Copies ms ds p bs → any (is_device d) ms ≡ is_copy d ds p
 known d c = known-places d c.places
 
--- the place i is that of a copy, where there are k places before the proxy's
-pub data CopyAt (k i : ℕ) (ds : List Device) : Proxy → Type 0 where
-  mirror-at : {p : Proxy} → i < length ds → CopyAt k i ds p
-  proxy-at : {d : Device} → i ≡ k → CopyAt k i ds (proxy_at d)
+-- how many places a file with k for mirrors has: the proxy's is one more
+abbrev pub places_with : ℕ → Proxy → ℕ
+places_with k no_proxy = k
+places_with k (proxy_at d) = suc k
 
 -- where the code finds a device
 pub record Placed (d : Device) (ms : List Mirror) (ds : List Device) (p : Proxy) : Type 0 where
   pub at : first (is_device d) ms ≡ At (copy_place d ds)
-  pub inside : CopyAt 4 (copy_place d ds) ds p
+  pub inside : copy_place d ds < places_with 4 p
 
 -- the same if there are k places before the proxy's
 record PlacedBefore (k : ℕ) (d : Device) (ms : List Mirror) (ds : List Device) (p : Proxy) : Type 0 where
   at : first (is_device d) ms ≡ At (cond (is_mirror d ds) (place_of d ds) k)
-  inside : CopyAt k (cond (is_mirror d ds) (place_of d ds) k) ds p
+  inside : cond (is_mirror d ds) (place_of d ds) k < places_with k p
 
-copy-later : {k i : ℕ} {e : Device} {ds : List Device} {p : Proxy} → CopyAt k i ds p → CopyAt (suc k) (suc i) (e ∷ ds) p
-copy-later (mirror-at l) = mirror-at (omega arith)
-copy-later (proxy-at q) = proxy-at (ap suc q)
+one-more-place : (k : ℕ) (p : Proxy) → places_with (suc k) p ≡ suc (places_with k p)
+one-more-place k no_proxy = refl
+one-more-place k (proxy_at d) = refl
 
-copy-free : {k i : ℕ} {p : Proxy} → CopyAt k i [] p → CopyAt (suc k) (suc i) [] p
-copy-free (mirror-at l) = absurd (omega arith)
-copy-free (proxy-at q) = proxy-at (ap suc q)
+some-place : (k : ℕ) (p : Proxy) → k ≤ places_with k p
+some-place k no_proxy = omega arith
+some-place k (proxy_at d) = omega arith
 
 later-place : (b : Bool) (i k : ℕ) → At (suc (cond b i k)) ≡ At (cond b (suc i) (suc k))
 later-place true i k = refl
 later-place false i k = refl
 
-later-inside : {e : Device} {ds : List Device} {p : Proxy} (b : Bool) (i k : ℕ) → CopyAt k (cond b i k) ds p → CopyAt (suc k) (cond b (suc i) (suc k)) (e ∷ ds) p
-later-inside true i k h = copy-later h
-later-inside false i k h = copy-later h
+later-inside : (b : Bool) (i k n : ℕ) → cond b i k < n → cond b (suc i) (suc k) < suc n
+later-inside true i k n h = omega arith
+later-inside false i k n h = omega arith
 
 placed-item : {p : Proxy} {k : ℕ} {m : Mirror} {e : Device} {ms : List Mirror} {ds : List Device} (d : Device) (b : Bool) → same_device e d ≡ b → MirrorIs m e → (is_copy d ds p ≡ true → PlacedBefore k d ms ds p)
     → is_copy d (e ∷ ds) p ≡ true → PlacedBefore (suc k) d (m ∷ ms) (e ∷ ds) p
 unfolding is_copy is_mirror any first place_of
-placed-item {p} {k} {m} {e} d true q r h c = record { at = rw (is-device d m e r, q); inside = rw q (mirror-at (omega arith)) }
+placed-item {p} {k} {m} {e} d true q r h c = record { at = rw (is-device d m e r, q); inside = rw q (omega (arith, some-place (suc k) p)) }
 placed-item {p} {k} {m} {e} {ms} {ds} d false q r h c =
     let z = h (rw q at c) in
     record {
       at = rw (is-device d m e r, q, z.at) (later-place (is_mirror d ds) (place_of d ds) k);
-      inside = rw q (later-inside (is_mirror d ds) (place_of d ds) k z.inside);
+      inside = rw (q, one-more-place k p) (later-inside (is_mirror d ds) (place_of d ds) k (places_with k p) z.inside);
     }
 
 placed-before : {p : Proxy} {k : ℕ} {ms : List Mirror} {ds : List Device} (d : Device) → PlacesAre p k ms ds → is_copy d ds p ≡ true → PlacedBefore k d ms ds p
 unfolding is_copy is_mirror any first
-placed-before d (bare h) c = true-false (sym c)
-placed-before d (proxied {m} {d = e} h) c = record { at = rw (is-proxy d m e h, c); inside = proxy-at refl }
+placed-before d (bare h e) c = true-false (sym c)
+placed-before d (proxied {m} {d = e} h) c = record { at = rw (is-proxy d m e h, c); inside = omega arith }
 placed-before d (free {p} {k} {m} h s) c =
     let z = placed-before d s c in
-    record { at = rw (is-no-device d m h, z.at); inside = copy-free z.inside }
+    record { at = rw (is-no-device d m h, z.at); inside = omega (arith, one-more-place k p, z.inside) }
 placed-before d (item {d = e} h s) c = placed-item d (same_device e d) refl h (placed-before d s) c
 
 pub placed : {ms : List Mirror} {ds : List Device} {p : Proxy} {bs : List ℕ} (d : Device) → Copies ms ds p bs → is_copy d ds p ≡ true → Placed d ms ds p
@@ -154,7 +148,7 @@ placed d c e = let z = placed-before d c.places e in record { at = z.at; inside 
 pub sums-of : {p : Proxy} {k : ℕ} {ms : List Mirror} {ds : List Device} (g : Statistic → ℕ) (ys : List Statistic) → PlacesAre p k ms ds
     → map (sum_at g ys) ms ≡ fill (map (λ d. sum_of g d ys) ds) (replicate k 0) ++ proxy_sum g p ys ∷ []
 unfolding fill
-sums-of g ys (bare h) = rw h
+sums-of g ys (bare h e) = rw h
 sums-of g ys (proxied h) = rw (h.present, h.high, h.low)
 sums-of g ys (free h s) = rw (h, sums-of g ys s)
 sums-of g ys (item h s) = rw (h.present, h.high, h.low, sums-of g ys s)
@@ -195,31 +189,23 @@ flag_at : (ms : List Mirror) (bs : List ℕ) (i j : ℕ) → i < length ms → (
 flag_at ms bs i j h k (yes e) = rw (e, get_or-set_same ms i (blamed_if true (get_or ms i no_mirror)) no_mirror h, has-with i i bs, eq-eqb i i refl)
 flag_at ms bs i j h k (no e) = rw (get_or-set_other ms i j (blamed_if true (get_or ms i no_mirror)) no_mirror e, has-with i j bs, ne_eqb j i e) k
 
-mirror-blamed : {p : Proxy} {k : ℕ} {ms : List Mirror} {ds : List Device} (i : ℕ) → i < length ds → PlacesAre p k ms ds → PlacesAre p k (blame_at ms i) ds
-mirror-blamed i l (bare h) = absurd (omega arith)
-mirror-blamed i l (proxied h) = absurd (omega arith)
-mirror-blamed i l (free h s) = absurd (omega arith)
-mirror-blamed zero l (item h s) = item (record { present = h.present; ordinary = h.ordinary; high = h.high; low = h.low }) s
-mirror-blamed (suc i) l (item h s) = item h (mirror-blamed i (omega arith) s)
+places-blamed : {p : Proxy} {k : ℕ} {ms : List Mirror} {ds : List Device} (i : ℕ) → i < places_with k p → PlacesAre p k ms ds → PlacesAre p k (blame_at ms i) ds
+places-blamed i l (bare h e) = absurd (omega arith)
+places-blamed zero l (proxied h) = proxied (record { present = h.present; proxy = h.proxy; high = h.high; low = h.low })
+places-blamed (suc i) l (proxied h) = absurd (omega arith)
+places-blamed zero l (free h s) = free h s
+places-blamed (suc i) l (free {p} {k} h s) = free h (places-blamed i (omega (arith, one-more-place k p)) s)
+places-blamed zero l (item h s) = item (record { present = h.present; ordinary = h.ordinary; high = h.high; low = h.low }) s
+places-blamed (suc i) l (item {p} {k} h s) = item h (places-blamed i (omega (arith, one-more-place k p)) s)
 
-proxy-blamed : {p : Proxy} {k : ℕ} {ms : List Mirror} {ds : List Device} → is_there p ≡ true → PlacesAre p k ms ds → PlacesAre p k (blame_at ms k) ds
-proxy-blamed e (bare h) = true-false (sym e)
-proxy-blamed e (proxied h) = proxied (record { present = h.present; proxy = h.proxy; high = h.high; low = h.low })
-proxy-blamed e (free h s) = free h (proxy-blamed e s)
-proxy-blamed e (item h s) = item h (proxy-blamed e s)
+within : (i : ℕ) (p : Proxy) → i < places_with 4 p → i < 5
+within i no_proxy h = omega arith
+within i (proxy_at d) h = h
 
-places-blamed : {p : Proxy} {k : ℕ} {ms : List Mirror} {ds : List Device} (i : ℕ) → CopyAt k i ds p → PlacesAre p k ms ds → PlacesAre p k (blame_at ms i) ds
-places-blamed i (mirror-at l) s = mirror-blamed i l s
-places-blamed i (proxy-at q) s = rw q (proxy-blamed refl s)
-
-within : {k i : ℕ} {ms : List Mirror} {ds : List Device} {p : Proxy} → CopyAt k i ds p → PlacesAre p k ms ds → i < suc k
-within (mirror-at l) s = omega (arith, l, few-devices s)
-within (proxy-at q) s = omega (arith, q)
-
-blamed-place : {ms : List Mirror} {ds : List Device} {p : Proxy} {bs : List ℕ} (i : ℕ) → CopyAt 4 i ds p → Copies ms ds p bs → Copies (blame_at ms i) ds p (with i bs)
+blamed-place : {ms : List Mirror} {ds : List Device} {p : Proxy} {bs : List ℕ} (i : ℕ) → i < places_with 4 p → Copies ms ds p bs → Copies (blame_at ms i) ds p (with i bs)
 blamed-place {ms} {ds} {p} {bs} i h c = record {
   places = places-blamed i h c.places;
-  blame = λ j l. flag_at ms bs i j (omega (arith, within h c.places, five c)) (c.blame j l) (ℕ_discrete j i);
+  blame = λ j l. flag_at ms bs i j (omega (arith, within i p h, five c)) (c.blame j l) (ℕ_discrete j i);
 }
 
 set_more : (s i j : ℕ) → j < 32 → ¬ (j ≡ i) → mask.has (mask.plus s i) j ≡ mask.has s j
@@ -229,10 +215,10 @@ set_more s i j h n = has-plus s i j h ∙ rw (ne_eqb j i n) (by (mask.has s j))
     by true = refl
     by false = refl
 
-pub place-blamed : (ms : List Mirror) {ds : List Device} {p : Proxy} {bs : List ℕ} (s i : ℕ) → CopyAt 4 i ds p → Copies (blamed_at s ms) ds p bs → Copies (blamed_at (mask.plus s i) ms) ds p (with i bs)
+pub place-blamed : (ms : List Mirror) {ds : List Device} {p : Proxy} {bs : List ℕ} (s i : ℕ) → i < places_with 4 p → Copies (blamed_at s ms) ds p bs → Copies (blamed_at (mask.plus s i) ms) ds p (with i bs)
 place-blamed ms {p = p} s i h c =
     let e : length ms ≡ 5 = sym (blamed-length (λ k. mask.has s k) ms) ∙ five c in
-    let w : i < 5 = within h c.places in
+    let w : i < 5 = within i p h in
     rw (one_more (λ k. mask.has s k) (λ k. mask.has (mask.plus s i) k) ms i (omega (arith, e, w)) (plus-node s i (omega (arith, w))) (λ j l n. set_more s i j (omega (arith, e, l)) n)) (blamed-place i h c)
 
 -- ---- repair
@@ -240,9 +226,9 @@ unblamed-at : (ms : List Mirror) (i : ℕ) → (get_or (map unblamed ms) i no_mi
 unblamed-at ms i = ap (λ (m : Mirror). m.blamed) (get_or-map unblamed ms i no_mirror)
 
 places-unblamed : {p : Proxy} {k : ℕ} {ms : List Mirror} {ds : List Device} → PlacesAre p k ms ds → PlacesAre p k (map unblamed ms) ds
-places-unblamed (bare h) = bare (ap unblamed h)
+places-unblamed (bare h e) = bare h refl
 places-unblamed (proxied h) = proxied (record { present = h.present; proxy = h.proxy; high = h.high; low = h.low })
-places-unblamed (free h s) = free (ap unblamed h) (places-unblamed s)
+places-unblamed (free h s) = free h (places-unblamed s)
 places-unblamed (item h s) = item (record { present = h.present; ordinary = h.ordinary; high = h.high; low = h.low }) (places-unblamed s)
 
 pub copies-unblamed : {ms : List Mirror} {ds : List Device} {p : Proxy} {bs : List ℕ} → Copies ms ds p bs → Copies (map unblamed ms) ds p []
@@ -251,7 +237,7 @@ copies-unblamed {ms} c = record { places = places-unblamed c.places; blame = λ 
 
 -- ---- a proxy that comes and goes
 pub proxy-there : {p : Proxy} {k : ℕ} {ms : List Mirror} {ds : List Device} → PlacesAre p k ms ds → (get_or ms k no_mirror).present ≡ is_there p
-proxy-there (bare h) = rw h
+proxy-there (bare h e) = h
 proxy-there (proxied h) = h.present
 proxy-there (free h s) = proxy-there s
 proxy-there (item h s) = proxy-there s
@@ -260,18 +246,18 @@ pub has-proxy : {ms : List Mirror} {ds : List Device} {p : Proxy} {bs : List ℕ
 has-proxy c = proxy-there c.places
 
 bare-unblamed : {k : ℕ} {ms : List Mirror} {ds : List Device} → PlacesAre no_proxy k ms ds → (get_or ms k no_mirror).blamed ≡ false
-bare-unblamed (bare h) = rw h
+bare-unblamed (bare h e) = e
 bare-unblamed (free h s) = bare-unblamed s
 bare-unblamed (item h s) = bare-unblamed s
 
 places-proxied : {k : ℕ} {ms : List Mirror} {ds : List Device} (d : Device) → PlacesAre no_proxy k ms ds → PlacesAre (proxy_at d) k (set ms k (new_proxy d.high d.low)) ds
-places-proxied d (bare h) = proxied (record { present = refl; proxy = refl; high = refl; low = refl })
+places-proxied d (bare h e) = proxied (record { present = refl; proxy = refl; high = refl; low = refl })
 places-proxied d (free h s) = free h (places-proxied d s)
 places-proxied d (item h s) = item h (places-proxied d s)
 
 places-bare : {p : Proxy} {k : ℕ} {ms : List Mirror} {ds : List Device} → PlacesAre p k ms ds → PlacesAre no_proxy k (set ms k no_mirror) ds
-places-bare (bare h) = bare refl
-places-bare (proxied h) = bare refl
+places-bare (bare h e) = bare refl refl
+places-bare (proxied h) = bare refl refl
 places-bare (free h s) = free h (places-bare s)
 places-bare (item h s) = item h (places-bare s)
 
@@ -333,7 +319,7 @@ new-blame (e ∷ es) (b ∷ bs) (suc i) k = new-blame es bs i (λ j. k (suc j))
 
 places-new : (k : ℕ) (ds : List Device) → length ds ≤ k → PlacesAre no_proxy k (fill (map mirror_of ds) (replicate (suc k) no_mirror)) ds
 unfolding fill
-places-new zero [] h = bare refl
+places-new zero [] h = bare refl refl
 places-new (suc k) [] h = free refl (places-new k [] (omega arith))
 places-new zero (d ∷ ds) h = absurd (omega arith)
 places-new (suc k) (d ∷ ds) h = item (record { present = refl; ordinary = refl; high = refl; low = refl }) (places-new k ds (omega arith))

@@ -16,7 +16,7 @@ use reports::statistics::Item;
 
 // What a report changes in a file: whether a device was named that is neither a mirror nor the proxy; whether a device error of one of these had a
 // status other than 0; and the set of the places that such a device error blames.
-#[derive(Drop)]
+#[derive(Clone, Copy)]
 pub struct Change {
     pub unknown: bool,
     pub failed: bool,
@@ -24,7 +24,7 @@ pub struct Change {
 }
 
 // What a report says of a file's mirrors: the status of step 5, what it changes, and the totals of bytes by place.
-#[derive(Drop)]
+#[derive(Clone, Copy)]
 pub struct Assessment {
     pub status: u32,
     pub change: Change,
@@ -32,7 +32,7 @@ pub struct Assessment {
 }
 
 // What the device errors of a report say, and the cursor at its first statistics record. Where they are malformed, so is what is left.
-#[derive(Drop)]
+#[derive(Clone, Copy)]
 pub struct Errors {
     pub unknown: bool,
     pub blamed: u32,
@@ -40,7 +40,7 @@ pub struct Errors {
 }
 
 // The status of the statistics records from a cursor on, and their totals, which are none where they do not count.
-#[derive(Drop)]
+#[derive(Clone, Copy)]
 pub struct Tallied {
     pub status: u32,
     pub totals: Totals,

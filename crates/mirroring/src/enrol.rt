@@ -7,7 +7,7 @@ use crate::mirrors::{MIRRORS, Mirror, PLACES, place};
 use places::Found;
 
 // Whether the list was good, and the mirrors if so.
-#[derive(Drop)]
+#[derive(Clone, Copy)]
 pub struct Enrolled {
     pub mirrors: [Mirror; PLACES],
     pub good: bool,

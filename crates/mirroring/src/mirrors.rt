@@ -18,7 +18,7 @@ pub const PLACES: usize = MIRRORS + 1;
 
 // A place: the two halves of its device's id, whether the place is used, whether its device is blamed, and whether it is a proxy and no ordinary mirror.
 #[repr(C)]
-#[derive(Drop)]
+#[derive(Clone, Copy)]
 pub struct Mirror {
     pub high: u64,
     pub low: u64,

@@ -8,7 +8,7 @@ ghost use Rattle.mirroring.specs.Source.{ordinary, good_from, source_in};
 use crate::mirrors::{MIRRORS, Mirror, PLACES};
 
 // The end that a source is looked for from.
-#[derive(Drop)]
+#[derive(Clone, Copy)]
 pub enum Direction {
     Lowest,
     Highest,

@@ -10,7 +10,7 @@ const MOST: u64 = 18446744073709551615;
 
 // A sum of bytes for each mirror, by place, and the set of the places where it passed 2^64 - 1, at which it stays; a place without a mirror has none.
 #[repr(C)]
-#[derive(Drop)]
+#[derive(Clone, Copy)]
 pub struct Sums {
     pub bytes: [u64; PLACES],
     pub over: u32,
@@ -18,7 +18,7 @@ pub struct Sums {
 
 // What was read from each mirror, and what was written to it.
 #[repr(C)]
-#[derive(Drop)]
+#[derive(Clone, Copy)]
 pub struct Totals {
     pub read: Sums,
     pub written: Sums,

@@ -22,8 +22,7 @@
 --     Told             f(r: &mut T, key, args..) -> u32  { let i = p(r, key);  let c = q(r, i, key, shown..);  let s = g(r.list[i], key, r.head, c, args..);  CHANGE  r.head = s.head;  s.status }, by crate walks' `Changed`, where q may be one of `Claimed.antt`'s
 --     Passed           a CHANGE of crate walks' `Changed`:  if s.status == 0 { h(r, i, s); }
 --     Cleared          f(r: &mut T)  { h(r);  r.head = e(); }
---     PartedBy         f(r: &mut T, m, key, args..) -> u32  { let d = b(r.head, m, shown..);  if d.wanted { return h(r, key, d.len, args..); }  e(d.status, args..) }, where h may be one of crate walks' `Changed`
---     Fixed            f(r: &mut T, key, args..) -> u32  { g(r, X, key, args..) }, where g may be one of `PartedBy`'s and X is a constant
+--     Parted           f(r: &mut T, key, args..) -> u32  { let d = b(r.head, shown..);  if d.wanted { return h(r, key, d.len, args..); }  e(d.status, args..) }, where h may be one of crate walks' `Changed`
 --     Asked            f(r: &mut T, key, args..) -> u32  { let k = b(shown..);  let i = p(r, k);  h(r, key, i, args..) }, where p may be one of `Sought.antt`'s, and h one of crate walks' `Changed`
 --     Retried          f(r: &T, key) -> usize  { let i = a(r, key);  if q(r.list[i].flag, i) { return b(r, key); }  i }, where a and b may be of crate walks' `Find`
 -- A function that reads one element of the array:
@@ -40,7 +39,6 @@
 --     Shown            what is shown of the arguments to a function before they are handed on: numbers, `&[uW]`, and lengths
 --     Again            a slice that is lent again for a call, and comes back
 --     Rounds           a loop by its turns
---     Sliding          what the turns of `Slid.antt` make of a list
 --     Lists            a field that is an array as a list; tests that are known
 pub mod Again
 pub mod Alone
@@ -59,8 +57,7 @@ pub mod Lent
 pub mod Listed
 pub mod Lists
 pub mod Onward
-pub mod PartedBy
-pub mod Fixed
+pub mod Parted
 pub mod Passed
 pub mod Placed
 pub mod Raised
@@ -70,7 +67,6 @@ pub mod Retried
 pub mod Rounds
 pub mod Shown
 pub mod Sliced
-pub mod Sliding
 pub mod Slid
 pub mod Sought
 pub mod Tallied

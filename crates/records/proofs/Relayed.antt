@@ -1,6 +1,6 @@
 -- A step of a walk: the function has the form of crate walks' `Keyed.antt`, and hands the record, the number and its arguments on for good, with one more number,
 --     fn h(r: &mut T, n: uV, m: usize, args..) -> u32   ensures { λ s. ⌜ P (now r.entry) n (m, i) s (now r.exit) o ⌝ }
--- as `Asked.antt`'s and `PartedBy.antt`'s do, which show the arguments to another first (`Shown.antt`). In this order:
+-- as `Asked.antt`'s and `Parted.antt`'s do, which show the arguments to another first (`Shown.antt`). In this order:
 --     m-at, l-at, v-at, t-at     the places of their locals after the arguments: two; lengths; two; what is lent again
 --     calls-on         the call: each `&mut` is lent again, and h is called
 -- Assumes `Logic`.

@@ -19,7 +19,7 @@ use Rattle.layoutreturn.specs.declared.Decision.TheVariants.{Answered, HandedOn,
 use Rattle.layoutreturn.specs.declared.Outcome.{Outcome}
 use Rattle.layoutreturn.proofs.Deciding.{body-decided, return-decided}
 use Rattle.recovery.specs.Record.{place_in, put_file, answered}
-use Rattle.recovery.specs.LayoutReturn.{returning, answered_by, place_for, reported_of, ordinary_of, returned_by, return_under, stateid_by}
+use Rattle.recovery.specs.LayoutReturn.{returning, answered_by, place_for, reported_of, ordinary_of, returned_by, layoutreturn_of, stateid_by}
 use Rattle.recovery.specs.declared.record.Record.{Record}
 use Rattle.recovery.specs.declared.returns.Returned.{Returned}
 
@@ -46,25 +46,25 @@ stays r i c k =
     ap (λ f. returning k (status_only k).totals (put_file r i (file_answered k r.head f)).after) (ap (raised_file c no_stateid) (unchanged (get_or r.files i no_file)) ∙ unraised c (get_or r.files i no_file))
     ∙ ap (λ fs. returning k (status_only k).totals (record { files = fs; head = r.head })) (set-get_or r.files i no_file)
 
-module _ (k : Status) (n : FileNumber) (c : Client) (s d : Bytes) (r : Record) (i : ℕ) where
-  by-decision : (x : Decision) → decision_of r.head k s (length d) ≡ x → Placed n r i x → returned_at r i (outcome_by n r.head c s (get_or r.files i no_file) x) ≡ returned_by n c s r x
+module _ (n : FileNumber) (c : Client) (s d : Bytes) (r : Record) (i : ℕ) where
+  by-decision : (x : Decision) → decision_of r.head s (length d) ≡ x → Placed n r i x → returned_at r i (outcome_by n r.head c s (get_or r.files i no_file) x) ≡ returned_by n c s r x
   unfolding outcome_by reported_of ordinary_of
-  by-decision (Answered j) e p = stays r i c j
+  by-decision (Answered k) e p = stays r i c k
   by-decision HandedOn e p = stays r i c handed_on_code
-  by-decision (ReadBody len) e p = rw (p, body-decided s r.head k (length d) e)
-  by-decision (ReturnBody len) e p = rw (p, return-decided s r.head k (length d) e)
+  by-decision (ReadBody len) e p = rw (p, body-decided s r.head (length d) e)
+  by-decision (ReturnBody len) e p = rw (p, return-decided s r.head (length d) e)
 
   -- and the stateid of its reply is the one that the definition says
-  replies-by : (x : Decision) → decision_of r.head k s (length d) ≡ x → Placed n r i x → (outcome_by n r.head c s (get_or r.files i no_file) x).stateid ≡ stateid_by n c s r x
+  replies-by : (x : Decision) → decision_of r.head s (length d) ≡ x → Placed n r i x → (outcome_by n r.head c s (get_or r.files i no_file) x).stateid ≡ stateid_by n c s r x
   unfolding outcome_by
-  replies-by (Answered j) e p = refl
+  replies-by (Answered k) e p = refl
   replies-by HandedOn e p = refl
   replies-by (ReadBody len) e p = refl
-  replies-by (ReturnBody len) e p = rw (p, return-decided s r.head k (length d) e)
+  replies-by (ReturnBody len) e p = rw (p, return-decided s r.head (length d) e)
 
-  pub returned-at : (x : Decision) → x ≡ decision_of r.head k s (length d) → Placed n r i x → returned_at r i (outcome_by n r.head c s (get_or r.files i no_file) x) ≡ return_under k n c s d r
-  unfolding return_under
+  pub returned-at : (x : Decision) → x ≡ decision_of r.head s (length d) → Placed n r i x → returned_at r i (outcome_by n r.head c s (get_or r.files i no_file) x) ≡ layoutreturn_of n c s d r
+  unfolding layoutreturn_of
   returned-at x e p = by-decision x (sym e) p ∙ ap (returned_by n c s r) e
 
-  pub stateid-at : (x : Decision) → x ≡ decision_of r.head k s (length d) → Placed n r i x → (outcome_by n r.head c s (get_or r.files i no_file) x).stateid ≡ stateid_by n c s r (decision_of r.head k s (length d))
+  pub stateid-at : (x : Decision) → x ≡ decision_of r.head s (length d) → Placed n r i x → (outcome_by n r.head c s (get_or r.files i no_file) x).stateid ≡ stateid_by n c s r (decision_of r.head s (length d))
   stateid-at x e p = replies-by x (sym e) p ∙ ap (stateid_by n c s r) e

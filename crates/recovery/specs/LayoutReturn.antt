@@ -57,9 +57,8 @@ place_for n r HandedOn = 63
 place_for n r (ReadBody len) = place_in n r
 place_for n r (ReturnBody len) = place_in n r
 
--- under a bar k, which a head of a cluster has in step 4 (02, Ticket 12)
-unfoldable pub return_under : Status → FileNumber → Client → Bytes → Bytes → Record → Returned
-return_under k n c s d r = returned_by n c s r (decision_of r.head k s (length d))
+unfoldable pub layoutreturn_of : FileNumber → Client → Bytes → Bytes → Record → Returned
+layoutreturn_of n c s d r = returned_by n c s r (decision_of r.head s (length d))
 
 -- the reply's stateid: only an ordinary return has one
 abbrev pub stateid_by : FileNumber → Client → Bytes → Record → Decision → Stateid
@@ -69,12 +68,5 @@ stateid_by n c s r (ReadBody len) = no_stateid
 stateid_by n c s r (ReturnBody len) = (return_file n c s r (file_at n r)).stateid
 
 -- the reply buffer afterwards
-unfoldable pub reply_under : Status → FileNumber → Client → Bytes → Bytes → Record → Bytes
-reply_under k n c s d r = reply_by (return_under k n c s d r).status (stateid_by n c s r (decision_of r.head k s (length d))) d
-
--- a single record: nothing bars it
-abbrev pub layoutreturn_of : FileNumber → Client → Bytes → Bytes → Record → Returned
-layoutreturn_of n c s d r = return_under 0 n c s d r
-
-abbrev pub reply_after : FileNumber → Client → Bytes → Bytes → Record → Bytes
-reply_after n c s d r = reply_under 0 n c s d r
+unfoldable pub reply_after : FileNumber → Client → Bytes → Bytes → Record → Bytes
+reply_after n c s d r = reply_by (layoutreturn_of n c s d r).status (stateid_by n c s r (decision_of r.head s (length d))) d

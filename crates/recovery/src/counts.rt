@@ -5,7 +5,7 @@ ghost use Rattle.recovery.specs.Counts.{counts_of};
 use crate::record::Record;
 
 #[repr(C)]
-#[derive(Drop)]
+#[derive(Clone, Copy)]
 pub struct Counts {
     pub waiting: u64,
     pub offered: u64,

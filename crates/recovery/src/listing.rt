@@ -11,14 +11,14 @@ use mirroring::source::Direction;
 
 // The status, and how many places were filled.
 #[repr(C)]
-#[derive(Drop)]
+#[derive(Clone, Copy)]
 pub struct Listed {
     pub status: u32,
     pub count: usize,
 }
 
 // Which list is meant: of the files that need repair, all, or those with no intent.
-#[derive(Drop)]
+#[derive(Clone, Copy)]
 pub enum Listing {
     Resilver,
     Offered,

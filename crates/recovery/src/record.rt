@@ -13,7 +13,7 @@ use files::head::{Edition, Head};
 use wire::stateid::Stateid;
 
 #[repr(C)]
-#[derive(Drop)]
+#[derive(Clone, Copy)]
 pub struct Record {
     pub files: [File; 64],
     pub head: Head,
@@ -21,7 +21,7 @@ pub struct Record {
 
 // What a call answers, and the record afterwards.
 #[repr(C)]
-#[derive(Drop)]
+#[derive(Clone, Copy)]
 pub struct Answered {
     pub status: u32,
     pub after: Record,

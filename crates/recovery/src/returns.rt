@@ -1,6 +1,6 @@
 // LAYOUTRETURN on the record (paper 01, "LAYOUTRETURN"): what it answers, the record afterwards, and the reply.
 ghost use Rattle.std.specs.Prelude.{◌≡◌, ◌<◌};
-ghost use Rattle.recovery.specs.LayoutReturn.{place_for, return_under, reply_under, layoutreturn_of, reply_after};
+ghost use Rattle.recovery.specs.LayoutReturn.{place_for, layoutreturn_of, reply_after};
 
 use crate::record::Record;
 use files::file::FileAnswered;
@@ -10,7 +10,7 @@ use mirroring::totals::Totals;
 // The status, which is no NFS status where `handed`; whether the request is handed on; the totals of its report by mirror, which are none unless the
 // status is 0; and the record afterwards.
 #[repr(C)]
-#[derive(Drop)]
+#[derive(Clone, Copy)]
 pub struct Returned {
     pub status: u32,
     pub handed: bool,
@@ -31,20 +31,12 @@ impl Record {
         }
     }
 
-    // A reply buffer under 24 bytes gets 28 before all else; where the request is handed on, no reply is written. No file is looked up before step 5. `bar` is
-    // what an all-zero report gets in step 4 from a head of a cluster that may not reclaim, 0 where nothing bars it.
-    pub fn layoutreturn_under(
-        self,
-        bar: u32,
-        file: u64,
-        client: u64,
-        request: &[u8],
-        reply: &mut [u8],
-    ) -> Returned
-        ensures { (result ≡ return_under bar file client request.now reply.old self) × (reply.new ≡ reply_under bar file client request.now reply.old self) }
+    // A reply buffer under 24 bytes gets 28 before all else; where the request is handed on, no reply is written. No file is looked up before step 5.
+    pub fn layoutreturn(self, file: u64, client: u64, request: &[u8], reply: &mut [u8]) -> Returned
+        ensures { (result ≡ layoutreturn_of file client request.now reply.old self) × (reply.new ≡ reply_after file client request.now reply.old self) }
     {
         let head = self.head;
-        let d = layoutreturn::decide(head, bar, request, reply.len());
+        let d = layoutreturn::decide(head, request, reply.len());
         let i = self.place_for(d, file);
         let f = self.files[i];
         let o = layoutreturn::answer(d, f, file, head, client, request, reply);
@@ -66,12 +58,5 @@ impl Record {
             totals,
             after,
         }
-    }
-
-    // The same of a single record, which nothing bars.
-    pub fn layoutreturn(self, file: u64, client: u64, request: &[u8], reply: &mut [u8]) -> Returned
-        ensures { (result ≡ layoutreturn_of file client request.now reply.old self) × (reply.new ≡ reply_after file client request.now reply.old self) }
-    {
-        self.layoutreturn_under(0, file, client, request, reply)
     }
 }

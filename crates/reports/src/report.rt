@@ -10,7 +10,7 @@ use crate::cursor::{Cursor, begin, none};
 use crate::statistics;
 
 // What stands at a cursor.
-#[derive(Drop)]
+#[derive(Clone, Copy)]
 pub enum Entry {
     // An error record, whole: where its device errors begin, how many they are, and the cursor past it.
     Record {
@@ -24,7 +24,7 @@ pub enum Entry {
 }
 
 // A device error at a place.
-#[derive(Drop)]
+#[derive(Clone, Copy)]
 pub enum Reading {
     // Its device's two halves, its status, and the place past it.
     Error {

@@ -10,7 +10,7 @@ use crate::cursor::Cursor;
 use xdr::fields::{Past, left, past_opaque};
 
 // What stands at a cursor.
-#[derive(Drop)]
+#[derive(Clone, Copy)]
 pub enum Item {
     // A record: the device's two halves, its bytes read and written, and the cursor past it.
     Given {

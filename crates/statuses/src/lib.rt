@@ -41,9 +41,6 @@ pub const BADXDR: u32 = 10036;
 // An iomode outside 1 to 3.
 pub const BADIOMODE: u32 = 10049;
 
-// The client has sent RECLAIM_COMPLETE already.
-pub const COMPLETE_ALREADY: u32 = 10054;
-
 // A layout type that is not 4.
 pub const UNKNOWN_LAYOUTTYPE: u32 = 10062;
 

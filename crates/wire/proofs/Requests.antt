@@ -1,18 +1,21 @@
 -- What the code's tests say of a request. In order: step 2; step 1 for return type 1; step 1; a form fits the bytes; steps 1 to 3;
 -- refusals are not 0; where the body lies.
-use Rattle.std.proofs.Common.{◌≡◌, ℕ, zero, suc, ◌+◌, ◌-◌, ◌*◌, ◌%◌, ◌<◌, ◌≤◌, Bool, true, false, cond, ◌&&◌, ◌||◌, eqb, ltb, leb, List, [], ◌∷◌, length, take, drop, sym, refl, ap, ◌∙◌, arith, length-drop, take_all, ltb-false, ltb-true, le-ltb, lt-ltb, eq-eqb, ne_eqb, eqb-true, le-leb}
+use Rattle.std.proofs.Common.{◌≡◌, ℕ, zero, suc, ◌+◌, ◌-◌, ◌*◌, ◌%◌, ◌<◌, ◌≤◌, Bool, true, false, cond, ◌&&◌, ◌||◌, eqb, ltb, leb, List, [], ◌∷◌, length, get_or, take, drop, sym, refl, ap, ◌∙◌, arith, length-drop, take_all, ltb-false, ltb-true, le-ltb, lt-ltb, eq-eqb, ne_eqb, eqb-true, le-leb}
 use borrow.Author.Tests.{lt-leb, eqb-false}
 use Rattle.xdr.specs.Be.{be_nat}
 use Rattle.xdr.specs.Reader.{same_bytes, zeros, padding, Got}
+use Rattle.wire.specs.Stateid.{stateid_in}
 use Rattle.wire.specs.Request.{Arguments, of_file, refusal_of, unless, arguments, request_of, part_of, body_of}
-use Rattle.wire.specs.RequestSteps.{file_form, form_of, kind_in, judged_in, answer_in, request_in}
+use Rattle.wire.specs.RequestSteps.{file_form, form_of, kind_in, kind_of_numbers, judged_in, answer_in, request_in}
 use Rattle.wire.specs.declared.request.Form.{Form}
 use Rattle.wire.specs.declared.request.Form.TheVariants as form
 use Rattle.wire.specs.declared.request.Kind.{Kind}
 use Rattle.wire.specs.declared.request.Request.{Request}
 use Rattle.wire.specs.declared.request.Request.TheVariants.{Refused, Bulk, File}
+use Rattle.wire.specs.declared.stateid.Stateid.{Stateid}
 use Rattle.xdr.proofs.Readers.{by-test}
 use Rattle.xdr.proofs.Bytes.{false-true, first-zeros}
+use Rattle.wire.proofs.Stateids.{by-numbers}
 use Rattle.wire.proofs.RequestModel.{as-tested, body-lies}
 
 -- ---- step 2
@@ -152,10 +155,12 @@ module _ (s : List ℕ) (r : Request) {layout iomode k : ℕ} (l : layout ≡ be
   unfolding judged_in unless
   refuses z = simp (number_is, ne_eqb k 0 z)
 
--- a file's return that step 2 does not refuse
-pub file-passes : (s : List ℕ) {layout iomode number n : ℕ} → layout ≡ be_nat 4 (drop 4 s) → iomode ≡ be_nat 4 (drop 8 s) → number ≡ refusal_of layout iomode → number ≡ 0
-    → {a : Kind} → a ≡ kind_in s → File a n ≡ judged_in s (File (kind_in s) n)
-file-passes s {n = n} l i e z q = ap (λ (k : Kind). File k n) q ∙ passes s _ l i e z
+-- a file's return that step 2 does not refuse, with the kind by the numbers of its stateid
+pub file-passes : (s : List ℕ) → 48 ≤ length s → ((k : ℕ) → get_or s k 0 < 256) → {layout iomode number n : ℕ} → layout ≡ be_nat 4 (drop 4 s) → iomode ≡ be_nat 4 (drop 8 s)
+    → number ≡ refusal_of layout iomode → number ≡ 0 → {t : Stateid} → t ≡ stateid_in s → {a : Kind} → a ≡ kind_of_numbers t → File a n ≡ judged_in s (File (kind_in s) n)
+unfolding kind_in
+file-passes s h b {n = n} l i e z p q =
+    ap (λ (k : Kind). File k n) (q ∙ ap kind_of_numbers p ∙ by-numbers s h b) ∙ passes s _ l i e z
 
 module _ (s : List ℕ) where
   pub read-malformed : form_of s ≡ form.Malformed → Refused 10036 ≡ request_of s

@@ -1,5 +1,4 @@
--- Each stateid is of exactly one kind: `one-kind`. In this order: a stateid of a seqid and an `other`; a kind by its tests; the claim; the kind by the numbers:
--- `by-numbers`; two strings of sixteen bytes by their numbers.
+-- Each stateid is of exactly one kind: `one-kind`. In this order: a stateid of a seqid and an `other`; a kind by its tests; the claim; the kind by the numbers: `by-numbers`.
 use Rattle.std.proofs.Common.{◌≡◌, ℕ, ◌+◌, ◌-◌, ◌^◌, ◌<◌, ◌≤◌, Bool, true, false, cond, eqb, ◌⊎◌, ◌↔◌, List, [], ◌∷◌, ◌++◌, length, get_or, take, drop, sym, refl, ap, ◌∙◌, inl, inr, append-nil, arith, length-drop, take-append-drop, length-take-le, get_or-drop, take_all, drop-drop, drop_at, le-ltb, eqb-true}
 use borrow.Author.Tests.{eqb-false}
 use Rattle.xdr.specs.Be.{be_nat, be_bytes}
@@ -123,47 +122,27 @@ module _ (s : List ℕ) (h : Stateid s) where
   unfolding be_bytes
   of_ones = other-is (2 ^ 64 - 1) (2 ^ 32 - 1) (omega arith) (omega arith) (ones 12) refl
 
-  -- the kind that the numbers of a stateid that is not all zeros name is as the RFC says
-  as-numbered : same_bytes s (zeros 16) ≡ false → Is (kind_of_numbers (stateid_of s)) s
+  -- the kind that the numbers name is as the RFC says
+  as-numbered : Is (kind_of_numbers (stateid_of s)) s
   unfolding kind_of_numbers stateid_of
-  as-numbered n = rw (of-zeros, of_ones) (by (same_bytes (other s) (zeros 12)) (same_bytes (other s) (ones 12)) (eqb (seqid s) 1) (eqb (seqid s) (2 ^ 32 - 1)) refl refl refl refl)
+  as-numbered = rw (of-zeros, of_ones) (by (same_bytes (other s) (zeros 12)) (same_bytes (other s) (ones 12)) (eqb (seqid s) 0) (eqb (seqid s) 1) (eqb (seqid s) (2 ^ 32 - 1)) refl refl refl refl refl)
     where
-      by : (z o c b : Bool) → same_bytes (other s) (zeros 12) ≡ z → same_bytes (other s) (ones 12) ≡ o → eqb (seqid s) 1 ≡ c → eqb (seqid s) (2 ^ 32 - 1) ≡ b
-          → Is (cond z (cond c Current Invalid) (cond o (cond b Bypass Invalid) Ordinary)) s
-      by true o true b p q u v = (eqb-true _ _ u, same-are _ _ p)
-      by true o false b p q u v = inl (same-are _ _ p, λ z. not_same s (zeros 16) n (anonymous-whole s h (z, same-are _ _ p)), eqb-false _ _ u)
-      by false true c true p q u v = (eqb-true _ _ v, same-are _ _ q)
-      by false true c false p q u v = inr (same-are _ _ q, eqb-false _ _ v)
-      by false false c b p q u v = (not_same _ _ p, not_same _ _ q)
+      by : (z o a c b : Bool) → same_bytes (other s) (zeros 12) ≡ z → same_bytes (other s) (ones 12) ≡ o → eqb (seqid s) 0 ≡ a → eqb (seqid s) 1 ≡ c → eqb (seqid s) (2 ^ 32 - 1) ≡ b
+          → Is (cond z (cond a Anonymous (cond c Current Invalid)) (cond o (cond b Bypass Invalid) Ordinary)) s
+      by true o true c b p q t u v = (eqb-true _ _ t, same-are _ _ p)
+      by true o false true b p q t u v = (eqb-true _ _ u, same-are _ _ p)
+      by true o false false b p q t u v = inl (same-are _ _ p, eqb-false _ _ t, eqb-false _ _ u)
+      by false true a c true p q t u v = (eqb-true _ _ v, same-are _ _ q)
+      by false true a c false p q t u v = inr (same-are _ _ q, eqb-false _ _ v)
+      by false false a c b p q t u v = (not_same _ _ p, not_same _ _ q)
 
--- a request's stateid: its bytes, and its numbers
-module _ (s : List ℕ) (h : 48 ≤ length s) where
-  pub in-request : ((k : ℕ) → get_or s k 0 < 256) → Stateid (take 16 (drop 32 s))
-  in-request b =
-      record { size = length-take-le 16 (drop 32 s) (rw length-drop (omega arith)); small = take_below 16 (drop 32 s) (λ k. rw get_or-drop (b (32 + k))) }
-
-  numbers-in : stateid_of (drop 32 s) ≡ stateid_of (take 16 (drop 32 s))
-  unfolding stateid_of
-  numbers-in = rw (number-within 8 4 16 (drop 32 s) (omega arith), number-within 4 12 16 (drop 32 s) (omega arith), number-within 4 0 16 (drop 32 s) (omega arith))
-
-  -- the numbers name its kind, where its bytes are not all zeros
-  pub by-numbers : ((k : ℕ) → get_or s k 0 < 256) → same_bytes (take 16 (drop 32 s)) (zeros 16) ≡ false → kind_of_numbers (stateid_in s) ≡ stateid_kind (take 16 (drop 32 s))
-  unfolding stateid_in
-  by-numbers b n =
-      let same : stateid_in s ≡ stateid_of (take 16 (drop 32 s)) = rw (le-ltb (length s) 48 h) numbers-in in
-      ap kind_of_numbers same ∙ sym (as-named _ (in-request b) _ (as-numbered _ (in-request b) n))
-
--- ---- two strings of sixteen bytes are the same where their numbers are
-all-numbers : (a : List ℕ) → Stateid a → a ≡ be_bytes 4 (seqid a) ++ (be_bytes 8 (be_nat 8 (drop 4 a)) ++ be_bytes 4 (be_nat 4 (drop 12 a)))
-all-numbers a h = sym (take-append-drop 4 a) ∙ ap (λ l. take 4 a ++ l) (of-numbers a h) ∙ rw (written_back 4 a (omega (arith, h.size)) h.small)
-
-module _ (a b : List ℕ) where
-  pub number-differs : (f : List ℕ → ℕ) → (f a ≡ f b → ⊥) → false ≡ same_bytes a b
-  number-differs f n = sym (differ a b (λ e. n (ap f e)))
-
-  pub seqid-decides : Stateid a → Stateid b → be_nat 8 (drop 4 a) ≡ be_nat 8 (drop 4 b) → be_nat 4 (drop 12 a) ≡ be_nat 4 (drop 12 b) → eqb (seqid a) (seqid b) ≡ same_bytes a b
-  seqid-decides ha hb p q = by (eqb (seqid a) (seqid b)) refl
-    where
-      by : (t : Bool) → eqb (seqid a) (seqid b) ≡ t → t ≡ same_bytes a b
-      by true y = sym (are-same a b (all-numbers a ha ∙ rw (p, q, eqb-true (seqid a) (seqid b) y) (sym (all-numbers b hb))))
-      by false y = sym (differ a b (λ e. eqb-false _ _ y (ap seqid e)))
+-- the numbers of a request's stateid name its kind
+pub by-numbers : (s : List ℕ) → 48 ≤ length s → ((k : ℕ) → get_or s k 0 < 256) → kind_of_numbers (stateid_in s) ≡ stateid_kind (take 16 (drop 32 s))
+unfolding stateid_in stateid_of
+by-numbers s h b =
+    let t : List ℕ = take 16 (drop 32 s) in
+    let whole : Stateid t = record { size = length-take-le 16 (drop 32 s) (rw length-drop (omega arith)); small = take_below 16 (drop 32 s) (λ k. rw get_or-drop (b (32 + k))) } in
+    let same : stateid_in s ≡ stateid_of t =
+    rw (le-ltb (length s) 48 h, number-within 8 4 16 (drop 32 s) (omega arith), number-within 4 12 16 (drop 32 s) (omega arith), number-within 4 0 16 (drop 32 s) (omega arith))
+    in
+    ap kind_of_numbers same ∙ sym (as-named t whole _ (as-numbered t whole))

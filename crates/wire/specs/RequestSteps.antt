@@ -1,8 +1,7 @@
 -- MODEL of the code: the tests of a request at the places of its fields. proofs/RequestModel.antt proves that they give `request_of`.
 --     file_form, form_of             step 1, as `file_laid_out` and `laid_out` answer it
 --     kind_in, judged_in             the stateid, layout type and iomode in their places
---     kind_of_numbers                the kind of a stateid that is not all zeros by its numbers, as `kind_of` tests them; proofs/Stateids.antt proves that it
---                                  is `stateid_kind`
+--     kind_of_numbers                the kind of a stateid by its numbers, as `kind_of` tests them; proofs/Stateids.antt proves that it is `stateid_kind`
 --     request_in                    steps 1 to 3 from these
 use Rattle.std.specs.Prelude.{ℕ, ◌+◌, ◌-◌, ◌^◌, Bool, false, cond, ◌&&◌, List, length, take, drop, ◌==◌, nat_le, nat_lt}
 use Rattle.xdr.specs.Be.{be_nat}
@@ -12,7 +11,7 @@ use Rattle.wire.specs.Request.{refusal_of, unless}
 use Rattle.wire.specs.declared.request.Form.{Form}
 use Rattle.wire.specs.declared.request.Form.TheVariants as form
 use Rattle.wire.specs.declared.request.Kind.{Kind}
-use Rattle.wire.specs.declared.request.Kind.TheVariants.{Bypass, Current, Invalid, Ordinary}
+use Rattle.wire.specs.declared.request.Kind.TheVariants.{Anonymous, Bypass, Current, Invalid, Ordinary}
 use Rattle.wire.specs.declared.request.Request.{Request}
 use Rattle.wire.specs.declared.request.Request.TheVariants.{Refused, Bulk, File}
 use Rattle.wire.specs.declared.stateid.Stateid.{Stateid}
@@ -39,7 +38,7 @@ kind_in s = stateid_kind (take 16 (drop 32 s))
 -- whether the `other` is all zeros, then whether it is all ones, then the seqid
 unfoldable pub kind_of_numbers : Stateid → Kind
 kind_of_numbers t =
-    cond (cond (t.high == 0) (t.low == 0) false) (cond (t.seqid == 1) Current Invalid)
+    cond (cond (t.high == 0) (t.low == 0) false) (cond (t.seqid == 0) Anonymous (cond (t.seqid == 1) Current Invalid))
     (cond (cond (t.high == 2 ^ 64 - 1) (t.low == 2 ^ 32 - 1) false) (cond (t.seqid == 2 ^ 32 - 1) Bypass Invalid) Ordinary)
 
 -- layout type and iomode lie from bytes 4 and 8 on

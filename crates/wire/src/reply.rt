@@ -21,26 +21,20 @@ fn is_none(t: Stateid) -> bool
     t.seqid == 0
 }
 
-// Stores a stateid's numbers at byte 8, where a reply has it.
-fn put_numbers(reply: &mut [u8], seqid: u32, high: u64, low: u32)
-    requires { 24 ≤ length reply.old }
-    ensures { reply.new ≡ sets reply.old 8 (stateid_bytes (record { high = high; low = low; seqid = seqid })) }
-{
-    xdr::put32(reply, 8, seqid);
-    xdr::put64(reply, 12, high);
-    xdr::put32(reply, 20, low);
-}
-
-// Stores a stateid; none by itself, which most replies have, so that the compiler stores zeros and swaps no bytes.
+// Stores a stateid at byte 8, where a reply has it; none by itself, which most replies have, so that the compiler stores zeros and swaps no bytes.
 fn put_stateid(reply: &mut [u8], t: Stateid)
     requires { 24 ≤ length reply.old }
     ensures { reply.new ≡ sets reply.old 8 (stateid_bytes t) }
 {
     if is_none(t) {
-        put_numbers(reply, 0, 0, 0);
+        xdr::put32(reply, 8, 0);
+        xdr::put64(reply, 12, 0);
+        xdr::put32(reply, 20, 0);
         return;
     }
-    put_numbers(reply, t.seqid, t.high, t.low);
+    xdr::put32(reply, 8, t.seqid);
+    xdr::put64(reply, 12, t.high);
+    xdr::put32(reply, 20, t.low);
 }
 
 // Writes the reply of `status` and a stateid at the start of `reply`, and answers `status`. A buffer under 24 bytes is left as it is, and gets 28.

@@ -1,8 +1,7 @@
 // The arguments of a LAYOUTRETURN: LAYOUTRETURN4args of RFC 8881 (paper 01, "LAYOUTRETURN", steps 1 to 3).
 // In order: the kinds of stateid; what a request asks for; step 1; step 2; the kind of a stateid; a file's return; `read`, the answer of the three
 // steps; the same for C.
-ghost use Rattle.std.specs.Prelude.{◌≡◌, ◌≤◌, length, take, drop};
-ghost use Rattle.xdr.specs.Reader.{same_bytes};
+ghost use Rattle.std.specs.Prelude.{◌≡◌, ◌≤◌, length};
 ghost use Rattle.wire.specs.Request.{refusal_of, unless, request_of, number_of, kind_of, body_at, body_length};
 ghost use Rattle.wire.specs.RequestSteps.{file_form, form_of, kind_in, kind_of_numbers, judged_in};
 ghost use Rattle.wire.specs.Stateid.{kind_number};
@@ -11,7 +10,7 @@ use crate::stateid::{Stateid, in_request};
 use xdr::fields::{pad, same};
 
 // The kinds of stateid (RFC 8881, 8.2.3; Ticket 6): a seqid of 4 bytes and an `other` of 12.
-#[derive(Drop)]
+#[derive(Clone, Copy)]
 pub enum Kind {
     // All sixteen bytes are zero.
     Anonymous,
@@ -26,7 +25,7 @@ pub enum Kind {
 }
 
 // What a request asks for.
-#[derive(Drop)]
+#[derive(Clone, Copy)]
 pub enum Request {
     // Refused in step 1 or 2, with the number.
     Refused(u32),
@@ -37,7 +36,7 @@ pub enum Request {
 }
 
 // How the bytes are laid out.
-#[derive(Drop)]
+#[derive(Clone, Copy)]
 enum Form {
     Malformed,
     // Return type 2 or 3.
@@ -116,11 +115,14 @@ fn judged(s: &[u8], asked: Request) -> Request
     Request::Refused(number)
 }
 
-// Which kind a stateid that is not anonymous is, by its numbers.
+// Which kind a stateid is, by its numbers.
 fn kind_of(t: Stateid) -> Kind
     ensures { result ≡ kind_of_numbers t }
 {
     if t.high == 0 && t.low == 0 {
+        if t.seqid == 0 {
+            return Kind::Anonymous;
+        }
         if t.seqid == 1 {
             return Kind::Current;
         }
@@ -135,35 +137,6 @@ fn kind_of(t: Stateid) -> Kind
     Kind::Ordinary
 }
 
-// Whether the sixteen bytes of a request's stateid are those of a fixed string: the `other` first, in this order, so that the compiler reads it once for this
-// and for `kind_of`.
-fn stateid_is(s: &[u8], fixed: &[u8]) -> bool
-    requires { (48 ≤ length s.now) × (length fixed.now ≡ 16) }
-    ensures { result ≡ same_bytes (take 16 (drop 32 s.now)) fixed.now }
-{
-    if xdr::be64(s, 36) != xdr::be64(fixed, 4) {
-        return false;
-    }
-    if xdr::be32(s, 44) != xdr::be32(fixed, 12) {
-        return false;
-    }
-    xdr::be32(s, 32) == xdr::be32(fixed, 0)
-}
-
-// Which kind the stateid of a request is: its sixteen bytes are compared with the fixed string of zeros before anything else is asked (Rules 3.13).
-fn kind_in(s: &[u8]) -> Kind
-    requires { 48 ≤ length s.now }
-    ensures { result ≡ kind_in s.now }
-{
-    if stateid_is(
-        s,
-        b"\x00\x00\x00\x00\x00\x00\x00\x00\x00\x00\x00\x00\x00\x00\x00\x00",
-    ) {
-        return Kind::Anonymous;
-    }
-    kind_of(in_request(s))
-}
-
 // A file's return, unless step 2 refuses; the kind of its stateid is asked last.
 fn file_judged(s: &[u8], len: usize) -> Request
     requires { 48 ≤ length s.now }
@@ -173,7 +146,7 @@ fn file_judged(s: &[u8], len: usize) -> Request
     if number != 0 {
         return Request::Refused(number);
     }
-    let kind = kind_in(s);
+    let kind = kind_of(in_request(s));
     Request::File { kind, len }
 }
 

@@ -3,7 +3,7 @@ ghost use Rattle.std.specs.Prelude.{◌≡◌};
 ghost use Rattle.wire.specs.Seqid.{behind, age_of, raised_seqid};
 
 // How a seqid stands to the latest.
-#[derive(Drop)]
+#[derive(Clone, Copy)]
 pub enum Age {
     Same,
     Older,

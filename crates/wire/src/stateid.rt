@@ -6,7 +6,7 @@ use xdr::fields::same;
 
 // The first 8 and the last 4 bytes of the `other`, and the seqid.
 #[repr(C)]
-#[derive(Drop)]
+#[derive(Clone, Copy)]
 pub struct Stateid {
     pub high: u64,
     pub low: u32,

@@ -6,7 +6,7 @@ ghost use Rattle.xdr.specs.Past.{past_of};
 use crate::be32;
 
 // The place past what has been read, or bytes that are not of the form.
-#[derive(Drop)]
+#[derive(Clone, Copy)]
 pub enum Past {
     At(usize),
     Malformed,

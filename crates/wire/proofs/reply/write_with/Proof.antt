@@ -1,7 +1,5 @@
 -- Rests on what the stores of a reply leave in the buffer.
-use Rattle.std.proofs.Common.{◌≤◌, length, ap, ◌∙◌, arith, rules}
-use lib.Seq.{sets}
-use Rattle.xdr.specs.Be.{be_bytes}
+use Rattle.std.proofs.Common.{◌≤◌, length, ◌∙◌, arith, rules}
 use Rattle.wire.specs.Stateid.{stateid_bytes}
 use Rattle.wire.proofs.Replies.{too_short, answers, refuses, accepts}
 use Rattle.wire.proofs.reply.write_with.Statement.{statement}
@@ -35,16 +33,10 @@ same-length-2 c = search rules
 
 returns-3 : tie.Need-returns-3
 returns-3 c =
-    let second = c.before.before.before.before.before.before in
-    let first = second.before.before.before.before.before in
-    let a = first.before.before.before.before.args in
+    let a = c.before.before.before.before.before.before.before.before.before.before.before.before.before.before.before.args in
     let t = stateid_bytes a.t in
-    let h : 24 ≤ length a.reply.now = omega arith in (
-      answers a.reply.now a.status t h,
-      c.before.before.put-stateid.ensures
-          ∙ ap (λ l. sets l 8 t) (second.put322.ensures ∙ ap (λ l. sets l 4 (be_bytes 4 1)) first.put32.ensures)
-          ∙ accepts a.reply.now a.status t h (omega arith),
-    )
+    let h : 24 ≤ length a.reply.now = omega arith in
+    (answers a.reply.now a.status t h, cc (accepts a.reply.now a.status t h (omega arith)))
 
 pub write-with-spec : {M : Type 1} → statement M
 write-with-spec =

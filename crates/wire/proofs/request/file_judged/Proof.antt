@@ -1,4 +1,4 @@
--- Rests on what step 2 says of the numbers read.
+-- Rests on what step 2 says of the numbers read, and on the kind by the numbers.
 use Rattle.std.proofs.Common.{arith, rules}
 use Rattle.wire.proofs.Requests.{refuses, file-passes}
 use Rattle.wire.proofs.request.file_judged.Statement.{statement}
@@ -18,14 +18,18 @@ returns c =
     let a = c.before.before.before.before.before.args in
     refuses a.s.now _ c.before.before.before.be32.ensures c.before.before.be322.ensures c.before.refusal.ensures c.if1.true
 
-kind-in-requires : tie.Need-kind-in-requires
-kind-in-requires c κs = search rules
+in-request-requires : tie.Need-in-request-requires
+in-request-requires c κs = search rules
+
+kind-of-requires : tie.Need-kind-of-requires
+kind-of-requires c κs = search rules
 
 returns-2 : tie.Need-returns-2
 returns-2 c =
-    let e = c.before in
+    let e = c.before.before in
     let a = e.before.before.before.before.before.args in
-    file-passes a.s.now e.before.before.before.be32.ensures e.before.before.be322.ensures e.before.refusal.ensures (omega arith) c.kind-in.ensures
+    file-passes a.s.now (omega arith) (λ k. omega (arith, e.before.before.before.before.shared-slice-known.given k))
+    e.before.before.before.be32.ensures e.before.before.be322.ensures e.before.refusal.ensures (omega arith) c.before.in-request.ensures c.kind-of.ensures
 
 pub file-judged-spec : {M : Type 1} → statement M
 file-judged-spec =
@@ -35,5 +39,6 @@ file-judged-spec =
     be32-requires-2
     refusal-requires
     returns
-    kind-in-requires
+    in-request-requires
+    kind-of-requires
     returns-2)

@@ -1,0 +1,161 @@
+-- LAYOUTRETURN parted before any file is looked up is what the definition of crate recovery says of it, in this order: the file, changed in place where the return is
+-- accepted; at the place that is sought; by the phase; where a file is wanted; where none is.
+use Rattle.std.proofs.Common.{◌≡◌, ℕ, ◌≤◌, Bool, true, false, cond, eqb, ltb, List, map, length, get_or, set, sym, refl, ap, ◌∙◌, arith, ltb-false}
+use lib.Seq.{set-get_or, set_out}
+use Rattle.places.proofs.Sets.{true-false}
+use Rattle.records.proofs.Headed.{if-called}
+use Rattle.records.proofs.Amended.{amends}
+use Rattle.mirroring.specs.Totals.{no_totals}
+use Rattle.wire.specs.Request.{request_of}
+use Rattle.wire.specs.Stateid.{no_stateid}
+use Rattle.wire.specs.declared.request.Kind.{Kind}
+use Rattle.wire.specs.declared.request.Kind.TheVariants.{Anonymous, Bypass, Current, Invalid, Ordinary}
+use Rattle.wire.specs.declared.request.Request.{Request}
+use Rattle.wire.specs.declared.request.Request.TheVariants as request
+use Rattle.intents.specs.Intents.{is_stated, stated_if}
+use Rattle.files.specs.File.{no_file, with_intents, blamed_file, raised_file}
+use Rattle.files.specs.declared.file.File.{File}
+use Rattle.files.specs.declared.head.Head.{Head}
+use Rattle.layoutreturn.specs.LayoutReturn.{phase_of, decided, decision_of, outcome_by, file_after}
+use Rattle.layoutreturn.specs.Settled.{without_totals, settled_file}
+use Rattle.layoutreturn.specs.declared.Outcome.{Outcome}
+use Rattle.layoutreturn.specs.declared.Settled.{Settled}
+use Rattle.layoutreturn.proofs.Settling.{file-so}
+use Rattle.layoutreturn.specs.declared.Decision.{Decision}
+use Rattle.layoutreturn.specs.declared.Decision.TheVariants.{Answered, HandedOn, ReadBody, ReturnBody}
+use Rattle.recovery.specs.Record.{with_files, with_head, place_in, file_at}
+use Rattle.recovery.specs.LayoutReturn.{returning, returned_by, layoutreturn_of, stateid_by}
+use Rattle.recovery.specs.declared.record.Record.{Record}
+use Rattle.recovery.proofs.Returning.{Placed, returned_at, returned-at, stateid-at}
+use Rattle.capi.specs.Place.{sought_in}
+use Rattle.capi.specs.LayoutReturn.{begun_of, body_read, outcome_in, returned_in, stateid_for, raised_each, changed_files}
+use Rattle.capi.proofs.Fields.{files}
+use Rattle.capi.proofs.Places.{sought-place}
+
+-- ---- the file is what it is by value; where the return is refused, it stays
+abbrev pub report : File → Settled → File
+report f o = blamed_file o.marks o.blamed f
+
+abbrev pub raises : Settled → Bool
+raises o = is_stated o.stateid
+
+pub changed-so : (r : Record) (i : ℕ) (o : Settled) → length r.files ≡ 64 → amends files no_file report raises raised_each r i o ≡ changed_files r i o
+unfolding files raised_each changed_files raised_file
+changed-so r i o long = by (ltb i 64) refl (raises o)
+  where
+    g : File
+    g = report (get_or r.files i no_file) o
+
+    h : File
+    h = with_intents (map (stated_if o.client o.stateid) g.intents) g
+
+    by : (b : Bool) → ltb i 64 ≡ b → (z : Bool) → if-called b (with_files (set r.files i (if-called z h g)) r) r ≡ with_files (set r.files i (cond z h g)) r
+    by true e true = refl
+    by true e false = refl
+    by false e z =
+        let l : 64 ≤ i = ltb-false i 64 e in
+        sym (ap (λ fs. with_files fs r) (set_out r.files i (cond z h g) (omega (arith, long, l))))
+
+abbrev pub after-change : Record → ℕ → Settled → Record
+after-change r i o = with_head o.head (if-called (eqb o.status 0) (changed_files r i o) r)
+
+pub returned-so : (r : Record) (i : ℕ) (o : Outcome) → (eqb o.status 0 ≡ false → file_after (get_or r.files i no_file) o ≡ get_or r.files i no_file) → after-change r i (without_totals o) ≡ (returned_at r i o).after
+unfolding changed_files
+returned-so r i o stays = by (eqb o.status 0) refl
+  where
+    f : File
+    f = get_or r.files i no_file
+
+    by : (b : Bool) → eqb o.status 0 ≡ b → with_head o.head (if-called b (with_files (set r.files i (settled_file f (without_totals o))) r) r) ≡ (returned_at r i o).after
+    by true e = ap (λ g. with_head o.head (with_files (set r.files i g) r)) (file-so f o)
+    by false e = sym (ap (λ g. with_head o.head (with_files (set r.files i g) r)) (stays e) ∙ ap (λ fs. with_head o.head (with_files fs r)) (set-get_or r.files i no_file))
+
+-- ---- at the place that is sought
+pub sought-so : (n len c : ℕ) (s : List ℕ) (r : Record) → length r.files ≡ 64 → returned_at r (sought_in n r) (outcome_in n len c s r (get_or r.files (sought_in n r) no_file)) ≡ returned_in n len c s r
+unfolding returned_in
+sought-so n len c s r h = ap (λ i. returned_at r i (outcome_in n len c s r (get_or r.files i no_file))) (sought-place n r h)
+
+pub sought-stateid : (n len c : ℕ) (s : List ℕ) (r : Record) → length r.files ≡ 64 → (outcome_in n len c s r (get_or r.files (sought_in n r) no_file)).stateid ≡ stateid_for n len c s r
+unfolding stateid_for
+sought-stateid n len c s r h = ap (λ i. (outcome_in n len c s r (get_or r.files i no_file)).stateid) (sought-place n r h)
+
+-- ---- what the phase says of a decision is that decision
+abbrev Phased : Head → Decision → Type 0
+Phased h (Answered k) = Unit {0}
+Phased h HandedOn = Unit {0}
+Phased h (ReadBody len) = body_read h len ≡ ReadBody len
+Phased h (ReturnBody len) = body_read h len ≡ ReturnBody len
+
+abbrev head_of : Head → Bool → Bool → Head
+head_of h o g = record { waiting = h.waiting; offered = h.offered; grace = g; old = o }
+
+kind-phased : (h : Head) (k : Kind) (len : ℕ) (o g : Bool) → Phased (head_of h o g) (phase_of k (head_of h o g) len)
+kind-phased h Anonymous len true g = tt
+kind-phased h Anonymous len false true = refl
+kind-phased h Anonymous len false false = tt
+kind-phased h Bypass len o true = tt
+kind-phased h Bypass len o false = tt
+kind-phased h Invalid len o true = tt
+kind-phased h Invalid len o false = tt
+kind-phased h Current len o true = tt
+kind-phased h Current len o false = tt
+kind-phased h Ordinary len o true = tt
+kind-phased h Ordinary len o false = refl
+
+request-phased : (h : Head) (q : Request) → Phased h (decided h q)
+request-phased h (request.Refused k) = tt
+request-phased h request.Bulk = tt
+request-phased h (request.File k len) = kind-phased h k len h.old h.grace
+
+phased : (h : Head) (s : List ℕ) (room : ℕ) → Phased h (decision_of h s room)
+unfolding decision_of
+phased h s room = by (ltb room 24)
+  where
+    by : (b : Bool) → Phased h (cond b (Answered 28) (decided h (request_of s)))
+    by true = tt
+    by false = request-phased h (request_of s)
+
+module _ (n c : ℕ) (s d : List ℕ) (r : Record) where
+  -- ---- where a file is wanted
+  on-file : (x : Decision) (len : ℕ) → body_read r.head len ≡ x → x ≡ decision_of r.head s (length d) → Placed n r (place_in n r) x → returned_in n len c s r ≡ layoutreturn_of n c s d r
+  unfolding returned_in
+  on-file x len q e p = ap (λ y. returned_at r (place_in n r) (outcome_by n r.head c s (file_at n r) y)) q ∙ returned-at n c s d r (place_in n r) x e p
+
+  wanted_by : (x : Decision) → x ≡ decision_of r.head s (length d) → Phased r.head x → (begun_of x).wanted ≡ true → returned_in n (begun_of x).len c s r ≡ layoutreturn_of n c s d r
+  wanted_by (Answered k) e q w = true-false (sym w)
+  wanted_by HandedOn e q w = true-false (sym w)
+  wanted_by (ReadBody len) e q w = on-file (ReadBody len) len q e refl
+  wanted_by (ReturnBody len) e q w = on-file (ReturnBody len) len q e refl
+
+  pub wanted-so : (begun_of (decision_of r.head s (length d))).wanted ≡ true → returned_in n (begun_of (decision_of r.head s (length d))).len c s r ≡ layoutreturn_of n c s d r
+  wanted-so = wanted_by (decision_of r.head s (length d)) refl (phased r.head s (length d))
+
+  stateid-on : (x : Decision) (len : ℕ) → body_read r.head len ≡ x → x ≡ decision_of r.head s (length d) → Placed n r (place_in n r) x → stateid_for n len c s r ≡ stateid_by n c s r (decision_of r.head s (length d))
+  unfolding stateid_for
+  stateid-on x len q e p = ap (λ y. (outcome_by n r.head c s (file_at n r) y).stateid) q ∙ stateid-at n c s d r (place_in n r) x e p
+
+  stateid-wanted-by : (x : Decision) → x ≡ decision_of r.head s (length d) → Phased r.head x → (begun_of x).wanted ≡ true → stateid_for n (begun_of x).len c s r ≡ stateid_by n c s r (decision_of r.head s (length d))
+  stateid-wanted-by (Answered k) e q w = true-false (sym w)
+  stateid-wanted-by HandedOn e q w = true-false (sym w)
+  stateid-wanted-by (ReadBody len) e q w = stateid-on (ReadBody len) len q e refl
+  stateid-wanted-by (ReturnBody len) e q w = stateid-on (ReturnBody len) len q e refl
+
+  pub stateid-wanted : (begun_of (decision_of r.head s (length d))).wanted ≡ true → stateid_for n (begun_of (decision_of r.head s (length d))).len c s r ≡ stateid_by n c s r (decision_of r.head s (length d))
+  stateid-wanted = stateid-wanted-by (decision_of r.head s (length d)) refl (phased r.head s (length d))
+
+  -- ---- where none is
+  unwanted-by : (x : Decision) → (begun_of x).wanted ≡ false → returning (begun_of x).status no_totals r ≡ returned_by n c s r x
+  unwanted-by (Answered k) w = refl
+  unwanted-by HandedOn w = refl
+  unwanted-by (ReadBody len) w = true-false w
+  unwanted-by (ReturnBody len) w = true-false w
+
+  pub unwanted-so : (begun_of (decision_of r.head s (length d))).wanted ≡ false → returning (begun_of (decision_of r.head s (length d))).status no_totals r ≡ layoutreturn_of n c s d r
+  unfolding layoutreturn_of
+  unwanted-so = unwanted-by (decision_of r.head s (length d))
+
+  pub stateid-unwanted : (x : Decision) → (begun_of x).wanted ≡ false → no_stateid ≡ stateid_by n c s r x
+  stateid-unwanted (Answered k) w = refl
+  stateid-unwanted HandedOn w = refl
+  stateid-unwanted (ReadBody len) w = true-false w
+  stateid-unwanted (ReturnBody len) w = true-false w

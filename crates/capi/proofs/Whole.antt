@@ -1,0 +1,263 @@
+-- What a call that changes more than one file does is what the definitions of crate recovery say of it, in this order: a fresh record; restart and the end of grace; register; forget.
+use Rattle.std.proofs.Common.{◌≡◌, ℕ, zero, suc, ◌+◌, ◌-◌, ◌<◌, ◌≤◌, Bool, true, false, cond, eqb, ltb, leb, List, [], ◌∷◌, ◌++◌, map, length, get_or, take, drop, set, replicate, sym, refl, ap, ◌∙◌, subst, append-nil, arith, length-append, length-drop, drop_of_length-le, length-take-le, take_all, drop-cons, ltb-false, ltb-true, lt-ltb, eqb-true}
+use lib.Seq.{append_snoc, get_or_at, set-append_seam}
+use Rattle.records.proofs.Headed.{if-called}
+use Rattle.records.proofs.Drawn.{draws}
+use Rattle.records.proofs.Raised.{raises}
+use Rattle.records.proofs.Reached.{reach, reach-past}
+use Rattle.records.proofs.Slid.{slides}
+use Rattle.records.proofs.Tallied.{tallied as tallies}
+use Rattle.places.specs.Places.{first, bump, place_or}
+use Rattle.places.specs.declared.Found.{Found}
+use Rattle.places.specs.declared.Found.TheVariants.{At, Nothing}
+use Rattle.places.proofs.Loops.{searching}
+use Rattle.places.proofs.Sets.{true-false}
+use Rattle.mirroring.specs.Mirrors.{enrolled_of}
+use Rattle.files.specs.File.{no_file, blank_file, is_file, is_vacant, forgettable, counted_head, tallied, ended_file}
+use Rattle.files.specs.Head.{fresh_head}
+use Rattle.files.specs.declared.file.File.{File}
+use Rattle.files.specs.declared.file.FileAnswered.{FileAnswered}
+use Rattle.files.specs.declared.head.Edition.{Edition}
+use Rattle.files.specs.declared.head.Head.{Head}
+use Rattle.recovery.specs.Record.{fresh_as, with_files, with_head, place_in, file_at, raised, room_in, enter, pulled, without_file, register_of, forget_of, end_of}
+use Rattle.recovery.specs.declared.record.Record.{Record}
+use Rattle.recovery.specs.declared.record.Answered.{Answered}
+use Rattle.recovery.proofs.Tallying.{ended-counts}
+use Rattle.capi.specs.Place.{sought_in}
+use Rattle.capi.specs.declared.Verdict.{Verdict}
+use Rattle.capi.specs.Whole.{end_verdict, forget_verdict, emptied_file, each_file, ended_each, admitted_of, room_sought, is_below, entered_files, slid, last_in, last_sought, pulled_files}
+use Rattle.capi.proofs.Fields.{files}
+use Rattle.capi.proofs.Places.{sought, sought-place}
+
+-- ---- a fresh record
+all-emptied : (fs : List File) (n : ℕ) → length fs ≡ n → map emptied_file fs ≡ replicate n blank_file
+all-emptied [] zero e = refl
+all-emptied [] (suc n) e = absurd (omega (arith, e))
+all-emptied (f ∷ fs) zero e = absurd (omega (arith, e))
+all-emptied (f ∷ fs) (suc n) e = ap (◌∷◌ blank_file) (all-emptied fs n (omega (arith, e)))
+
+pub fresh-so : (e : Edition) (r : Record) → length r.files ≡ 64 → with_head (fresh_head e) (each_file emptied_file r) ≡ fresh_as e
+unfolding each_file
+fresh-so e r long = ap (λ fs. record { files = fs; head = fresh_head e }) (all-emptied r.files 64 long)
+
+-- ---- the end of grace: what a call answers, and the record afterwards
+abbrev Same : ℕ → Record → Answered → Type 0
+Same s r a = (s ≡ a.status) × (r ≡ a.after)
+
+-- the files, once all are counted
+same-tally : (fs : List File) (h : Head) → tallies (λ f d. counted_head d f) fs h ≡ tallied h fs
+unfolding tallied
+same-tally [] h = refl
+same-tally (f ∷ fs) h = same-tally fs (counted_head h f)
+
+pub each-ended-so : (r : Record) → with_head (tallies (λ f d. counted_head d f) (map ended_file r.files) r.head) (with_files (map ended_file r.files) r) ≡ ended_each r
+unfolding ended_each
+each-ended-so r = ap (λ h. record { files = map ended_file r.files; head = h }) (same-tally (map ended_file r.files) r.head)
+
+-- the record once a call has been answered v
+abbrev after-ending : Record → Verdict → Record
+after-ending r v = if-called (eqb v.status 0) (ended_each (with_head v.head r)) (with_head v.head r)
+
+pub ended_so : (r : Record) → length r.files ≡ 64 → Same (end_verdict r.head).status (after-ending r (end_verdict r.head)) (end_of r)
+unfolding ended_each end_of
+ended_so r long = by r.head.grace refl
+  where
+    by : (b : Bool) → r.head.grace ≡ b → Same (end_verdict r.head).status (after-ending r (end_verdict r.head)) (end_of r)
+    by true e = rw e (refl, ap (λ h. record { files = map ended_file r.files; head = h }) (ended-counts r.files r.head long))
+    by false e = rw e (refl, refl)
+
+-- ---- register
+room-so : (k : ℕ) (r : Record) → length r.files ≡ 64 → room_sought k r ≡ room_in r.files
+unfolding room_sought room_in
+room-so k r h = sought is_vacant no_file r.files 63 (first is_vacant r.files) 63 0 (searching is_vacant r.files) (omega (arith, h)) (omega arith)
+
+raises-so : (s : FileAnswered) (i : ℕ) (r : Record) → raises files no_file s.file (λ y. is_below y.number s) i r ≡ with_files (raised s.file i r.files) r
+unfolding files raised
+raises-so s zero r = refl
+raises-so s (suc i) r = by (leb (get_or r.files i no_file).number s.file.number) (raises-so s i (with_files (set r.files (suc i) (get_or r.files i no_file)) r))
+  where
+    by : (b : Bool) → raises files no_file s.file (λ y. is_below y.number s) i (with_files (set r.files (suc i) (get_or r.files i no_file)) r) ≡ with_files (raised s.file i (set r.files (suc i) (get_or r.files i no_file))) (with_files (set r.files (suc i) (get_or r.files i no_file)) r)
+        → if-called b (with_files (set r.files (suc i) s.file) r) (raises files no_file s.file (λ y. is_below y.number s) i (with_files (set r.files (suc i) (get_or r.files i no_file)) r)) ≡ with_files (cond b (set r.files (suc i) s.file) (raised s.file i (set r.files (suc i) (get_or r.files i no_file)))) r
+    by true k = refl
+    by false k = k
+
+pub entered_so : (r : Record) (at : ℕ) (s : FileAnswered) → length r.files ≡ 64 → raises files no_file s.file (λ y. is_below y.number s) (room_sought 0 r) r ≡ entered_files r at s
+unfolding entered_files enter
+entered_so r at s long = raises-so s (room_sought 0 r) r ∙ ap (λ i. with_files (raised s.file i r.files) r) (room-so 0 r long)
+
+-- a place that is found passes
+module _ {A : Type 0} (p : A → Bool) (d : A) where
+  item-passes : (b : Bool) (o : Found) (k : ℕ) (x : A) (xs : List A) → p x ≡ b → cond b (At 0) (bump o) ≡ At k → ((j : ℕ) → o ≡ At j → p (get_or xs j d) ≡ true) → p (get_or (x ∷ xs) k d) ≡ true
+  item-passes true o k x xs t e f = let q : 0 ≡ k = cc in subst (λ (j : ℕ). p (get_or (x ∷ xs) j d) ≡ true) q t
+  item-passes false (At j) k x xs t e f = let q : suc j ≡ k = cc in subst (λ (i : ℕ). p (get_or (x ∷ xs) i d) ≡ true) q (f j refl)
+  item-passes false Nothing k x xs t e f = let z : ◌≡◌ {A = ℕ} 0 1 = cc in absurd (omega arith)
+
+  found-passes : (l : List A) (k : ℕ) → first p l ≡ At k → p (get_or l k d) ≡ true
+  unfolding first
+  found-passes [] k e = let z : ◌≡◌ {A = ℕ} 0 1 = cc in absurd (omega arith)
+  found-passes (x ∷ xs) k e = item-passes (p x) (first p xs) k x xs refl e (λ j q. found-passes xs j q)
+
+-- so where the file is none that is registered, it is the last place
+not_found : (n : ℕ) (r : Record) → is_file n (file_at n r) ≡ false → file_at n r ≡ get_or r.files 63 no_file
+unfolding place_in
+not_found n r e = by (first (is_file n) r.files) refl
+  where
+    by : (o : Found) → first (is_file n) r.files ≡ o → get_or r.files (place_or 63 (first (is_file n) r.files)) no_file ≡ get_or r.files 63 no_file
+    by (At k) q =
+        let hit : is_file n (get_or r.files k no_file) ≡ true = found-passes (is_file n) no_file r.files k q in
+        let miss : is_file n (get_or r.files (place_or 63 (At k)) no_file) ≡ false = subst (λ (o : Found). is_file n (get_or r.files (place_or 63 o) no_file) ≡ false) q e in
+        true-false (sym hit ∙ miss)
+    by Nothing q = ap (λ (o : Found). get_or r.files (place_or 63 o) no_file) q
+
+-- the record once a call has been answered s
+abbrev pub after-entering : Record → ℕ → FileAnswered → Record
+after-entering r at s = with_head s.head (if-called (eqb s.status 0) (entered_files r at s) r)
+
+abbrev Alike : ℕ → List ℕ → Record → Type 0
+Alike n m r = Same (admitted_of n r.head m (file_at n r)).status (after-entering r (place_in n r) (admitted_of n r.head m (file_at n r))) (register_of n m r)
+
+pub registered-so : (n : ℕ) (m : List ℕ) (r : Record) → length r.files ≡ 64
+    → Same (admitted_of n r.head m (get_or r.files (sought_in n r) no_file)).status (after-entering r (sought_in n r) (admitted_of n r.head m (get_or r.files (sought_in n r) no_file))) (register_of n m r)
+unfolding register_of admitted_of entered_files place_in enrolled_of
+registered-so n m r h = rw (sought-place n r h) (by-phase r.head.grace refl)
+  where
+    by-full : (b : Bool) → (file_at n r).used ≡ b → is_file n (file_at n r) ≡ false → (enrolled_of m).good ≡ true → r.head.grace ≡ false → Alike n m r
+    by-full true u i e g = rw (g, e, i, u, sym (ap (λ (f : File). f.used) (not_found n r i)) ∙ u) (refl, refl)
+    by-full false u i e g = rw (g, e, i, u, sym (ap (λ (f : File). f.used) (not_found n r i)) ∙ u) (refl, refl)
+
+    by-file : (b : Bool) → is_file n (file_at n r) ≡ b → (enrolled_of m).good ≡ true → r.head.grace ≡ false → Alike n m r
+    by-file true i e g = rw (g, e, i) (refl, refl)
+    by-file false i e g = by-full (file_at n r).used refl i e g
+
+    by-list : (b : Bool) → (enrolled_of m).good ≡ b → r.head.grace ≡ false → Alike n m r
+    by-list true e g = by-file (is_file n (file_at n r)) refl e g
+    by-list false e g = rw (g, e) (refl, refl)
+
+    by-phase : (b : Bool) → r.head.grace ≡ b → Alike n m r
+    by-phase true g = rw g (refl, refl)
+    by-phase false g = by-list (enrolled_of m).good refl g
+
+-- ---- forget
+-- what the turns of `slide` make, those before it being done
+module _ {A : Type 0} (none : A) where
+  slides-after : (p : List A) (x : A) (ys : List A) → slides none (length ys) (length p) (p ++ x ∷ ys) ≡ p ++ slid (x ∷ ys)
+  unfolding slid
+  slides-after p x [] = refl
+  slides-after p x (y ∷ ys) =
+      ap (λ (zs : List A). slides none (length ys) (suc (length p)) zs) (ap (λ (z : A). set (p ++ x ∷ y ∷ ys) (length p) z) next ∙ set-append_seam p x (y ∷ ys) y)
+      ∙ ap (λ (n : ℕ). slides none (length ys) n (p ++ y ∷ y ∷ ys)) (sym (one_more y))
+      ∙ ap (λ (zs : List A). slides none (length ys) (length (p ++ (y ∷ []))) zs) (sym (append_snoc p y (y ∷ ys)))
+      ∙ slides-after (p ++ (y ∷ [])) y ys ∙ append_snoc p y (slid (y ∷ ys))
+    where
+      one_more : (z : A) → length (p ++ (z ∷ [])) ≡ suc (length p)
+      one_more z = let e : length (p ++ (z ∷ [])) ≡ length p + 1 = length-append p (z ∷ []) in omega (arith, e)
+
+      next : get_or (p ++ x ∷ y ∷ ys) (suc (length p)) none ≡ y
+      next = ap (λ (zs : List A). get_or zs (suc (length p)) none) (sym (append_snoc p x (y ∷ ys))) ∙ get_or_at (p ++ (x ∷ [])) y ys none (suc (length p)) (one_more x)
+
+  pub slid-so : (xs : List A) → slides none (length xs - 1) 0 xs ≡ slid xs
+  unfolding slid
+  slid-so [] = refl
+  slid-so (x ∷ xs) = let e : suc (length xs) - 1 ≡ length xs = omega arith in rw e (slides-after [] x xs)
+
+pub slid-long : {A : Type 0} (xs : List A) → length (slid xs) ≡ length xs
+unfolding slid
+slid-long [] = refl
+slid-long (x ∷ []) = refl
+slid-long (x ∷ y ∷ ys) = ap suc (slid-long (y ∷ ys))
+
+-- how many files follow the first before a free place
+abbrev run : List File → ℕ
+run [] = 0
+run (x ∷ []) = 0
+run (x ∷ y ∷ ys) = cond (is_vacant y) 0 (suc (run (y ∷ ys)))
+
+run-below : (x : File) (ys : List File) → run (x ∷ ys) < length (x ∷ ys)
+run-below x [] = omega arith
+run-below x (y ∷ ys) = by (is_vacant y) (run-below y ys)
+  where
+    by : (b : Bool) → run (y ∷ ys) < suc (length ys) → cond b 0 (suc (run (y ∷ ys))) < suc (suc (length ys))
+    by true l = omega arith
+    by false l = omega (arith, l)
+
+-- the run slid down, with its last place emptied
+run-pulled : (x : File) (ys : List File) → set (slid (take (suc (run (x ∷ ys))) (x ∷ ys)) ++ drop (suc (run (x ∷ ys))) (x ∷ ys)) (run (x ∷ ys)) blank_file ≡ pulled (x ∷ ys)
+unfolding slid pulled
+run-pulled x [] = refl
+run-pulled x (y ∷ ys) = by (is_vacant y) (run-pulled y ys)
+  where
+    at : Bool → ℕ
+    at b = cond b 0 (suc (run (y ∷ ys)))
+
+    by : (b : Bool) → set (slid (take (suc (run (y ∷ ys))) (y ∷ ys)) ++ drop (suc (run (y ∷ ys))) (y ∷ ys)) (run (y ∷ ys)) blank_file ≡ pulled (y ∷ ys)
+        → set (slid (take (suc (at b)) (x ∷ y ∷ ys)) ++ drop (suc (at b)) (x ∷ y ∷ ys)) (at b) blank_file ≡ cond b (blank_file ∷ y ∷ ys) (y ∷ pulled (y ∷ ys))
+    by true e = refl
+    by false e = ap (◌∷◌ y) e
+
+pub last-is : (fs : List File) (t i : ℕ) → reach no_file is_vacant fs t i ≡ last_in fs t i
+unfolding last_in
+last-is fs zero i = refl
+last-is fs (suc t) i = ap (cond (is_vacant (get_or fs (i + 1) no_file)) i) (last-is fs t (i + 1))
+
+pub last-past : (r : Record) (at : ℕ) → at ≤ last_sought r at
+unfolding last_sought
+last-past r at = subst (λ (i : ℕ). at ≤ i) (last-is r.files (63 - at) at) (reach-past no_file is_vacant r.files (63 - at) at)
+
+last-run : (fs : List File) (t i : ℕ) → i + suc t ≡ length fs → last_in fs t i ≡ i + run (drop i fs)
+unfolding last_in
+last-run fs zero i e =
+    let none_left : length fs ≤ suc i = omega (arith, e) in
+    rw (drop-cons fs i no_file (omega (arith, e)), drop_of_length-le fs none_left) (omega arith)
+last-run fs (suc t) i e =
+    let n : i + 1 ≡ suc i = omega arith in
+    rw (n, last-run fs t (suc i) (omega (arith, e)), drop-cons fs i no_file (omega (arith, e)), drop-cons fs (suc i) no_file (omega (arith, e))) (by (is_vacant (get_or fs (suc i) no_file)) (run (get_or fs (suc i) no_file ∷ drop (suc (suc i)) fs)))
+  where
+    by : (b : Bool) (m : ℕ) → cond b i (suc i + m) ≡ i + cond b 0 (suc m)
+    by true m = omega arith
+    by false m = omega arith
+
+pub set_past : {A : Type 0} (e : A) (p zs : List A) (n : ℕ) → set (p ++ zs) (length p + n) e ≡ p ++ set zs n e
+set_past e [] zs n = let q : 0 + n ≡ n = omega arith in rw q refl
+set_past e (x ∷ p) zs n = let q : suc (length p) + n ≡ suc (length p + n) = omega arith in rw q (ap (◌∷◌ x) (set_past e p zs n))
+
+pub pulled-so : (r : Record) (at : ℕ) (v : Verdict) → length r.files ≡ 64 → draws files blank_file slid r at (last_sought r at) ≡ pulled_files r at v
+unfolding files last_sought pulled_files pulled last_in
+pulled-so r at v long = by (ltb at 64) refl
+  where
+    fs : List File
+    fs = r.files
+
+    inside : at < 64 → draws files blank_file slid r at (last_in fs (63 - at) at) ≡ with_files (without_file at fs) r
+    inside l =
+        let here : drop at fs ≡ get_or fs at no_file ∷ drop (suc at) fs = drop-cons fs at no_file (omega (arith, l, long)) in
+        let m : ℕ = run (drop at fs) in
+        let far : last_in fs (63 - at) at ≡ at + m = last-run fs (63 - at) at (omega (arith, l, long)) in
+        let few : m < length (drop at fs) = subst (λ (zs : List File). run zs < length zs) (sym here) (run-below (get_or fs at no_file) (drop (suc at) fs)) in
+        let left : length (drop at fs) ≡ length fs - at = length-drop at fs in
+        let k : at + m + 1 - at ≡ suc m = omega arith in
+        let front : length (take at fs) ≡ at = length-take-le at fs (omega (arith, l, long)) in
+        rw (far, lt-ltb (at + m) 64 (omega (arith, few, left, long, l)), k)
+        (ap (λ zs. with_files zs r) (ap (λ (n : ℕ). set (take at fs ++ (slid (take (suc m) (drop at fs)) ++ drop (suc m) (drop at fs))) (n + m) blank_file) (sym front)
+        ∙ set_past blank_file (take at fs) (slid (take (suc m) (drop at fs)) ++ drop (suc m) (drop at fs)) m
+        ∙ ap (λ zs. take at fs ++ zs) (subst (λ (zs : List File). set (slid (take (suc (run zs)) zs) ++ drop (suc (run zs)) zs) (run zs) blank_file ≡ pulled zs) (sym here) (run-pulled (get_or fs at no_file) (drop (suc at) fs)))))
+
+    by : (b : Bool) → ltb at 64 ≡ b → draws files blank_file slid r at (last_in fs (63 - at) at) ≡ with_files (without_file at fs) r
+    by true e = inside (ltb-true at 64 e)
+    by false e =
+        let l : 64 ≤ at = ltb-false at 64 e in
+        let z : 63 - at ≡ 0 = omega (arith, l) in
+        let k : length fs ≤ at = omega (arith, long, l) in
+        rw (z, e, take_all at fs k, drop_of_length-le fs k, append-nil)
+
+-- the record once a call has been answered v
+abbrev pub after-pulling : Record → ℕ → Verdict → Record
+after-pulling r at v = with_head v.head (if-called (eqb v.status 0) (pulled_files r at v) r)
+
+pub forgotten-so : (n : ℕ) (r : Record) → length r.files ≡ 64
+    → Same (forget_verdict n r.head (get_or r.files (sought_in n r) no_file)).status (after-pulling r (sought_in n r) (forget_verdict n r.head (get_or r.files (sought_in n r) no_file))) (forget_of n r)
+unfolding pulled_files forget_of
+forgotten-so n r h = rw (sought-place n r h) (by (eqb (forgettable n r.head (file_at n r)) 0) refl)
+  where
+    by : (b : Bool) → eqb (forgettable n r.head (file_at n r)) 0 ≡ b → Same (forget_verdict n r.head (file_at n r)).status (after-pulling r (place_in n r) (forget_verdict n r.head (file_at n r))) (forget_of n r)
+    by true e = rw e (eqb-true _ _ e, refl)
+    by false e = rw e (refl, refl)

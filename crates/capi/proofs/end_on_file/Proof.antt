@@ -1,0 +1,19 @@
+-- `end_on_file` meets its contract, by the law of an element that is lent, over `end_intent`.
+use Rattle.std.proofs.Common.{refl, arith}
+use Rattle.records.proofs.Lent as lent
+use Rattle.files.specs.File.{no_file, with_ended}
+use Rattle.files.proofs.file.Closing.TheLaws as Q'
+use Rattle.capi.specs.OneFile.{ended_at}
+use Rattle.capi.proofs.Types.{heading, closing}
+use Rattle.capi.proofs.Fields.{files}
+use Rattle.capi.proofs.end_intent.Symbol as p
+use Rattle.capi.proofs.end_intent.Met as p-thm
+use Rattle.capi.specs.contracts.end_on_file.Key.{name as #f}
+use Rattle.capi.proofs.end_on_file.Statement as stated
+use Rattle.capi.proofs.end_on_file.Code as code
+
+pub end-on-file-spec : {M : Type 1} → stated.statement M
+unfolding code.routine files
+end-on-file-spec 𝓤 𝓛 𝓜 𝓡 =
+    lent.spec heading files closing Q'.the_copy tt tt (omega arith) no_file (λ f at s. with_ended at s f) ended_at (λ r i s long. refl)
+    𝓤 𝓛 𝓜 𝓡 code.env #f p.name p.routine code.calls-capi::end-intent (code.unfolded 𝓤 𝓛.H 𝓜 𝓡) (p-thm.met 𝓤 𝓛 𝓜 𝓡)

@@ -1,0 +1,16 @@
+-- Each return by its tests.
+use Rattle.std.proofs.Common.{rules, eq-eqb, ne_eqb}
+use Rattle.capi.proofs.settle.counting.Statement.{statement}
+use Rattle.capi.proofs.settle.counting.Tie as tie
+
+returns : tie.Need-returns
+returns c = rw c.if1.true
+
+returns-2 : tie.Need-returns-2
+returns-2 c = rw (c.before.if1.false, ne_eqb _ _ c.if2.true)
+
+returns-3 : tie.Need-returns-3
+returns-3 c = rw (c.before.if1.false, eq-eqb _ _ c.if2.false)
+
+pub counting-spec : {M : Type 1} → statement M
+counting-spec = tie.close (tie.spec returns returns-2 returns-3)

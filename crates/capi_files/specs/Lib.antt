@@ -1,2 +1,0 @@
-pub mod OneFile
-pub mod SetUp

@@ -1,2 +1,0 @@
--- Registry: register and forget do what the definitions say.
-mod Registry

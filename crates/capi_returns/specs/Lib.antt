@@ -1,2 +1,0 @@
-pub mod LayoutReturn
-pub mod Claims

@@ -1,2 +1,0 @@
--- Looks: a search of the completed list.
-mod Looks

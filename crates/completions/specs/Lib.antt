@@ -1,3 +1,0 @@
-pub mod Bars
-pub mod Completions
-pub mod Decisions
