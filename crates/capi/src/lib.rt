@@ -5,6 +5,8 @@
 // A function that takes a reference has the form that the law of `walks` or `records` which proves it is stated for: each test is a function of values,
 // a loop is left by `break`, and a field is reached anew each time. First a file's place, then the functions by value that `recovery` and `files` lack (LAYOUTRETURN's on one file stand in `settle`),
 // then what changes more than one file, what changes one intent, and the calls in the paper's order.
+#![tactic(auto)]
+
 mod counts;
 mod listing;
 mod settle;
@@ -530,8 +532,7 @@ fn end_on_file(r: &mut Record, i: usize, s: Closing)
 
 // ---- The calls.
 // Fresh: the record is written whole, whatever it held.
-#[unsafe(no_mangle)]
-pub extern "C" fn sc_record_fresh(r: &mut Record)
+pub fn sc_record_fresh(r: &mut Record)
     ensures { r.new ≡ fresh }
 {
     empty_each(r);
@@ -539,16 +540,14 @@ pub extern "C" fn sc_record_fresh(r: &mut Record)
 }
 
 // The same, set up as old.
-#[unsafe(no_mangle)]
-pub extern "C" fn sc_record_fresh_old(r: &mut Record)
+pub fn sc_record_fresh_old(r: &mut Record)
     ensures { r.new ≡ fresh_as Old }
 {
     empty_each(r);
     r.head = fresh_old_head();
 }
 
-#[unsafe(no_mangle)]
-pub extern "C" fn sc_record_register(r: &mut Record, file: u64, mirrors: &[u8]) -> u32
+pub fn sc_record_register(r: &mut Record, file: u64, mirrors: &[u8]) -> u32
     ensures { (result ≡ (register_of file mirrors.now r.old).status) × (r.new ≡ (register_of file mirrors.now r.old).after) }
 {
     let i = position(r, file);
@@ -560,8 +559,7 @@ pub extern "C" fn sc_record_register(r: &mut Record, file: u64, mirrors: &[u8]) 
     s.status
 }
 
-#[unsafe(no_mangle)]
-pub extern "C" fn sc_record_open(r: &mut Record, file: u64, client: u64) -> u32
+pub fn sc_record_open(r: &mut Record, file: u64, client: u64) -> u32
     ensures { (result ≡ (open_of file client r.old).status) × (r.new ≡ (open_of file client r.old).after) }
 {
     let i = position(r, file);
@@ -573,8 +571,7 @@ pub extern "C" fn sc_record_open(r: &mut Record, file: u64, client: u64) -> u32
     s.status
 }
 
-#[unsafe(no_mangle)]
-pub extern "C" fn sc_record_reclaim(r: &mut Record, file: u64, client: u64) -> u32
+pub fn sc_record_reclaim(r: &mut Record, file: u64, client: u64) -> u32
     ensures { (result ≡ (reclaim_of file client r.old).status) × (r.new ≡ (reclaim_of file client r.old).after) }
 {
     let i = position(r, file);
@@ -584,8 +581,7 @@ pub extern "C" fn sc_record_reclaim(r: &mut Record, file: u64, client: u64) -> u
     s.status
 }
 
-#[unsafe(no_mangle)]
-pub extern "C" fn sc_record_close(r: &mut Record, file: u64, client: u64) -> u32
+pub fn sc_record_close(r: &mut Record, file: u64, client: u64) -> u32
     ensures { (result ≡ (close_of file client r.old).status) × (r.new ≡ (close_of file client r.old).after) }
 {
     let i = position(r, file);
@@ -597,8 +593,7 @@ pub extern "C" fn sc_record_close(r: &mut Record, file: u64, client: u64) -> u32
     s.status
 }
 
-#[unsafe(no_mangle)]
-pub extern "C" fn sc_record_repaired(r: &mut Record, file: u64) -> u32
+pub fn sc_record_repaired(r: &mut Record, file: u64) -> u32
     ensures { (result ≡ (repaired_of file r.old).status) × (r.new ≡ (repaired_of file r.old).after) }
 {
     let i = position(r, file);
@@ -609,8 +604,7 @@ pub extern "C" fn sc_record_repaired(r: &mut Record, file: u64) -> u32
 }
 
 // A proxy beside the mirrors (02, Ticket 7).
-#[unsafe(no_mangle)]
-pub extern "C" fn sc_record_add_proxy(r: &mut Record, file: u64, device: &[u8]) -> u32
+pub fn sc_record_add_proxy(r: &mut Record, file: u64, device: &[u8]) -> u32
     ensures { (result ≡ (add_proxy_of file device.now r.old).status) × (r.new ≡ (add_proxy_of file device.now r.old).after) }
 {
     let i = position(r, file);
@@ -620,8 +614,7 @@ pub extern "C" fn sc_record_add_proxy(r: &mut Record, file: u64, device: &[u8]) 
     s.status
 }
 
-#[unsafe(no_mangle)]
-pub extern "C" fn sc_record_remove_proxy(r: &mut Record, file: u64) -> u32
+pub fn sc_record_remove_proxy(r: &mut Record, file: u64) -> u32
     ensures { (result ≡ (remove_proxy_of file r.old).status) × (r.new ≡ (remove_proxy_of file r.old).after) }
 {
     let i = position(r, file);
@@ -643,13 +636,7 @@ fn set_up_on_file(r: &mut Record, file: u64, at: usize, client: u64, other: &[u8
 }
 
 // A client's stateid (02, Ticket 13).
-#[unsafe(no_mangle)]
-pub extern "C" fn sc_record_set_up_stateid(
-    r: &mut Record,
-    file: u64,
-    client: u64,
-    other: &[u8],
-) -> u32
+pub fn sc_record_set_up_stateid(r: &mut Record, file: u64, client: u64, other: &[u8]) -> u32
     ensures { (result ≡ (set_up_of file client other.now r.old).status) × (r.new ≡ (set_up_of file client other.now r.old).after) }
 {
     let t = wire::stateid::begun(other);
@@ -657,8 +644,7 @@ pub extern "C" fn sc_record_set_up_stateid(
     set_up_on_file(r, file, at, client, other)
 }
 
-#[unsafe(no_mangle)]
-pub extern "C" fn sc_record_forget(r: &mut Record, file: u64) -> u32
+pub fn sc_record_forget(r: &mut Record, file: u64) -> u32
     ensures { (result ≡ (forget_of file r.old).status) × (r.new ≡ (forget_of file r.old).after) }
 {
     let i = position(r, file);
@@ -670,8 +656,7 @@ pub extern "C" fn sc_record_forget(r: &mut Record, file: u64) -> u32
     s.status
 }
 
-#[unsafe(no_mangle)]
-pub extern "C" fn sc_record_end_grace(r: &mut Record) -> u32
+pub fn sc_record_end_grace(r: &mut Record) -> u32
     ensures { (result ≡ (end_of r.old).status) × (r.new ≡ (end_of r.old).after) }
 {
     let s = ending(r.head);
@@ -682,8 +667,7 @@ pub extern "C" fn sc_record_end_grace(r: &mut Record) -> u32
     s.status
 }
 
-#[unsafe(no_mangle)]
-pub extern "C" fn sc_record_restart(r: &mut Record) -> u32
+pub fn sc_record_restart(r: &mut Record) -> u32
     ensures { (result ≡ (restart_of r.old).status) × (r.new ≡ (restart_of r.old).after) }
 {
     let s = restarting(r.head);
@@ -782,8 +766,7 @@ fn with_file(
 // LAYOUTRETURN, with its totals in what the caller lends: place k of a slice gets mirror k's bytes, place 4 the proxy's, bit k of a mask says whether these passed
 // 2^64 - 1.
 // All four are written on every call, with zeros unless the answer is 0.
-#[unsafe(no_mangle)]
-pub extern "C" fn sc_record_layoutreturn(
+pub fn sc_record_layoutreturn(
     r: &mut Record,
     file: u64,
     client: u64,
@@ -830,8 +813,7 @@ pub extern "C" fn sc_record_layoutreturn(
 }
 
 // The two lists, by the number of a direction. There is a loop for each, so that the compiler makes the turns a part of it.
-#[unsafe(no_mangle)]
-pub extern "C" fn sc_record_resilver_by(
+pub fn sc_record_resilver_by(
     r: &Record,
     files: &mut [u64],
     sources: &mut [u8],
@@ -850,8 +832,7 @@ pub extern "C" fn sc_record_resilver_by(
     c.status
 }
 
-#[unsafe(no_mangle)]
-pub extern "C" fn sc_record_offered_by(
+pub fn sc_record_offered_by(
     r: &Record,
     files: &mut [u64],
     sources: &mut [u8],
@@ -871,8 +852,7 @@ pub extern "C" fn sc_record_offered_by(
 }
 
 // How many files wait for repair, and how many of those are offered now: the record keeps both, and no file is looked at.
-#[unsafe(no_mangle)]
-pub extern "C" fn sc_record_counts(r: &Record, waiting: &mut u64, offered: &mut u64)
+pub fn sc_record_counts(r: &Record, waiting: &mut u64, offered: &mut u64)
     ensures { counts waiting.new offered.new ≡ counts_of r.now.head }
 {
     counts::hand_out(r.head, waiting, offered)

@@ -91,8 +91,7 @@ pub fn commit(
 }
 
 // For C: 0, or the number of the rule that refuses; through `place` how many extents were written, or the place of the refused one.
-#[unsafe(no_mangle)]
-pub extern "C" fn sc_layout_commit(
+pub fn sc_layout_commit(
     commits: &[u8],
     block: u64,
     devices: &[u8],

@@ -1,5 +1,7 @@
 // The epoch record of a cluster node (paper 01, "Cluster epochs"; source document 002): two epochs, and the members with their flags NEED and ENFORCING as 32-bit masks.
 // First the record and what calls answer, then each call by value, then the same calls on a record where it lies, which a C server links.
+#![tactic(auto)]
+
 ghost use Rattle.std.specs.Prelude.{◌≡◌, ◌<◌};
 ghost use Rattle.epochs.specs.Epochs.{fresh, accepted, refused, flagged, join_of, leave_of, start_of, enforce_of, finish_of, stop_of, may_reclaim_of, reclaim_number};
 
@@ -226,15 +228,13 @@ impl Epochs {
 
 // ---- The same calls, each on a record where it lies.
 // Fresh: the record is written whole, whatever it held.
-#[unsafe(no_mangle)]
-pub extern "C" fn sc_epochs_fresh(e: &mut Epochs)
+pub fn sc_epochs_fresh(e: &mut Epochs)
     ensures { e.new ≡ fresh }
 {
     *e = Epochs::fresh();
 }
 
-#[unsafe(no_mangle)]
-pub extern "C" fn sc_epochs_join(e: &mut Epochs, node: u32) -> u32
+pub fn sc_epochs_join(e: &mut Epochs, node: u32) -> u32
     ensures { (result ≡ (join_of e.old node).status) × (e.new ≡ (join_of e.old node).epochs) }
 {
     let s = Epochs::join(*e, node);
@@ -242,8 +242,7 @@ pub extern "C" fn sc_epochs_join(e: &mut Epochs, node: u32) -> u32
     s.status
 }
 
-#[unsafe(no_mangle)]
-pub extern "C" fn sc_epochs_leave(e: &mut Epochs, node: u32) -> u32
+pub fn sc_epochs_leave(e: &mut Epochs, node: u32) -> u32
     ensures { (result ≡ (leave_of e.old node).status) × (e.new ≡ (leave_of e.old node).epochs) }
 {
     let s = Epochs::leave(*e, node);
@@ -251,8 +250,7 @@ pub extern "C" fn sc_epochs_leave(e: &mut Epochs, node: u32) -> u32
     s.status
 }
 
-#[unsafe(no_mangle)]
-pub extern "C" fn sc_epochs_start(e: &mut Epochs, node: u32) -> u32
+pub fn sc_epochs_start(e: &mut Epochs, node: u32) -> u32
     ensures { (result ≡ (start_of e.old node).status) × (e.new ≡ (start_of e.old node).epochs) }
 {
     let s = Epochs::start(*e, node);
@@ -260,8 +258,7 @@ pub extern "C" fn sc_epochs_start(e: &mut Epochs, node: u32) -> u32
     s.status
 }
 
-#[unsafe(no_mangle)]
-pub extern "C" fn sc_epochs_enforce(e: &mut Epochs, node: u32) -> u32
+pub fn sc_epochs_enforce(e: &mut Epochs, node: u32) -> u32
     ensures { (result ≡ (enforce_of e.old node).status) × (e.new ≡ (enforce_of e.old node).epochs) }
 {
     let s = Epochs::enforce(*e, node);
@@ -269,8 +266,7 @@ pub extern "C" fn sc_epochs_enforce(e: &mut Epochs, node: u32) -> u32
     s.status
 }
 
-#[unsafe(no_mangle)]
-pub extern "C" fn sc_epochs_finish(e: &mut Epochs, node: u32) -> u32
+pub fn sc_epochs_finish(e: &mut Epochs, node: u32) -> u32
     ensures { (result ≡ (finish_of e.old node).status) × (e.new ≡ (finish_of e.old node).epochs) }
 {
     let s = Epochs::finish(*e, node);
@@ -278,8 +274,7 @@ pub extern "C" fn sc_epochs_finish(e: &mut Epochs, node: u32) -> u32
     s.status
 }
 
-#[unsafe(no_mangle)]
-pub extern "C" fn sc_epochs_stop_enforcing(e: &mut Epochs, node: u32) -> u32
+pub fn sc_epochs_stop_enforcing(e: &mut Epochs, node: u32) -> u32
     ensures { (result ≡ (stop_of e.old node).status) × (e.new ≡ (stop_of e.old node).epochs) }
 {
     let s = Epochs::stop_enforcing(*e, node);
@@ -288,8 +283,7 @@ pub extern "C" fn sc_epochs_stop_enforcing(e: &mut Epochs, node: u32) -> u32
 }
 
 // May reclaim, as a number: the record is only read.
-#[unsafe(no_mangle)]
-pub extern "C" fn sc_epochs_may_reclaim(e: &Epochs, node: u32) -> u32
+pub fn sc_epochs_may_reclaim(e: &Epochs, node: u32) -> u32
     ensures { result ≡ reclaim_number (may_reclaim_of e.now node) }
 {
     Epochs::reclaim_number(*e, node)

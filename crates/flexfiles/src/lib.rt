@@ -1,6 +1,8 @@
 // For C: the check of the body of a flexible files LAYOUTRETURN (RFC 8435), which is a report, and the walks of its device errors and of its statistics records,
 // from crate `reports`. Paper 01, "LAYOUTRETURN"; Ticket 3.
 // In this order: the check; the cursor of three numbers and the walk of the device errors; the cursor of two and the walk of the statistics records.
+#![tactic(auto)]
+
 ghost use Rattle.std.specs.Prelude.{◌≡◌, ◌≤◌};
 ghost use Rattle.reports.specs.Report.{report_of, status_of};
 ghost use Rattle.reports.specs.ReportSteps.{device_at};
@@ -11,8 +13,7 @@ use reports::report::{Entry, Reading};
 use reports::statistics::Item;
 
 // Step 5, as `check` answers it.
-#[unsafe(no_mangle)]
-pub extern "C" fn sc_report_check(body: &[u8]) -> u32
+pub fn sc_report_check(body: &[u8]) -> u32
     ensures { result ≡ status_of (report_of body.now) }
 {
     reports::report::check(body)
@@ -114,8 +115,7 @@ fn resumed(s: &[u8], at: usize, records: u32, devices: u32) -> ErrorCursor
 
 // `first`, with the cursor as three numbers that are 0 at first. Answers 1 with the next device error: the place of the device's sixteen bytes in the body,
 // and its status. Otherwise answers the status of step 5, and the cursor stays.
-#[unsafe(no_mangle)]
-pub extern "C" fn sc_report_next(
+pub fn sc_report_next(
     body: &[u8],
     at: &mut u64,
     records: &mut u32,
@@ -158,8 +158,7 @@ fn resumed_tail(s: &[u8], at: usize, left: u32) -> Cursor
 
 // `statistics::next`, with the cursor as two numbers that are 0 at first. Answers 1 with the next statistics record: the place of the device's sixteen
 // bytes in the body, its bytes read and its bytes written. Otherwise answers 0 at the end of a well formed body or 10036, and the cursor stays.
-#[unsafe(no_mangle)]
-pub extern "C" fn sc_statistics_next(
+pub fn sc_statistics_next(
     body: &[u8],
     at: &mut u64,
     left: &mut u32,

@@ -1,5 +1,7 @@
 // A file's write intents (paper 01, "The recovery record"): one a client, at most 8, and the free places last; with each the client's layout stateid, if it
 // has one (02, Ticket 13). First one place, then the eight.
+#![tactic(auto)]
+
 ghost use Rattle.std.specs.Prelude.{◌≡◌, map, ◌<◌, cond, get_or, set, replicate, length};
 ghost use Rattle.places.specs.Lists.{any, chosen, fill};
 ghost use Rattle.places.specs.Places.{first, is_found, left_out};

@@ -1,6 +1,8 @@
 // LAYOUTRETURN on one file (paper 01, "LAYOUTRETURN"; 02, Tickets 1, 3, 6 and 13), its steps in the paper's order. In this order: what is decided before any
 // file is looked at, from the 28 for a short reply to step 4; what an answer says; steps 5 to 7 on a file; an ordinary return on a file; the reply; the file
 // afterwards.
+#![tactic(auto)]
+
 ghost use Rattle.std.specs.Prelude.{◌≡◌};
 ghost use Rattle.reports.specs.Report.{report_of};
 ghost use Rattle.intents.specs.Intents.{is_stated, stated_if};

@@ -1,4 +1,6 @@
 // list_layout: prints the extents of a SCSI layout body, or its refusal. Paper 01, "Layout bodies" (Rules 2.11).
+#![tactic(auto)]
+
 use layouts::kinds::Kind;
 
 fn main() {

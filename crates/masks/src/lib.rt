@@ -1,5 +1,7 @@
 // Sets of nodes 0 to 31 as 32-bit masks: whether a node is in a set, a set with a node and without it, whether a set is empty, and whether it lies in another.
 // Paper 01, "Cluster epochs".
+#![tactic(auto)]
+
 ghost use Rattle.std.specs.Prelude.{◌≡◌, ◌<◌};
 ghost use Rattle.masks.specs.Mask.{has, plus, minus, empty, within};
 

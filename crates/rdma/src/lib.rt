@@ -1,6 +1,8 @@
 // For C: the check of an RDMA layout body, its extents by place with their handles, and the writer (Ticket 5; source document 001, section 2.4), from crate
 // `layouts`. A kind is a constant in each of the two crates that export its calls, so that the compiler makes each writer for one kind alone.
 // In this order: the check; the extent at a place; the writer.
+#![tactic(auto)]
+
 ghost use Rattle.std.specs.Prelude.{◌≡◌};
 ghost use Rattle.extents.specs.Extents.{number_of, place_of};
 ghost use Rattle.layouts.specs.declared.kinds.Kind.TheVariants.{Rdma};
@@ -11,8 +13,7 @@ use layouts::kinds::Kind;
 use scsi::layout::numbers;
 
 // The check: 0, or the number of the rule that refuses; through `place` how many extents there are, or the place of the refused one.
-#[unsafe(no_mangle)]
-pub extern "C" fn sc_rdma_layout_check(body: &[u8], place: &mut u64) -> u32
+pub fn sc_rdma_layout_check(body: &[u8], place: &mut u64) -> u32
     ensures { (result ≡ number_of (check_body Rdma body.now)) × (place.new ≡ place_of (check_body Rdma body.now)) }
 {
     numbers(layouts::layout::check(Kind::Rdma, body), place)
@@ -20,8 +21,7 @@ pub extern "C" fn sc_rdma_layout_check(body: &[u8], place: &mut u64) -> u32
 
 // The extent at place i of a body of which the check counted n, in constant time: 0, where in the body its device id stands, its handle and its numbers. At
 // or past n, or past what the body has room for: 9, and zeros.
-#[unsafe(no_mangle)]
-pub extern "C" fn sc_rdma_layout_extent(
+pub fn sc_rdma_layout_extent(
     body: &[u8],
     n: u64,
     i: u64,
@@ -46,8 +46,7 @@ pub extern "C" fn sc_rdma_layout_extent(
 }
 
 // The writer: 0, or the number of the rule that refuses; through `place` how many extents were written, or the place of the refused one.
-#[unsafe(no_mangle)]
-pub extern "C" fn sc_rdma_layout_write(
+pub fn sc_rdma_layout_write(
     devices: &[u8],
     offsets: &[u64],
     handles: &[u32],

@@ -3,6 +3,8 @@
 //     report         the walk of the error records, and step 5
 //     statistics     the walk of the statistics records
 // What C calls of it stands in crate `flexfiles`.
+#![tactic(auto)]
+
 pub mod cursor;
 pub mod report;
 pub mod statistics;

@@ -26,8 +26,7 @@ pub fn numbers(v: Verdict, place: &mut u64) -> u32
 }
 
 // The check: 0, or the number of the rule that refuses; through `place` how many extents there are, or the place of the refused one.
-#[unsafe(no_mangle)]
-pub extern "C" fn sc_layout_check(body: &[u8], place: &mut u64) -> u32
+pub fn sc_layout_check(body: &[u8], place: &mut u64) -> u32
     ensures { (result ≡ number_of (check_body Scsi body.now)) × (place.new ≡ place_of (check_body Scsi body.now)) }
 {
     numbers(layouts::layout::check(Kind::Scsi, body), place)
@@ -35,8 +34,7 @@ pub extern "C" fn sc_layout_check(body: &[u8], place: &mut u64) -> u32
 
 // The extent at place i of a body of which the check counted n, in constant time: 0, where in the body its device id stands, and its numbers. At or
 // past n, or past what the body has room for: 9, and zeros.
-#[unsafe(no_mangle)]
-pub extern "C" fn sc_layout_extent(
+pub fn sc_layout_extent(
     body: &[u8],
     n: u64,
     i: u64,
@@ -59,8 +57,7 @@ pub extern "C" fn sc_layout_extent(
 }
 
 // The writer: 0, or the number of the rule that refuses; through `place` how many extents were written, or the place of the refused one.
-#[unsafe(no_mangle)]
-pub extern "C" fn sc_layout_write(
+pub fn sc_layout_write(
     devices: &[u8],
     offsets: &[u64],
     lengths: &[u64],

@@ -6,8 +6,7 @@ ghost use Rattle.joining.specs.Merge.{column_list, merge_columns, MergedC};
 use crate::layout;
 
 // The merger: 0, or the number of the rule that refuses; through `place` how many extents were written, or the place of the refused one.
-#[unsafe(no_mangle)]
-pub extern "C" fn sc_layout_merge(
+pub fn sc_layout_merge(
     devs: &[u8],
     offs: &[u64],
     lens: &[u64],

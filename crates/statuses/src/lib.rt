@@ -1,5 +1,6 @@
 // Statuses by NFS's own names (RFC 8881, 15.1), and one number that is no status of NFS; 0 stays a number. Definitions in specs/ keep paper 01's
 // numbers, so that a wrong constant is refused where it is used; specs/Rules.antt has what a table of refusals is.
+#![tactic(auto)]
 
 // The node is no member of the cluster, or the file has no proxy.
 pub const NOENT: u32 = 2;

@@ -4,6 +4,8 @@
 //     stateid    the stateid of a request, and that of an `other` that a caller gives
 //     seqid      older and newer seqids, and the next one
 //     reply      the reply
+#![tactic(auto)]
+
 pub mod body;
 pub mod reply;
 pub mod request;

@@ -62,8 +62,7 @@ pub fn write(reply: &mut [u8], status: u32) -> u32
 }
 
 // For C: `write`.
-#[unsafe(no_mangle)]
-pub extern "C" fn sc_layoutreturn_reply(reply: &mut [u8], status: u32) -> u32
+pub fn sc_layoutreturn_reply(reply: &mut [u8], status: u32) -> u32
     ensures { (result ≡ reply_answer status reply.old) × (reply.new ≡ reply_in status reply.old) }
 {
     write(reply, status)
