@@ -30,7 +30,7 @@ run: build ## lists a sample layout body and replays an incident, each call besi
 
 test: setup-test build ## every test, and last the gate: rt ci
 	@tests/all.sh
-	@tests/gate.sh
+	@rt ci
 
 bench: setup-bench build ## times the libraries beside plain C, in one process
 	@bench/run.sh
@@ -39,7 +39,7 @@ bench-counts: setup-counts build ## counts the instructions of the same jobs, by
 	@bench/build.sh
 	@bench/counts.py
 
-fuzz: setup-test build ## a long coverage-guided run of the wire checks and the heads: SECONDS=3600
+fuzz: setup-test build ## a long coverage-guided run of the wire checks: SECONDS=3600
 	@tests/fuzz/run.sh $(SECONDS)
 
 setup-%:

@@ -4,7 +4,7 @@
 # What was made from the same sources before is not proved again, also where target/ is gone since.
 set -u
 cd "$(dirname "$0")/.." || exit 1
-libraries='wire flexfiles scsi rdma commits epochs capi_files capi_registry capi_grace capi_lists capi_returns heads'
+libraries='wire flexfiles scsi rdma commits epochs capi'
 programs='list_layout list_rdma_layout'
 mkdir -p build target
 : > target/build.log

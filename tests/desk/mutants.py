@@ -15,7 +15,6 @@ import tempfile
 
 DESK = os.path.dirname(os.path.abspath(__file__))
 SECOND = os.path.join(DESK, "..", "second")
-RUSTC = os.path.join(DESK, "..", "rustc.sh")
 CAPTURES = ["layout-bodies", "linux-layoutcommit", "layoutreturn-damaged", "linux-layoutreturn", "ganesha-epochs"]
 RANDOM_CALLS, SEEDS, TIMEOUT = "100000", ["1", "2"], 120
 
@@ -33,7 +32,7 @@ def edits():
 
 
 def rustc(source, program):
-    subprocess.run([RUSTC, "-C", "opt-level=1", "-A", "warnings", "-o", program, source], check=True)
+    subprocess.run(["rustc", "-C", "opt-level=1", "-A", "warnings", "--edition", "2021", "-o", program, source], check=True)
 
 
 def run(program, script):
@@ -59,7 +58,7 @@ def scripts(work):
         capture = os.path.join(DESK, "..", "captures", name + ".txt")
         subprocess.run([sys.executable, os.path.join(DESK, "captures.py"), name, capture, path, path + ".expected"], check=True)
         yield path
-    for name in ["marked", "incident", "lines", "directions", "proxies", "counts", "stateids", "heads"]:
+    for name in ["marked", "incident", "lines", "directions", "proxies", "counts", "stateids"]:
         yield os.path.join(DESK, name + ".txt")
 
 
