@@ -12,8 +12,8 @@ tests/capi/run.sh
 tests/stack/run.sh
 bench/copies.sh build/libstellcircle.a
 tests/install.sh
-rustc -O --edition 2021 -o target/tests/second tests/second/main.rs
-rustc -O --edition 2021 --test -o target/tests/examples tests/second/main.rs
+tests/rustc.sh -O -o target/tests/second tests/second/main.rs
+tests/rustc.sh -O --test -o target/tests/examples tests/second/main.rs
 target/tests/examples -q > target/tests/examples.log || { cat target/tests/examples.log; exit 1; }
 echo "second program: its own tests, K1 to K15 among them, pass"
 tests/desk/run.sh build/stellcircle-replay target/tests/second

@@ -15,6 +15,7 @@ import tempfile
 
 DESK = os.path.dirname(os.path.abspath(__file__))
 SECOND = os.path.join(DESK, "..", "second")
+RUSTC = os.path.join(DESK, "..", "rustc.sh")
 CAPTURES = ["layout-bodies", "linux-layoutcommit", "layoutreturn-damaged", "linux-layoutreturn", "ganesha-epochs"]
 RANDOM_CALLS, SEEDS, TIMEOUT = "100000", ["1", "2"], 120
 
@@ -32,7 +33,7 @@ def edits():
 
 
 def rustc(source, program):
-    subprocess.run(["rustc", "-C", "opt-level=1", "-A", "warnings", "--edition", "2021", "-o", program, source], check=True)
+    subprocess.run([RUSTC, "-C", "opt-level=1", "-A", "warnings", "-o", program, source], check=True)
 
 
 def run(program, script):

@@ -1,7 +1,7 @@
 #!/bin/sh
 # run.sh REPLAY SECOND [SEEDS]: runs every script of the desk on both programs, compares what they print, prints one line for each part,
 # and exits 1 on any difference. SEEDS is how many random scripts of 100,000 calls are run, 12 if it is not given.
-# Needs python3 and rustc.
+# Needs python3 and Debian's rustc.
 set -u
 export LC_ALL=C
 if [ $# -lt 2 ]; then
@@ -88,7 +88,7 @@ pairs() {
     python3 "$desk/pairs.py" "$work/script" "$work/once" "$work/replay" || fails "pairs" "a file or a blame is lost"
 }
 
-if rustc -O --edition 2021 -o "$work/gen" "$desk/gen/main.rs"; then
+if "$desk/../rustc.sh" -O -o "$work/gen" "$desk/gen/main.rs"; then
     pairs 12000
     seed=1
     while [ "$seed" -le "$seeds" ]; do

@@ -30,7 +30,7 @@ compare() {
 for name in incident marked lines directions proxies counts stateids; do
     compare "$name" "$desk/$name.txt" "$desk/$name.expected"
 done
-rustc -O --edition 2021 -o "$work/gen" "$desk/gen/main.rs" && "$work/gen" 99 20000 > "$work/script" && "$1" < "$work/script" > "$work/expected" || exit 1
+"$desk/../rustc.sh" -O -o "$work/gen" "$desk/gen/main.rs" && "$work/gen" 99 20000 > "$work/script" && "$1" < "$work/script" > "$work/expected" || exit 1
 compare random "$work/script" "$work/expected"
 if "$work/full_epoch"; then
     echo "sanitized full_epoch: as expected"

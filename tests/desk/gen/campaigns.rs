@@ -199,11 +199,12 @@ impl<W: Write> Campaigns<W> {
         let room = |r: &mut Random| r.pick(&[0, 1, 2, about.saturating_sub(1), about, about, about + 1, 64, 64, 64, 100]);
         let (files, sources) = (room(&mut self.r), room(&mut self.r));
         let (lowest, highest) = (" lowest", self.r.pick(&["", " highest"]));
-        let asked: &[&str] = match self.r.below(4) {
-            0 => &[lowest],
-            1 => &[highest],
-            2 => &[lowest, highest],
-            _ => &[highest, lowest],
+        let all = [lowest, highest, lowest];
+        let asked = match self.r.below(4) {
+            0 => &all[..1],
+            1 => &all[1..2],
+            2 => &all[..2],
+            _ => &all[1..],
         };
         for word in asked {
             self.call(&format!("{name} {files} {sources}{word}"))?;

@@ -21,9 +21,12 @@ fn main() -> io::Result<()> {
         Some("pairs") => (true, &words[1..]),
         _ => (false, &words[..]),
     };
-    let [Ok(seed), Ok(count)] = numbers.iter().map(|word| word.parse()).collect::<Vec<_>>()[..] else {
-        eprintln!("usage: gen SEED CALLS, gen pairs SEED PAIRS");
-        std::process::exit(2)
+    let (seed, count) = match numbers.iter().map(|word| word.parse()).collect::<Vec<_>>()[..] {
+        [Ok(seed), Ok(count)] => (seed, count),
+        _ => {
+            eprintln!("usage: gen SEED CALLS, gen pairs SEED PAIRS");
+            std::process::exit(2)
+        }
     };
     let campaigns = Campaigns::new(seed, BufWriter::new(io::stdout().lock()));
     if pairs {

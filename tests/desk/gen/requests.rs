@@ -218,6 +218,6 @@ pub fn request_of(r: &mut Random, devices: &[Device], stateid: &[u8], kinds: u64
 /// Whether a request is a file's return of a body of so many bytes, which is a multiple of four, and is right up to that body.
 fn fixed_part_is_right(request: &[u8], body: usize) -> bool {
     let number = |at: usize| request.get(at..at + 4).map(|bytes| u32::from_be_bytes(bytes.try_into().expect("4 bytes")));
-    let right = |at: usize, wanted: &[u32]| number(at).is_some_and(|number| wanted.contains(&number));
+    let right = |at: usize, wanted: &[u32]| number(at).map_or(false, |number| wanted.contains(&number));
     right(0, &[0, 1]) && right(4, &[4]) && right(8, &[1, 2, 3]) && right(12, &[1]) && right(48, &[body as u32]) && request.len() == 52 + body
 }
