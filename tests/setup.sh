@@ -37,7 +37,7 @@ missing() {
 apt() {
     $as_root env DEBIAN_FRONTEND=noninteractive apt-get -q "$@" >> "$log" 2>&1 && return
     tail -n 20 "$log" >&2
-    echo "setup: apt-get $* FAILED: all that it said is in target/setup.log" >&2
+    echo "setup: apt-get $1 FAILED, and target/setup.log has all that it said; needed are Debian's packages ${packages% }" >&2
     exit 1
 }
 
