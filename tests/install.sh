@@ -1,5 +1,6 @@
 #!/bin/sh
-# install.sh: installs below a temporary prefix, and links and runs a server of ten lines by what pkg-config says.
+# install.sh: installs below a temporary prefix, links and runs a server of ten lines by what pkg-config says, and sees that the programs are there with man
+# pages that mandoc finds nothing in.
 set -e
 cd "$(dirname "$0")/.."
 room=$(mktemp -d)
@@ -36,7 +37,9 @@ for edition in c11 c17 c2x c++11 c++20; do
     case $edition in c++*) compile=g++ language=c++ ;; *) compile=gcc language=c ;; esac
     echo '#include <stellcircle.h>' | "$compile" -std=$edition -fsyntax-only -Wall -Wextra -Wpedantic -Werror -I"$room/usr/include" -x $language - || exit 1
 done
-for program in list_layout stellcircle-replay; do
-    [ -x "$room/usr/bin/$program" ] && [ -f "$room/usr/share/man/man1/$program.1" ] || { echo "install: $program or its man page is missing"; exit 1; }
+for program in list_layout list_rdma_layout stellcircle-replay; do
+    page=$room/usr/share/man/man1/$program.1
+    [ -x "$room/usr/bin/$program" ] && [ -f "$page" ] || { echo "install: $program or its man page is missing"; exit 1; }
+    mandoc -Tlint "$page" || { echo "install: mandoc finds fault with the man page of $program"; exit 1; }
 done
-echo "install: version $version; a server links by pkg-config, with gcc, g++ and clang"
+echo "install: version $version; a server links by pkg-config, with gcc, g++ and clang; mandoc finds nothing in the man pages"

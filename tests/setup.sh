@@ -43,13 +43,12 @@ apt() {
 
 wanted=$(missing)
 [ -n "$wanted" ] || exit 0
-packages=$(echo "$wanted" | cut -d' ' -f2- | tr '\n' ' ')
-as_root=''
+packages=$(echo "$wanted" | cut -d' ' -f2- | tr ' ' '\n' | sort -u | tr '\n' ' ')
+as_root='' why=''
 [ "$(id -u)" = 0 ] || as_root=sudo
-if ! command -v apt-get > /dev/null || { [ -n "$as_root" ] && ! command -v sudo > /dev/null; }; then
-    echo "setup: these packages of Debian are missing, and without apt-get, root or sudo they can't be installed here; install them first: ${packages% }" >&2
-    exit 1
-fi
+[ -z "$as_root" ] || command -v sudo > /dev/null || why="this is not root, and there is no sudo"
+command -v apt-get > /dev/null || why="there is no apt-get"
+[ -z "$why" ] || { echo "setup: $why: install these packages of Debian first: ${packages% }" >&2; exit 1; }
 echo "$wanted" | while read -r name has; do echo "setup: $name is missing: installing Debian's $has"; done
 mkdir -p "$top/target"
 : > "$log"
