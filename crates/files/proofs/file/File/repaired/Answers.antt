@@ -21,4 +21,4 @@ pub returns : goal.returns
 unfolding repaired_file
 returns c =
     let marked : c.args.self.marked ≡ true = not-false _ c.if-not-self.false in
-    rw (sym c.is.ensures ∙ c.if-not-is.false, marked, sym c.busy.ensures ∙ c.if-busy.false, c.cleared-ms.ensures, c.moved-next.ensures, c.of-is.ensures, c.of-was.ensures, is-used c.args.number c.args.self (sym c.is.ensures ∙ c.if-not-is.false), marked)
+    rw (sym c.is.ensures ∙ c.if-not-is.false, marked, sym c.busy.ensures ∙ c.if-busy.false, c.cleared-ms.ensures, c.moved-next.ensures, c.of-is.ensures, c.of-was.ensures, is-used c.args.number c.args.self (sym c.is.ensures ∙ c.if-not-is.false))
