@@ -116,6 +116,7 @@ fn judged(s: &[u8], asked: Request) -> Request
 }
 
 // Which kind a stateid is, by its numbers.
+#[tactic(auto, unfolding(crate::specs::RequestSteps::kind_of_numbers))]
 fn kind_of(t: Stateid) -> Kind
     ensures { result ≡ kind_of_numbers t }
 {

@@ -1,0 +1,22 @@
+use mathlib.Core.Path.{◌≡◌, ◌∙◌}
+use Prim.Native.Nat.{◌<◌, ◌-◌}
+use native.Mathlib.Omega.{arith}
+use lib.ListN.{length}
+use borrow.Author.Rules.{rules}
+use Rattle.places.proofs.Loops.{mapped-length, mapping-none, mapping-more, mapped_at}
+use Rattle.intents.proofs.Anew.{made-anew}
+use Rattle.intents.specs.Intents.{no_intent}
+use Rattle.intents.proofs.with_stateid.Goals as goal
+
+pub loop-i-init : goal.loop-i-init
+loop-i-init c = mapping-none _ _
+
+pub loop-i-preserved : goal.loop-i-preserved
+loop-i-preserved c =
+    let h : c.loop-i.i < 8 = omega arith in
+    mapping-more c.loop-i.invariant no_intent h _ c.state-y.ensures
+
+pub returns : goal.returns
+returns c =
+    let long : length c.args.intents ≡ 8 = search (mapped-length, rules) in
+    mapped_at c.loop-i.invariant (omega arith) ∙ made-anew _ no_intent _ c.args.intents 8 long
