@@ -225,8 +225,8 @@ without-length i fs = simp (length-append, pulled-length) (sym (length-append (t
 
 pulled-slots : {g : Bool} {fs : List File} {ws : List Row} (x : File) → Slots (FileIs g) NoFile fs ws → Slots (FileIs g) NoFile (pulled (x ∷ fs)) ws
 unfolding pulled
-pulled-slots x (Slots.rest All.All-nil) = Slots.rest (All.All-cons refl All.All-nil)
-pulled-slots {g} x (Slots.rest (All.All-cons {x = y} {xs = ys} e f)) = subst (λ (b : Bool). Slots (FileIs g) NoFile (cond (not b) (blank_file ∷ y ∷ ys) (y ∷ pulled (y ∷ ys))) []) (sym e) (Slots.rest (All.All-cons refl (All.All-cons e f)))
+pulled-slots x (Slots.rest All.all_nil) = Slots.rest (All.all_cons refl All.all_nil)
+pulled-slots {g} x (Slots.rest (All.all_cons {x = y} {xs = ys} e f)) = subst (λ (b : Bool). Slots (FileIs g) NoFile (cond (not b) (blank_file ∷ y ∷ ys) (y ∷ pulled (y ∷ ys))) []) (sym e) (Slots.rest (All.all_cons refl (All.all_cons e f)))
 pulled-slots {g} x (Slots.item {x = f} {y = w} e s) = rw (is-used g f w e) (Slots.item e (pulled-slots f s))
 
 no-such-place : {i : ℕ} → Nothing ≡ At i → ⊥
@@ -234,8 +234,8 @@ no-such-place e = true-false (sym (ap is_found e))
 
 none_first : (n : ℕ) {fs : List File} → All NoFile fs → first (is_file n) fs ≡ Nothing
 unfolding first
-none_first n All.All-nil = refl
-none_first n (All.All-cons {x} e f) = rw (is-no-file n x e, none_first n f)
+none_first n All.all_nil = refl
+none_first n (All.all_cons {x} e f) = rw (is-no-file n x e, none_first n f)
 
 -- the file n, at its place i, is taken out; b is whether it is the first
 taken_out : {g : Bool} {fs : List File} {ws : List Row} (n i : ℕ) → Slots (FileIs g) NoFile fs ws → first (is_file n) fs ≡ At i → Slots (FileIs g) NoFile (without_file i fs) (discard (is_row n) ws)
@@ -312,8 +312,8 @@ enter-length x fs = raised-length x (room_in fs) fs
 
 first-free : {g : Bool} {fs : List File} {ws : List Row} → Slots (FileIs g) NoFile fs ws → length ws < length fs → first is_vacant fs ≡ At (length ws)
 unfolding first
-first-free (Slots.rest All.All-nil) k = absurd (omega arith)
-first-free (Slots.rest (All.All-cons e f)) k = rw e
+first-free (Slots.rest All.all_nil) k = absurd (omega arith)
+first-free (Slots.rest (All.all_cons e f)) k = rw e
 first-free {g} (Slots.item {x = f} {y = w} e s) k = rw (is-used g f w e, first-free s (omega arith))
 
 -- the code compares the numbers of files, and the ledger those of rows
@@ -366,8 +366,8 @@ raised-up x (suc i) fs h g =
     rw (last-greater x i fs g) (raised-up x i (set fs (suc i) (get_or fs i no_file)) l (set-greater x (get_or fs i no_file) i fs g) ∙ up-set x i fs h)
 
 up-slots : {g : Bool} {x : File} {w : Row} {fs : List File} {vs : List Row} → FileIs g x w → Slots (FileIs g) NoFile fs vs → length vs < length fs → Slots (FileIs g) NoFile (up x (length vs) fs) (w ∷ vs)
-up-slots h (Slots.rest All.All-nil) k = absurd (omega arith)
-up-slots h (Slots.rest (All.All-cons e f)) k = Slots.item h (Slots.rest f)
+up-slots h (Slots.rest All.all_nil) k = absurd (omega arith)
+up-slots h (Slots.rest (All.all_cons e f)) k = Slots.item h (Slots.rest f)
 up-slots h (Slots.item e s) k = Slots.item h (up-slots e s (omega arith))
 
 slots-greater : {g : Bool} {x : File} {w : Row} {fs : List File} {vs : List Row} → FileIs g x w → Slots (FileIs g) NoFile fs vs → Above w.number (numbers vs) → Greater x (length vs) fs
@@ -389,8 +389,8 @@ entered-item {g} {x} {f} {w} {v} fs vs false q h e s k a t =
 raised-slots : {g : Bool} {x : File} {w : Row} {fs : List File} {ws : List Row} → FileIs g x w → Slots (FileIs g) NoFile fs ws → length ws < length fs → Rising (numbers ws)
     → Slots (FileIs g) NoFile (raised x (length ws) fs) (insert w ws)
 unfolding raised insert
-raised-slots h (Slots.rest All.All-nil) k r = absurd (omega arith)
-raised-slots h (Slots.rest (All.All-cons e f)) k r = Slots.item h (Slots.rest f)
+raised-slots h (Slots.rest All.all_nil) k r = absurd (omega arith)
+raised-slots h (Slots.rest (All.all_cons e f)) k r = Slots.item h (Slots.rest f)
 raised-slots {w} h (Slots.item {y = v} {xs = fs} {ys = vs} e s) k r = entered-item fs vs (leb v.number w.number) refl h e s (omega arith) r.0 (raised-slots h s (omega arith) r.1)
 
 entered : {g : Bool} {x : File} {w : Row} {fs : List File} {ws : List Row} → FileIs g x w → Slots (FileIs g) NoFile fs ws → length ws < length fs → Rising (numbers ws)

@@ -47,30 +47,30 @@ pub record Sound (w : Row) : Type 0 where
 module _ {P : Row → Type 0} where
   all-amend : (p : Row → Bool) (g : Row → Row) → ((w : Row) → P w → P (g w)) → {ws : List Row} → All P ws → All P (amend p g ws)
   unfolding amend
-  all-amend p g k All.All-nil = All.All-nil
-  all-amend p g k (All.All-cons {x = w} {xs = ws} h t) = by (p w) (all-amend p g k t)
+  all-amend p g k All.all_nil = All.all_nil
+  all-amend p g k (All.all_cons {x = w} {xs = ws} h t) = by (p w) (all-amend p g k t)
     where
       by : (b : Bool) → All P (amend p g ws) → All P (cond b (g w ∷ ws) (w ∷ amend p g ws))
-      by true s = All.All-cons (k w h) t
-      by false s = All.All-cons h s
+      by true s = All.all_cons (k w h) t
+      by false s = All.all_cons h s
 
   all-discard : (p : Row → Bool) {ws : List Row} → All P ws → All P (discard p ws)
   unfolding discard
-  all-discard p All.All-nil = All.All-nil
-  all-discard p (All.All-cons {x = w} {xs = ws} h t) = by (p w) (all-discard p t)
+  all-discard p All.all_nil = All.all_nil
+  all-discard p (All.all_cons {x = w} {xs = ws} h t) = by (p w) (all-discard p t)
     where
       by : (b : Bool) → All P (discard p ws) → All P (cond b ws (w ∷ discard p ws))
       by true s = t
-      by false s = All.All-cons h s
+      by false s = All.all_cons h s
 
   all_insert : (v : Row) → P v → {ws : List Row} → All P ws → All P (insert v ws)
   unfolding insert
-  all_insert v k All.All-nil = All.All-cons k All.All-nil
-  all_insert v k (All.All-cons {x = w} {xs = ws} h t) = by (leb w.number v.number) (all_insert v k t)
+  all_insert v k All.all_nil = All.all_cons k All.all_nil
+  all_insert v k (All.all_cons {x = w} {xs = ws} h t) = by (leb w.number v.number) (all_insert v k t)
     where
       by : (b : Bool) → All P (insert v ws) → All P (cond b (w ∷ insert v ws) (v ∷ w ∷ ws))
-      by true s = All.All-cons h s
-      by false s = All.All-cons k (All.All-cons h t)
+      by true s = All.all_cons h s
+      by false s = All.all_cons k (All.all_cons h t)
 
 sound-ended : (w : Row) → Sound w → Sound (ended w)
 sound-ended w h = record { no-blame = by (lost w) }

@@ -109,8 +109,8 @@ kept-edition (x ∷ xs) l (a ∷ given) = kept-edition xs (feed l x a) given ∙
 
 -- a row has at most four mirrors, as its file does
 few-rows : {g : Bool} {fs : List File} {ws : List Row} → Slots (FileIs g) NoFile fs ws → All FewMirrors ws
-few-rows (Slots.rest h) = All.All-nil
-few-rows (Slots.item r s) = All.All-cons (record { few = few-devices r.copies.places }) (few-rows s)
+few-rows (Slots.rest h) = All.all_nil
+few-rows (Slots.item r s) = All.all_cons (record { few = few-devices r.copies.places }) (few-rows s)
 
 named : (ed : Edition) → cond (is_old ed) Old Current ≡ ed
 named Current = refl

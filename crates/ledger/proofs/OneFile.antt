@@ -54,8 +54,8 @@ at-intent {g} {f} {w} c h = focus (is_intent c) (is_holder c) (is-intent g w.rec
 
 first_taken_lem : {g : Bool} {rs : List ℕ} {xs : List Intent} {hs : List Holder} → Slots (IntentIs g rs) NoIntent xs hs → first_taken xs ≡ not (none hs)
 unfolding none
-first_taken_lem (Slots.rest All.All-nil) = refl
-first_taken_lem (Slots.rest (All.All-cons h t)) = h
+first_taken_lem (Slots.rest All.all_nil) = refl
+first_taken_lem (Slots.rest (All.all_cons h t)) = h
 first_taken_lem (Slots.item r s) = r.taken
 
 pub some-taken : {g : Bool} {f : File} {w : Row} → FileIs g f w → first_taken f.intents ≡ not (none w.intents)

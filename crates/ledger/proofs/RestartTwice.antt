@@ -244,8 +244,8 @@ module _ (n : ℕ) where
 
 -- ---- two histories
 restarts : {ws : List Row} → All Sound ws → Pairs Worse ws (map restarted ws)
-restarts All.All-nil = Pairs.pairs-nil
-restarts (All.All-cons {x = w} h t) = Pairs.pairs-cons (after-restart w h) (restarts t)
+restarts All.all_nil = Pairs.pairs-nil
+restarts (All.all_cons {x = w} h t) = Pairs.pairs-cons (after-restart w h) (restarts t)
 
 restart-side : (l : Ledger) → l.grace ≡ true → All Sound l.rows → Side l (feed l restart (judge l restart))
 unfolding feed judge apply
@@ -261,7 +261,7 @@ module _ (ed : Edition) (before during : List Call) (g : in_grace_through (recor
   sides : Side (fed so_far during) (fed (feed so_far restart (judge so_far restart)) during)
   sides =
       through-side during (record_after (fresh_as ed) before) so_far (feed so_far restart (judge so_far restart)) matched g
-      (restart-side so_far (sym matched.grace ∙ still-in (record_after (fresh_as ed) before) during g) (sound-fed before (no_rows ed) All.All-nil))
+      (restart-side so_far (sym matched.grace ∙ still-in (record_after (fresh_as ed) before) during g) (sound-fed before (no_rows ed) All.all_nil))
 
   once_is : ledger_of ed (before ++ during ++ end_grace ∷ []) ≡ fed (fed so_far during) (end_grace ∷ [])
   once_is = fed-ledger ed (before ++ during ++ end_grace ∷ []) ∙ fed-append (before ++ during) (end_grace ∷ []) (no_rows ed) ∙ ap (λ l. fed l (end_grace ∷ [])) (fed-append before during (no_rows ed))

@@ -119,17 +119,17 @@ free-next d p h = record { from = omega (arith, h.from); below = omega (arith, h
 -- each of the places is one
 all-free : (k : ℕ) (ds : List Device) (bs : List ℕ) → All (Free k ds bs) (unblamed_from k ds bs)
 unfolding unblamed_from
-all-free k [] bs = All.All-nil
+all-free k [] bs = All.all_nil
 all-free k (d ∷ ds) bs = by (has k bs) refl (all-as (free-next d) (all-free (suc k) ds bs))
   where
     by : (b : Bool) → has k bs ≡ b → All (Free k (d ∷ ds) bs) (unblamed_from (suc k) ds bs) → All (Free k (d ∷ ds) bs) (cond b (unblamed_from (suc k) ds bs) (k ∷ unblamed_from (suc k) ds bs))
     by true e h = h
-    by false e h = All.All-cons {x = k} (record { from = omega arith; below = omega arith; free = e }) h
+    by false e h = All.all_cons {x = k} (record { from = omega arith; below = omega arith; free = e }) h
 
 -- they rise
 above-free : {k : ℕ} {ds : List Device} {bs ps : List ℕ} (j : ℕ) → j < k → All (Free k ds bs) ps → Above j ps
-above-free j h All.All-nil = tt
-above-free j h (All.All-cons z t) = (omega (arith, h, z.from), above-free j h t)
+above-free j h All.all_nil = tt
+above-free j h (All.all_cons z t) = (omega (arith, h, z.from), above-free j h t)
 
 rising-free : (k : ℕ) (ds : List Device) (bs : List ℕ) → Rising (unblamed_from k ds bs)
 unfolding unblamed_from
@@ -164,7 +164,7 @@ none_left k i (d ∷ ds) bs h = by (ℕ_discrete i k) (has k bs) refl (λ n. non
 last_of : {P : ℕ → Type 0} (p : ℕ) (ps : List ℕ) → P p → All P ps → P (last_or p ps)
 unfolding last_or
 last_of p [] h t = h
-last_of p (q ∷ ps) h (All.All-cons z t) = last_of q ps z t
+last_of p (q ∷ ps) h (All.all_cons z t) = last_of q ps z t
 
 last-greatest : (p i : ℕ) (ps : List ℕ) → Rising (p ∷ ps) → has i (p ∷ ps) ≡ true → i ≤ last_or p ps
 unfolding last_or has any
@@ -195,9 +195,9 @@ module _ (w : Row) where
   unfolding first_by head_or last_or has any
   source-by Lowest [] e h r = nowhere refl (λ i k. blamed-but i k (λ z. true-false (sym (rw e at z))))
   source-by Highest [] e h r = nowhere refl (λ i k. blamed-but i k (λ z. true-false (sym (rw e at z))))
-  source-by Lowest (p ∷ ps) e (All.All-cons z t) r =
+  source-by Lowest (p ∷ ps) e (All.all_cons z t) r =
       foremost (omega (arith, z.below)) z.free (λ i k n. blamed-but i k (λ y. let q = first-least i p ps r.0 (rw e at y) in omega (arith, n, q)))
-  source-by Highest (p ∷ ps) e (All.All-cons z t) r =
+  source-by Highest (p ∷ ps) e (All.all_cons z t) r =
       let y = last_of p ps z t in foremost (omega (arith, y.below)) y.free (λ i k n. blamed-but i k (λ x. let q = last-greatest p i ps r (rw e at x) in omega (arith, n, q)))
 
   source_is : (d : Direction) → IsSource d w (source d w)
@@ -230,21 +230,21 @@ Own us w = first_or (is_row w.number) (new_row w.number []) us ≡ w
 
 own-later : (v : Row) (us ws : List Row) → Above v.number (numbers ws) → All (Own us) ws → All (Own (v ∷ us)) ws
 unfolding first_or
-own-later v us [] h k = All.All-nil
-own-later v us (w ∷ ws) h (All.All-cons e k) = All.All-cons {x = w} (rw (ne_eqb v.number w.number (λ q. omega (arith, q, h.0))) e) (own-later v us ws h.1 k)
+own-later v us [] h k = All.all_nil
+own-later v us (w ∷ ws) h (All.all_cons e k) = All.all_cons {x = w} (rw (ne_eqb v.number w.number (λ q. omega (arith, q, h.0))) e) (own-later v us ws h.1 k)
 
 own-rows : (ws : List Row) → Rising (numbers ws) → All (Own ws) ws
 unfolding first_or
-own-rows [] h = All.All-nil
-own-rows (w ∷ ws) h = All.All-cons {x = w} (rw (eq-eqb w.number w.number refl)) (own-later w ws ws h.0 (own-rows ws h.1))
+own-rows [] h = All.all_nil
+own-rows (w ∷ ws) h = All.all_cons {x = w} (rw (eq-eqb w.number w.number refl)) (own-later w ws ws h.0 (own-rows ws h.1))
 
 all-chosen : {P : Row → Type 0} (q : Row → Bool) {ws : List Row} → All P ws → All P (chosen q ws)
 unfolding chosen
-all-chosen q All.All-nil = All.All-nil
-all-chosen {P} q (All.All-cons {x = w} {xs = ws} e k) = by (q w) (all-chosen q k)
+all-chosen q All.all_nil = All.all_nil
+all-chosen {P} q (All.all_cons {x = w} {xs = ws} e k) = by (q w) (all-chosen q k)
   where
     by : (b : Bool) → All P (chosen q ws) → All P (cond b (w ∷ chosen q ws) (chosen q ws))
-    by true s = All.All-cons e s
+    by true s = All.all_cons e s
     by false s = s
 
 -- ---- the proxy's place is no source, where a row has at most four mirrors
@@ -260,8 +260,8 @@ not-the-proxy d w h = by (source_is w d)
 
 none-the-proxy : (d : Direction) {ws : List Row} → All FewMirrors ws → has 4 (sources d ws) ≡ false
 unfolding has any
-none-the-proxy d All.All-nil = refl
-none-the-proxy d (All.All-cons {x = w} h t) = rw (not-the-proxy d w h) (none-the-proxy d t)
+none-the-proxy d All.all_nil = refl
+none-the-proxy d (All.all_cons {x = w} h t) = rw (not-the-proxy d w h) (none-the-proxy d t)
 
 pub never-the-proxy : (d : Direction) (q : Row → Bool) {ws : List Row} → All FewMirrors ws → has 4 (sources d (chosen q ws)) ≡ false
 never-the-proxy d q h = none-the-proxy d (all-chosen q h)
@@ -269,8 +269,8 @@ never-the-proxy d q h = none-the-proxy d (all-chosen q h)
 -- ---- one list: each row has its source
 own-sources : (d : Direction) (l : Ledger) {ws : List Row} → All (Own l.rows) ws → Sources d l (numbers ws) (sources d ws)
 unfolding row_of
-own-sources d l All.All-nil = sources-nil
-own-sources d l (All.All-cons {x = w} e k) = sources-cons {n = w.number} {s = source d w} (rw e (source_is w d)) (own-sources d l k)
+own-sources d l All.all_nil = sources-nil
+own-sources d l (All.all_cons {x = w} e k) = sources-cons {n = w.number} {s = source d w} (rw e (source_is w d)) (own-sources d l k)
 
 pub one_list : (d : Direction) (q : Row → Bool) (l : Ledger) → Rising (numbers l.rows) → OneList d q l (chosen q l.rows)
 unfolding registered row_of

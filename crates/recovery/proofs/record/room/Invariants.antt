@@ -1,0 +1,12 @@
+-- The loop is a search: `Searching` holds at its head.
+use Prim.Native.Nat.{◌-◌}
+use Rattle.places.proofs.Loops.{Searching}
+use Rattle.places.specs.Places.{first}
+use Rattle.files.specs.File.{is_vacant}
+use Rattle.recovery.proofs.record.room.Given as goal
+
+abbrev pub invariant-loop-k : goal.invariant-loop-k
+invariant-loop-k l = Searching is_vacant l.files l.k (first is_vacant l.files)
+
+abbrev pub decreases-loop-k : goal.decreases-loop-k
+decreases-loop-k l = 64 - l.k
