@@ -1,6 +1,6 @@
 -- A file whose intents that stay go to the front one by one, where they lie, is the file after the end of grace: of every list of intents, also with free places before taken ones, and at any mark.
 -- In this order: the intents between two turns, of which some stay, some places are emptied, and the others were not looked at; a turn; all turns.
-use Rattle.std.proofs.Common.{◌≡◌, ℕ, zero, suc, ◌+◌, Bool, true, false, cond, not, List, [], ◌∷◌, ◌++◌, map, length, get_or, set, replicate, sym, refl, ap, ◌∙◌, append_assoc, append-nil, arith, length-append, get_or-append-add}
+use Rattle.std.proofs.Common.{◌≡◌, ℕ, zero, suc, ◌+◌, ◌-◌, ◌<◌, ◌≤◌, Bool, true, false, cond, not, List, [], ◌∷◌, ◌++◌, map, length, get_or, set, replicate, sym, refl, ap, ◌∙◌, append_assoc, append-nil, arith, length-append, get_or-append-add}
 use lib.ListN.{length-replicate}
 use lib.Seq.{get_or_at, set_at, set-append_seam}
 use Rattle.places.specs.Lists.{any, chosen, fill}
@@ -114,3 +114,32 @@ gathered-so f long =
     let e : 0 + length f.intents ≡ 8 = omega (arith, long) in
     ap (λ (k : ℕ). gathered k 0 0 f) (sym long) ∙ all-turns f.intents [] 0 0 0 f refl refl
     ∙ ap (λ (k : ℕ). with_mark (cond (any is_lost f.intents) true f.marked) (with_intents (fill (map stayed_intent (chosen is_kept f.intents)) (replicate k no_intent)) f)) e
+
+-- a turn of the loop, by what becomes of the intent at the place
+module _ (f : File) (i n : ℕ) (below : i < 8) where
+  abbrev here : Intent
+  here = get_or f.intents i no_intent
+
+  abbrev lost : File
+  lost = cond (is_lost here) (gathered (8 - (i + 1)) (i + 1) n (with_mark true (emptied_at i f))) (gathered (8 - (i + 1)) (i + 1) n (emptied_at i f))
+
+  turn : gathered (8 - i) i n f ≡ cond (is_kept here) (gathered (8 - (i + 1)) (i + 1) (n + 1) (moved_to n here (emptied_at i f))) lost
+  unfolding gathered
+  turn = let e : 8 - i ≡ suc (8 - (i + 1)) = omega (arith, below) in ap (λ t. gathered t i n f) e
+
+  pub turn-kept : is_kept here ≡ true → gathered (8 - i) i n f ≡ gathered (8 - (i + 1)) (i + 1) (n + 1) (moved_to n here (emptied_at i f))
+  turn-kept h = turn ∙ ap (λ b. cond b (gathered (8 - (i + 1)) (i + 1) (n + 1) (moved_to n here (emptied_at i f))) lost) h
+
+  pub turn-lost : is_kept here ≡ false → is_lost here ≡ true → gathered (8 - i) i n f ≡ gathered (8 - (i + 1)) (i + 1) n (with_mark true (emptied_at i f))
+  turn-lost h l =
+      turn ∙ ap (λ b. cond b (gathered (8 - (i + 1)) (i + 1) (n + 1) (moved_to n here (emptied_at i f))) lost) h
+      ∙ ap (λ b. cond b (gathered (8 - (i + 1)) (i + 1) n (with_mark true (emptied_at i f))) (gathered (8 - (i + 1)) (i + 1) n (emptied_at i f))) l
+
+  pub turn-free : is_kept here ≡ false → is_lost here ≡ false → gathered (8 - i) i n f ≡ gathered (8 - (i + 1)) (i + 1) n (emptied_at i f)
+  turn-free h l =
+      turn ∙ ap (λ b. cond b (gathered (8 - (i + 1)) (i + 1) (n + 1) (moved_to n here (emptied_at i f))) lost) h
+      ∙ ap (λ b. cond b (gathered (8 - (i + 1)) (i + 1) n (with_mark true (emptied_at i f))) (gathered (8 - (i + 1)) (i + 1) n (emptied_at i f))) l
+
+pub turns-over : (f : File) (i n : ℕ) → 8 ≤ i → gathered (8 - i) i n f ≡ f
+unfolding gathered
+turns-over f i n h = let e : 8 - i ≡ 0 = omega (arith, h) in ap (λ t. gathered t i n f) e

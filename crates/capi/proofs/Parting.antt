@@ -1,7 +1,8 @@
 -- LAYOUTRETURN parted before any file is looked up is what the definition of crate recovery says of it, in this order: the file, changed in place where the return is
 -- accepted; at the place that is sought; by the phase; where a file is wanted; where none is.
-use Rattle.std.proofs.Common.{◌≡◌, ℕ, ◌≤◌, Bool, true, false, cond, eqb, ltb, List, map, length, get_or, set, sym, refl, ap, ◌∙◌, arith, ltb-false}
-use lib.Seq.{set-get_or, set_out}
+use Rattle.std.proofs.Common.{◌≡◌, ℕ, ◌<◌, ◌≤◌, lt-ltb, le-ltb, Bool, true, false, cond, eqb, ltb, List, map, length, get_or, set, sym, refl, ap, ◌∙◌, arith, ltb-false}
+use lib.Seq.{set-get_or, set_out, set-set}
+use Rattle.std.proofs.lemmas.List.{get_or-set_same}
 use Rattle.places.proofs.Sets.{true-false}
 use Rattle.records.proofs.Headed.{if-called}
 use Rattle.mirroring.specs.Totals.{no_totals}
@@ -58,6 +59,29 @@ changed-so r i o long = by (ltb i 64) refl (raises o)
     by false e z =
         let l : 64 ≤ i = ltb-false i 64 e in
         sym (ap (λ fs. with_files fs r) (set_out r.files i (cond z h g) (omega (arith, long, l))))
+
+-- a turn of the code: the report is said of the file, g, and then the client's stateid is raised in it, where it is raised; past the last place nothing is done
+module _ (r : Record) (i : ℕ) (o : Settled) (long : length r.files ≡ 64) where
+  module _ (below : i < 64) (g : File) (is : g ≡ report (get_or r.files i no_file) o) where
+    in_list : (z : Bool) → raises o ≡ z → with_files (set r.files i (if-called z (raised_each g i o) g)) r ≡ changed_files r i o
+    in_list z e =
+        ap (λ (f : File). with_files (set r.files i (if-called z (raised_each f i o) f)) r) is
+        ∙ ap (λ b. with_files (set r.files i (if-called b (raised_each (report (get_or r.files i no_file) o) i o) (report (get_or r.files i no_file) o))) r) (sym e)
+        ∙ ap (λ b. if-called b (with_files (set r.files i (if-called (raises o) (raised_each (report (get_or r.files i no_file) o) i o) (report (get_or r.files i no_file) o))) r) r) (sym (lt-ltb i 64 below))
+        ∙ changed-so r i o long
+
+    pub changed-raised : (h : File) → h ≡ raised_each (get_or (set r.files i g) i no_file) i o → raises o ≡ true → with_files (set (set r.files i g) i h) r ≡ changed_files r i o
+    changed-raised h made e =
+        ap (λ fs. with_files fs r) (set-set r.files i g h ∙ ap (set r.files i) (made ∙ ap (λ (f : File). raised_each f i o) (get_or-set_same r.files i g no_file (omega (arith, long, below)))))
+        ∙ in_list true e
+
+    pub changed-reported : raises o ≡ false → with_files (set r.files i g) r ≡ changed_files r i o
+    changed-reported e = in_list false e
+
+  pub changed-past : 64 ≤ i → r ≡ changed_files r i o
+  changed-past h =
+      ap (λ b. if-called b (with_files (set r.files i (if-called (raises o) (raised_each (report (get_or r.files i no_file) o) i o) (report (get_or r.files i no_file) o))) r) r) (sym (le-ltb i 64 h))
+      ∙ changed-so r i o long
 
 abbrev pub after-change : Record → ℕ → Settled → Record
 after-change r i o = with_head o.head (if-called (eqb o.status 0) (changed_files r i o) r)

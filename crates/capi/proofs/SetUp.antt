@@ -1,6 +1,6 @@
 -- The set-up of a stateid by a look at every file first is what the definition of crate recovery says of it, in this order: what is sought is a place where some
 -- file passes; the set-up.
-use Rattle.std.proofs.Common.{◌≡◌, ℕ, zero, suc, ◌+◌, ◌≤◌, Bool, true, false, cond, ltb, List, length, get_or, drop, sym, refl, ap, ◌∙◌, add-one, arith, drop_of_length-le, drop-cons, le-ltb, lt-ltb}
+use Rattle.std.proofs.Common.{◌≡◌, ℕ, zero, suc, ◌+◌, ◌≤◌, Bool, true, false, cond, ltb, List, length, get_or, drop, sym, ap, ◌∙◌, add-one, arith, drop_of_length-le, drop-cons, le-ltb, lt-ltb}
 use Rattle.walks.specs.Seek.{which, seek}
 use Rattle.places.specs.Lists.{any}
 use Rattle.wire.specs.Stateid.{new_stateid, bad_other}

@@ -9,7 +9,6 @@ use Rattle.mirroring.specs.Totals.{no_totals}
 use Rattle.mirroring.specs.declared.blame.Assessment.{Assessment}
 use Rattle.mirroring.specs.declared.blame.Change.{Change}
 use Rattle.mirroring.specs.declared.mirrors.Mirror.{Mirror}
-use Rattle.mirroring.specs.declared.totals.Totals.{Totals}
 use Rattle.files.specs.File.{marks_file, blames_places}
 use Rattle.files.specs.declared.file.File.{File}
 use Rattle.files.specs.declared.head.Head.{Head}
@@ -18,7 +17,6 @@ use Rattle.layoutreturn.specs.OneWalk.{raised_if}
 use Rattle.layoutreturn.specs.Settled.{refused_as, accepted_as, without_totals, counts_if, is_silent, later_of, silenced, taken_as, assessed_as, raised_as, claimed_outcome}
 use Rattle.layoutreturn.specs.declared.Claim.{Claim}
 use Rattle.layoutreturn.specs.declared.Outcome.{Outcome}
-use Rattle.layoutreturn.specs.declared.Settled.{Settled}
 use Rattle.layoutreturn.proofs.Settling.{refused-so, accepted-so, form-so, taken-so, totals-so}
 
 module _ (h : Head) (c : Client) (x : Claim) (p : Report) (f : File) where

@@ -1,9 +1,8 @@
 -- Where no statistics record is to come, the totals are none, and the status says whether something follows.
-use Rattle.std.proofs.Common.{◌≡◌, ℕ, ◌-◌, ◌<◌, ◌≤◌, Bool, true, false, cond, eqb, List, [], length, drop, sym, refl, ap, ◌∙◌, arith, length-drop, eq-eqb, ne_eqb}
+use Rattle.std.proofs.Common.{◌≡◌, ℕ, ◌-◌, ◌<◌, ◌≤◌, Bool, true, false, cond, eqb, List, [], length, sym, refl, arith, length-drop, eq-eqb, ne_eqb}
 use Rattle.xdr.specs.Reader.{in_turn}
-use Rattle.reports.specs.Report.{Report, Whole, Malformed, over}
-use Rattle.reports.specs.Statistics.{iostats}
-use Rattle.reports.specs.StatisticsSteps.{tail_of, statistics_from, tally}
+use Rattle.reports.specs.Report.{Whole, Malformed, over}
+use Rattle.reports.specs.StatisticsSteps.{statistics_from, tally}
 use Rattle.reports.specs.declared.cursor.Cursor.{Cursor}
 use Rattle.mirroring.specs.Blame.{tallied_of}
 use Rattle.mirroring.specs.Totals.{no_totals}

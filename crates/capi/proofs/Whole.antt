@@ -1,11 +1,13 @@
 -- What a call that changes more than one file does is what the definitions of crate recovery say of it, in this order: a fresh record; restart and the end of grace; register; forget.
-use Rattle.std.proofs.Common.{◌≡◌, ℕ, zero, suc, ◌+◌, ◌-◌, ◌<◌, ◌≤◌, Bool, true, false, cond, eqb, ltb, leb, List, [], ◌∷◌, ◌++◌, map, length, get_or, take, drop, set, replicate, sym, refl, ap, ◌∙◌, subst, append-nil, arith, length-append, length-drop, drop_of_length-le, length-take-le, take_all, drop-cons, ltb-false, ltb-true, lt-ltb, eqb-true}
+use Rattle.std.proofs.Common.{◌≡◌, ℕ, zero, suc, ◌+◌, ◌-◌, ◌<◌, ◌≤◌, Bool, true, false, cond, eqb, ltb, leb, List, [], ◌∷◌, ◌++◌, map, length, get_or, take, drop, set, replicate, sym, refl, ap, ◌∙◌, subst, append-nil, arith, length-append, length-drop, drop_of_length-le, length-take-le, take_all, take-suc, drop-cons, ltb-false, ltb-true, lt-ltb, eqb-true}
 use lib.Seq.{append_snoc, get_or_at, set-append_seam}
 use Rattle.records.proofs.Headed.{if-called}
 use Rattle.records.proofs.Drawn.{draws}
 use Rattle.records.proofs.Reached.{reach, reach-past}
 use Rattle.records.proofs.Slid.{slides}
-use Rattle.records.proofs.Tallied.{tallied as tallies}
+use Rattle.records.proofs.Each.{done, done-here, done-next, done-long, done-all}
+use Rattle.records.proofs.Tallied.{tallied as tallies, tallied-more}
+use Rattle.std.proofs.lemmas.List.{map-append, get_or-set_same}
 use Rattle.places.specs.Places.{first, bump, place_or}
 use Rattle.places.specs.declared.Found.{Found}
 use Rattle.places.specs.declared.Found.TheVariants.{At, Nothing}
@@ -24,7 +26,7 @@ use Rattle.recovery.specs.declared.record.Answered.{Answered}
 use Rattle.recovery.proofs.Tallying.{ended-counts}
 use Rattle.capi.specs.Place.{sought_in}
 use Rattle.capi.specs.declared.Verdict.{Verdict}
-use Rattle.capi.specs.Whole.{end_verdict, forget_verdict, emptied_file, each_file, ended_each, admitted_of, room_sought, is_below, entered_files, slid, last_in, last_sought, pulled_files}
+use Rattle.capi.specs.Whole.{end_verdict, forget_verdict, emptied_file, each_file, ended_each, admitted_of, room_sought, entered_files, slid, last_in, last_sought, pulled_files}
 use Rattle.capi.proofs.Places.{sought, sought-place}
 
 -- ---- a fresh record
@@ -52,8 +54,44 @@ pub each-ended-so : (r : Record) → with_head (tallies (λ f d. counted_head d 
 unfolding ended_each
 each-ended-so r = ap (λ h. record { files = map ended_file r.files; head = h }) (same-tally (map ended_file r.files) r.head)
 
+-- the record when the files before the place i were changed and counted; a turn, of which f is the file and h the head; and where no turn is left
+abbrev pub ended_to : ℕ → Record → Record
+ended_to i r = with_head (tallies (λ f d. counted_head d f) (map ended_file (take i r.files)) r.head) (with_files (done ended_file i r.files) r)
+
+module _ (old : Record) (long : length old.files ≡ 64) (i : ℕ) (below : i < 64) where
+  abbrev next : File
+  next = ended_file (get_or old.files i no_file)
+
+  within : i < length old.files
+  within = omega (arith, long, below)
+
+  abbrev before : Head
+  before = tallies (λ f d. counted_head d f) (map ended_file (take i old.files)) old.head
+
+  one_more : counted_head before next ≡ tallies (λ f d. counted_head d f) (map ended_file (take (i + 1) old.files)) old.head
+  one_more =
+      let e : i + 1 ≡ suc i = omega arith in
+      sym (tallied-more (λ f d. counted_head d f) (map ended_file (take i old.files)) next old.head)
+      ∙ ap (λ zs. tallies (λ f d. counted_head d f) zs old.head) (sym (map-append ended_file (take i old.files) (get_or old.files i no_file ∷ [])) ∙ ap (map ended_file) (sym (take-suc old.files i no_file within)) ∙ ap (λ k. map ended_file (take k old.files)) (sym e))
+
+  pub ended-next : (r : Record) (f : File) (h : Head) → r ≡ ended_to i old → f ≡ ended_file (get_or r.files i no_file) → h ≡ counted_head r.head (get_or (set r.files i f) i no_file) → record { files = set r.files i f; head = h } ≡ ended_to (i + 1) old
+  ended-next r f h is made counts =
+      let f-is : f ≡ next = made ∙ ap (λ (z : Record). ended_file (get_or z.files i no_file)) is ∙ ap ended_file (done-here ended_file i old.files no_file within) in
+      let there : i < length (done ended_file i old.files) = omega (arith, done-long ended_file i old.files (omega (arith, within)), within) in
+      let h-is : h ≡ counted_head before next =
+      counts ∙ ap (λ (z : Record). counted_head z.head (get_or (set z.files i f) i no_file)) is
+      ∙ ap (counted_head before) (get_or-set_same (done ended_file i old.files) i f no_file there ∙ f-is) in
+      ap (λ (k : Head). record { files = set r.files i f; head = k }) (h-is ∙ one_more)
+      ∙ ap (λ fs. record { files = fs; head = tallies (λ f d. counted_head d f) (map ended_file (take (i + 1) old.files)) old.head })
+      (ap (λ (z : Record). set z.files i f) is ∙ ap (set (done ended_file i old.files) i) f-is ∙ done-next ended_file i old.files no_file within)
+
+pub ended-all : (old : Record) → length old.files ≡ 64 → (i : ℕ) → 64 ≤ i → ended_to i old ≡ ended_each old
+ended-all old long i h =
+    let all : length old.files ≤ i = omega (arith, long, h) in
+    rw (done-all ended_file i old.files all, take_all i old.files all) (each-ended-so old)
+
 -- the record once a call has been answered v
-abbrev after-ending : Record → Verdict → Record
+abbrev pub after-ending : Record → Verdict → Record
 after-ending r v = if-called (eqb v.status 0) (ended_each (with_head v.head r)) (with_head v.head r)
 
 pub ended_so : (r : Record) → length r.files ≡ 64 → Same (end_verdict r.head).status (after-ending r (end_verdict r.head)) (end_of r)
@@ -68,6 +106,28 @@ ended_so r long = by r.head.grace refl
 room-so : (k : ℕ) (r : Record) → length r.files ≡ 64 → room_sought k r ≡ room_in r.files
 unfolding room_sought room_in
 room-so k r h = sought is_vacant no_file r.files 63 (first is_vacant r.files) 63 0 (searching is_vacant r.files) (omega (arith, h)) (omega arith)
+
+-- a turn: it enters the file above one that stays, or moves one up; and at the first place
+module _ (x : File) where
+  pub raised-stops : (i : ℕ) (fs : List File) → 0 < i → leb (get_or fs (i - 1) no_file).number x.number ≡ true → raised x i fs ≡ set fs i x
+  unfolding raised
+  raised-stops zero fs l h = absurd (omega (arith, l))
+  raised-stops (suc i) fs l h =
+      let e : suc i - 1 ≡ i = omega arith in
+      ap (λ b. cond b (set fs (suc i) x) (raised x i (set fs (suc i) (get_or fs i no_file)))) (ap (λ k. leb (get_or fs k no_file).number x.number) (sym e) ∙ h)
+
+  pub raised-goes : (i : ℕ) (fs : List File) → 0 < i → leb (get_or fs (i - 1) no_file).number x.number ≡ false → raised x i fs ≡ raised x (i - 1) (set fs i (get_or fs (i - 1) no_file))
+  unfolding raised
+  raised-goes zero fs l h = absurd (omega (arith, l))
+  raised-goes (suc i) fs l h =
+      let e : suc i - 1 ≡ i = omega arith in
+      ap (λ b. cond b (set fs (suc i) x) (raised x i (set fs (suc i) (get_or fs i no_file)))) (ap (λ k. leb (get_or fs k no_file).number x.number) (sym e) ∙ h)
+      ∙ ap (λ k. raised x k (set fs (suc i) (get_or fs k no_file))) (sym e)
+
+  pub raised-over : (i : ℕ) (fs : List File) → i ≤ 0 → raised x i fs ≡ set fs i x
+  unfolding raised
+  raised-over zero fs h = refl
+  raised-over (suc i) fs h = absurd (omega (arith, h))
 
 pub entered_so : (r : Record) (at : ℕ) (s : FileAnswered) → length r.files ≡ 64 → with_files (raised s.file (room_sought 0 r) r.files) r ≡ entered_files r at s
 unfolding entered_files enter
@@ -186,6 +246,22 @@ pub last-is : (fs : List File) (t i : ℕ) → reach no_file is_vacant fs t i �
 unfolding last_in
 last-is fs zero i = refl
 last-is fs (suc t) i = ap (cond (is_vacant (get_or fs (i + 1) no_file)) i) (last-is fs t (i + 1))
+
+-- a turn: it stops before a free place, or goes on; and where no turn is left
+module _ (fs : List File) (n i : ℕ) (below : i < n) where
+  one-turn : last_in fs (n - i) i ≡ cond (is_vacant (get_or fs (i + 1) no_file)) i (last_in fs (n - (i + 1)) (i + 1))
+  unfolding last_in
+  one-turn = let e : n - i ≡ suc (n - (i + 1)) = omega (arith, below) in ap (λ t. last_in fs t i) e
+
+  pub last-stops : is_vacant (get_or fs (i + 1) no_file) ≡ true → last_in fs (n - i) i ≡ i
+  last-stops h = one-turn ∙ ap (λ b. cond b i (last_in fs (n - (i + 1)) (i + 1))) h
+
+  pub last-goes : is_vacant (get_or fs (i + 1) no_file) ≡ false → last_in fs (n - i) i ≡ last_in fs (n - (i + 1)) (i + 1)
+  last-goes h = one-turn ∙ ap (λ b. cond b i (last_in fs (n - (i + 1)) (i + 1))) h
+
+pub last-over : (fs : List File) (n i : ℕ) → n ≤ i → last_in fs (n - i) i ≡ i
+unfolding last_in
+last-over fs n i h = let e : n - i ≡ 0 = omega (arith, h) in ap (λ t. last_in fs t i) e
 
 pub last-past : (r : Record) (at : ℕ) → at ≤ last_sought r at
 unfolding last_sought

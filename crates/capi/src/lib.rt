@@ -263,6 +263,7 @@ fn fresh_old_head() -> Head
 fn empty_each(r: &mut Record)
     ensures { r.new ≡ each_file emptied_file r.old }
 {
+    let _first = r.files[0].number;
     let mut i: usize = 0;
     while i < 64 {
         r.files[i] = emptied(r.files[i]);
@@ -274,6 +275,7 @@ fn empty_each(r: &mut Record)
 fn restart_each(r: &mut Record)
     ensures { r.new ≡ each_file restarted_file r.old }
 {
+    let _first = r.files[0].number;
     let mut i: usize = 0;
     while i < 64 {
         r.files[i] = File::restarted(r.files[i]);
@@ -286,6 +288,7 @@ fn restart_each(r: &mut Record)
 fn end_file(f: &mut File)
     ensures { f.new ≡ ended_file f.old }
 {
+    let _first = f.intents[0].client;
     let mut n: usize = 0;
     let mut i: usize = 0;
     while i < 8 {
@@ -307,6 +310,7 @@ fn end_file(f: &mut File)
 fn end_each(r: &mut Record)
     ensures { r.new ≡ ended_each r.old }
 {
+    let _first = r.files[0].number;
     let mut i: usize = 0;
     while i < 64 {
         end_file(&mut r.files[i]);
@@ -394,6 +398,7 @@ fn below(number: u64, s: FileAnswered) -> bool
 fn enter(r: &mut Record, at: usize, s: FileAnswered)
     ensures { r.new ≡ entered_files r.old at s }
 {
+    let _first = r.files[0].number;
     let mut i = room(r, 0);
     while 0 < i {
         if below(r.files[i - 1].number, s) {
@@ -450,6 +455,7 @@ fn last(r: &Record, at: usize) -> usize
 fn pull(r: &mut Record, at: usize, s: Verdict)
     ensures { r.new ≡ pulled_files r.old at s }
 {
+    let _first = r.files[0].number;
     let i = last(r, at);
     if i < 64 {
         let end = i + 1;
@@ -463,6 +469,7 @@ fn pull(r: &mut Record, at: usize, s: Verdict)
 fn begin_intent(f: &mut File, at: usize, s: Opening)
     ensures { f.new ≡ with_begun at s f.old }
 {
+    let _first = f.intents[0].client;
     if at < 8 {
         f.intents[at] = s.intent();
     }
@@ -472,6 +479,7 @@ fn begin_intent(f: &mut File, at: usize, s: Opening)
 fn begin_on_file(r: &mut Record, i: usize, s: Opening)
     ensures { r.new ≡ begun_at r.old i s }
 {
+    let _first = r.files[0].number;
     if i < 64 {
         begin_intent(&mut r.files[i], s.at, s);
     }
@@ -513,6 +521,7 @@ fn slide_intents(xs: &mut [Intent])
 fn end_intent(f: &mut File, at: usize, s: Closing)
     ensures { f.new ≡ with_ended at s f.old }
 {
+    let _first = f.intents[0].client;
     let i = last_moved(f, at);
     if i < 8 {
         let end = i + 1;
@@ -525,6 +534,7 @@ fn end_intent(f: &mut File, at: usize, s: Closing)
 fn end_on_file(r: &mut Record, i: usize, s: Closing)
     ensures { r.new ≡ ended_at r.old i s }
 {
+    let _first = r.files[0].number;
     if i < 64 {
         end_intent(&mut r.files[i], s.at, s);
     }
@@ -535,6 +545,7 @@ fn end_on_file(r: &mut Record, i: usize, s: Closing)
 pub fn sc_record_fresh(r: &mut Record)
     ensures { r.new ≡ fresh }
 {
+    let _first = r.files[0].number;
     empty_each(r);
     r.head = fresh_head();
 }
@@ -543,6 +554,7 @@ pub fn sc_record_fresh(r: &mut Record)
 pub fn sc_record_fresh_old(r: &mut Record)
     ensures { r.new ≡ fresh_as Old }
 {
+    let _first = r.files[0].number;
     empty_each(r);
     r.head = fresh_old_head();
 }
@@ -639,6 +651,7 @@ fn set_up_on_file(r: &mut Record, file: u64, at: usize, client: u64, other: &[u8
 pub fn sc_record_set_up_stateid(r: &mut Record, file: u64, client: u64, other: &[u8]) -> u32
     ensures { (result ≡ (set_up_of file client other.now r.old).status) × (r.new ≡ (set_up_of file client other.now r.old).after) }
 {
+    let _first = r.files[0].number;
     let t = wire::stateid::begun(other);
     let at = user(r, t);
     set_up_on_file(r, file, at, client, other)
@@ -659,6 +672,7 @@ pub fn sc_record_forget(r: &mut Record, file: u64) -> u32
 pub fn sc_record_end_grace(r: &mut Record) -> u32
     ensures { (result ≡ (end_of r.old).status) × (r.new ≡ (end_of r.old).after) }
 {
+    let _first = r.files[0].number;
     let s = ending(r.head);
     r.head = s.head;
     if s.status == 0 {
@@ -682,6 +696,7 @@ pub fn sc_record_restart(r: &mut Record) -> u32
 fn raise_each(f: &mut File, at: usize, s: Settled)
     ensures { f.new ≡ raised_each f.old at s }
 {
+    let _first = f.intents[0].client;
     let mut i: usize = 0;
     while i < 8 {
         f.intents[i] = layoutreturn::raised(f.intents[i], s);
@@ -693,6 +708,7 @@ fn raise_each(f: &mut File, at: usize, s: Settled)
 fn change(r: &mut Record, at: usize, s: Settled)
     ensures { r.new ≡ changed_files r.old at s }
 {
+    let _first = r.files[0].number;
     if at < 64 {
         r.files[at] = layoutreturn::reported(r.files[at], s);
         if layoutreturn::raises(s) {
@@ -822,6 +838,7 @@ pub fn sc_record_resilver_by(
 ) -> u32
     ensures { listed result count.new files.new sources.new ≡ listing_by Resilver direction r.now files.old sources.old }
 {
+    let _first = r.files[0].number;
     let mut c = listing::resilver(direction);
     let mut i: usize = 0;
     while i < 128 {
@@ -841,6 +858,7 @@ pub fn sc_record_offered_by(
 ) -> u32
     ensures { listed result count.new files.new sources.new ≡ listing_by Offered direction r.now files.old sources.old }
 {
+    let _first = r.files[0].number;
     let mut c = listing::offered(direction);
     let mut i: usize = 0;
     while i < 128 {

@@ -1,5 +1,5 @@
--- A loop that changes each element of a list by g: the list when those before the place i are done, the element there, and a turn.
-use Rattle.std.proofs.Common.{◌≡◌, ℕ, suc, ◌+◌, ◌<◌, List, [], ◌∷◌, ◌++◌, map, length, get_or, set, take, drop, sym, refl, ap, ◌∙◌, add-one, arith, drop-cons, append_assoc, length-take-le, take-suc}
+-- A loop that changes each element of a list by g: the list when those before the place i are done, its length, the element there, a turn, and where no turn is left.
+use Rattle.std.proofs.Common.{◌≡◌, ℕ, suc, ◌+◌, ◌-◌, ◌<◌, ◌≤◌, List, [], ◌∷◌, ◌++◌, map, length, get_or, set, take, drop, sym, refl, ap, ◌∙◌, add-one, arith, drop-cons, append_assoc, append-nil, drop_of_length-le, take_all, length-append, length-drop, length-take-le, take-suc}
 use lib.Seq.{get_or_at, set_at}
 use Rattle.std.proofs.lemmas.List.{length-map, map-append}
 
@@ -23,3 +23,12 @@ module _ {X : Type 0} (g : X → X) (i : ℕ) (xs : List X) (d : X) (l : i < len
       ∙ sym (append_assoc (map g (take i xs)) (g (get_or xs i d) ∷ []) (drop (suc i) xs))
       ∙ ap (λ zs. zs ++ drop (suc i) xs) (sym (map-append g (take i xs) (get_or xs i d ∷ [])) ∙ ap (map g) (sym (take-suc xs i d l)))
       ∙ rw (add-one) refl
+
+pub done-long : {X : Type 0} (g : X → X) (i : ℕ) (xs : List X) → i ≤ length xs → length (done g i xs) ≡ length xs
+done-long g i xs h =
+    let front : length (map g (take i xs)) ≡ i = length-map (take i xs) g ∙ length-take-le i xs h in
+    let rest : length (drop i xs) ≡ length xs - i = length-drop i xs in
+    length-append (map g (take i xs)) (drop i xs) ∙ omega (arith, front, rest, h)
+
+pub done-all : {X : Type 0} (g : X → X) (i : ℕ) (xs : List X) → length xs ≤ i → done g i xs ≡ map g xs
+done-all g i xs h = rw (take_all i xs h, drop_of_length-le xs h, append-nil) refl

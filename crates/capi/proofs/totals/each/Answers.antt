@@ -1,5 +1,5 @@
 -- The loop maps by place: `Mapping` holds at its head.
-use Rattle.std.proofs.Common.{◌-◌, arith}
+use Rattle.std.proofs.Common.{arith}
 use Rattle.places.proofs.Loops.{mapping-none, mapping-more, mapping-length}
 use Rattle.capi.proofs.Lent.{column-is}
 use Rattle.capi.proofs.totals.each.Goals as goal

@@ -1,0 +1,13 @@
+-- Rests on the method of `File`, put back at the place that is sought.
+use Rattle.std.proofs.Common.{◌≡◌, length, rules}
+use Rattle.places.proofs.Loops.{mapped-length}
+use Rattle.files.specs.File.{proxy_added_file}
+use Rattle.recovery.specs.Record.{add_proxy_of}
+use Rattle.capi.proofs.OnFile.{kept-so}
+use Rattle.capi.proofs.sc_record_add_proxy.Goals as goal
+
+pub returns : goal.returns
+unfolding add_proxy_of
+returns c =
+    let long : length c.args.r.now.files ≡ 64 = search (mapped-length, rules) in
+    kept-so c.args.file (proxy_added_file c.args.file c.args.r.now.head c.args.device.now) c.args.r.now long c.position-i.result c.position-i.ensures.0 c.add_proxy-s.result c.add_proxy-s.ensures

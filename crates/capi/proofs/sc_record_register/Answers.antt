@@ -1,0 +1,32 @@
+-- Rests on what is decided of the file at the place that is sought, and done to the files.
+use Rattle.std.proofs.Common.{◌≡◌, ℕ, eqb, length, get_or, sym, ap, ◌∙◌, rules}
+use borrow.Author.Tests.{eq-eqb, ne_eqb}
+use Rattle.places.proofs.Loops.{mapped-length}
+use Rattle.records.proofs.Headed.{if-called}
+use Rattle.files.specs.File.{no_file}
+use Rattle.files.specs.declared.file.FileAnswered.{FileAnswered}
+use Rattle.recovery.specs.Record.{with_head}
+use Rattle.recovery.specs.declared.record.Record.{Record}
+use Rattle.capi.specs.Whole.{admitted_of, entered_files}
+use Rattle.capi.proofs.Whole.{registered-so, after-entering}
+use Rattle.capi.proofs.sc_record_register.Goals.{then-s-eq0, else-s-eq0}
+use Rattle.capi.proofs.sc_record_register.Goals as goal
+
+pub returns : goal.returns
+returns c =
+    let long : length c.args.r.now.files ≡ 64 = search (mapped-length, rules) in
+    let r = c.args.r.now in
+    let i = c.position-i.result in
+    let s = c.admitted-s.result in
+    let changed : c.if-s-eq0.r ≡ if-called (eqb s.status 0) (entered_files r i s) r =
+    elim c.if-s-eq0.branch [
+      | then-s-eq0 w ↦ w.r-is ∙ w.enter.ensures ∙ ap (λ b. if-called b (entered_files r i s) r) (sym (eq-eqb _ _ w.if-s-eq0.true))
+      | else-s-eq0 w ↦ w.r-is ∙ ap (λ b. if-called b (entered_files r i s) r) (sym (ne_eqb _ _ w.if-s-eq0.false))
+    ] in
+    let so = registered-so c.args.file c.args.mirrors.now r long in (
+      ap (λ (a : FileAnswered). a.status) c.admitted-s.ensures ∙ ap (λ (j : ℕ). (admitted_of c.args.file r.head c.args.mirrors.now (get_or r.files j no_file)).status) c.position-i.ensures.0 ∙ so.0,
+      ap (λ (z : Record). with_head s.head z) changed
+          ∙ ap (λ (a : FileAnswered). after-entering r i a) c.admitted-s.ensures
+          ∙ ap (λ (j : ℕ). after-entering r j (admitted_of c.args.file r.head c.args.mirrors.now (get_or r.files j no_file))) c.position-i.ensures.0
+          ∙ so.1,
+    )
