@@ -1,10 +1,10 @@
-# `make help` lists the targets. build/ has what is built, target/ what the prover makes; both can be removed.
+# `make help` lists the targets. build/ has what is built, target/ what the tests make, crates/*/out what the prover makes; all can be removed.
 CC = gcc
 PREFIX = /usr/local
 DESTDIR =
 SECONDS = 3600
 
-SOURCES := crates.txt $(shell find crates -name must-fail -prune -o -type f -print)
+SOURCES := crates.txt $(shell find crates \( -name must-fail -o -name out \) -prune -o -type f -print)
 VERSION := $(shell sed -n 's/^\#define SC_VERSION_[A-Z]* //p' include/stellcircle.h | paste -sd.)
 WARNINGS = -Wall -Wextra -Wpedantic -Werror
 
@@ -39,7 +39,7 @@ bench-counts: setup-counts build ## counts the instructions of the same jobs, by
 	@bench/build.sh
 	@bench/counts.py
 
-fuzz: setup-test build ## a long coverage-guided run of the wire checks and the heads: SECONDS=3600
+fuzz: setup-test build ## a long coverage-guided run of the wire checks: SECONDS=3600
 	@tests/fuzz/run.sh $(SECONDS)
 
 setup-%:
@@ -54,10 +54,10 @@ install: build ## header, archive, programs, man pages and pkg-config file below
 	@install -m 644 man/list_layout.1 man/list_rdma_layout.1 man/stellcircle-replay.1 $(DESTDIR)$(PREFIX)/share/man/man1/
 
 fmt: ## formats the Rattle files
-	rt fmt
+	@for crate in crates/*/; do (cd "$$crate" && rt fmt) || exit 1; done
 
-clean: ## removes build/ and target/
-	rm -rf build target
+clean: ## removes build/, target/ and what the prover made
+	rm -rf build target crates/*/out
 
 help: ## lists the targets
 	@sed -n 's/^\([a-z-]*\):.*## \(.*\)/\1|\2/p' Makefile | awk -F'|' '{ printf "  make %-13s %s\n", $$1, $$2 }'

@@ -1,5 +1,4 @@
-/* What the benchmarks share: jobs, each in three versions (the proved library, plain C by gcc -O2 and by clang -O2; of heads.c the head, its record alone, and plain C
- * by gcc -O2), in one process.
+/* What the benchmarks share: jobs, each in three versions (the proved library, plain C by gcc -O2 and by clang -O2), in one process.
  *   PROGRAM             times the versions in turn: the least time of a call in ns, and the ratios, as rows of a table; 1 where answers differ or a limit is passed
  *   PROGRAM counts      runs each version of each job once, for counts.py
  *   PROGRAM JOB FORM    runs one version of one job again and again, for a profiler
@@ -15,7 +14,7 @@
 
 enum { FORMS = 3 };
 
-/* One run makes so many calls. A limit is for the ratio to the second version's time; 0 is none. `argument` is the job's own, read by `prepare` from bench_argument. */
+/* One run makes so many calls. A limit is for the ratio to gcc's time; 0 is none. `argument` is the job's own, read by `prepare` from bench_argument. */
 struct bench_job {
     const char *what;
     int calls;
@@ -34,9 +33,6 @@ struct bench {
 #define BENCH_FORMS(F) {sc_##F, gcc_##F, clang_##F}
 
 static int bench_argument;
-
-/* What the second version is, which limits are for. */
-static const char *bench_beside = "gcc -O2";
 
 /* What the runs of each version add their answers to: in the end all are the same. */
 static volatile uint64_t bench_sum[FORMS];
@@ -78,9 +74,6 @@ static void bench_measure(const struct bench *b, const struct bench_job *j, doub
     }
 }
 
-/* The time of the first version in the latest job. */
-static double bench_latest;
-
 /* Times a job and prints its row; 1 where the answers differ or its limit is passed. */
 static int bench_time(const struct bench *b, const struct bench_job *j, const char *after)
 {
@@ -89,14 +82,13 @@ static int bench_time(const struct bench *b, const struct bench_job *j, const ch
     int bad = 0;
     snprintf(what, sizeof what, "%s%s", j->what, after);
     bench_measure(b, j, best);
-    bench_latest = best[0];
     printf("| %-58s | %8.1f | %8.1f | %5.2f | %8.1f | %5.2f |\n", what, best[0], best[1], best[0] / best[1], best[2], best[0] / best[2]);
     if (bench_sum[0] != bench_sum[1] || bench_sum[0] != bench_sum[2]) {
         printf("^ the answers differ\n");
         bad = 1;
     }
     if (j->limit != 0 && best[0] > j->limit * best[1]) {
-        printf("^ more than %.2f times %s\n", j->limit, bench_beside);
+        printf("^ more than %.1f times gcc -O2\n", j->limit);
         bad = 1;
     }
     fflush(stdout);

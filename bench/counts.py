@@ -1,6 +1,5 @@
 #!/usr/bin/env python3
-"""counts.py: the instructions of each job of the benchmark, counted by valgrind's callgrind: proved code, plain C by gcc -O2 and by clang -O2, and the ratios; of a
-head's calls those of the head, of its record alone and of plain C by gcc -O2.
+"""counts.py: the instructions of each job of the benchmark, counted by valgrind's callgrind: proved code, plain C by gcc -O2 and by clang -O2, and the ratios.
 
     counts.py [PROGRAM ..]     of target/bench; all if none is named
 
@@ -13,9 +12,8 @@ import subprocess
 import sys
 import tempfile
 
-PROGRAMS = ["layout", "merge", "commit", "report", "record", "epochs", "heads"]
+PROGRAMS = ["layout", "merge", "commit", "report", "record", "epochs"]
 FORMS = 3
-PROVED, HEADS = ("proved", "gcc", "clang"), ("head", "record", "gcc")
 
 
 def counts(program):
@@ -40,14 +38,10 @@ def counts(program):
 
 
 def main():
-    above = None
+    print(f"| {'Job, instructions of a call':58} | {'proved':>8} | {'gcc':>8} | ratio | {'clang':>8} | ratio |\n|---|---|---|---|---|---|")
     for program in sys.argv[1:] or PROGRAMS:
-        versions = HEADS if program == "heads" else PROVED
-        if versions != above:
-            above = versions
-            print(f"| {'Job, instructions of a call':58} | {versions[0]:>8} | {versions[1]:>8} | ratio | {versions[2]:>8} | ratio |\n|---|---|---|---|---|---|")
-        for what, (first, second, third) in counts(program):
-            print(f"| {what:58} | {first:8.1f} | {second:8.1f} | {first / second:5.2f} | {third:8.1f} | {first / third:5.2f} |", flush=True)
+        for what, (proved, gcc, clang) in counts(program):
+            print(f"| {what:58} | {proved:8.1f} | {gcc:8.1f} | {proved / gcc:5.2f} | {clang:8.1f} | {proved / clang:5.2f} |", flush=True)
 
 
 if __name__ == "__main__":

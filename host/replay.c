@@ -1,5 +1,5 @@
-/* stellcircle-replay: runs calls, read as lines of text, on one recovery record, one epoch record, the heads of a cluster and the wire checks, and prints one line
-   for each. In this order: limits; lent buffers; words; servers and epochs; their calls; printing; the commands; the tables of commands; lines; main.
+/* stellcircle-replay: runs calls, read as lines of text, on one recovery record, one epoch record and the wire checks, and prints one line for each.
+   In this order: limits; lent buffers; words; the record and the epochs; printing; the commands; the table of commands; lines; main.
 
    The form of a line (man/stellcircle-replay.1 says the same):
    - A line ends with a newline; the last one may lack it. Lines are numbered from 1, skipped ones included.
@@ -22,8 +22,7 @@ enum {
     MAX_ROOM = 65536,    /* places of a lent reply or list */
     MAX_LIST = 196608,   /* bytes of extents to write */
     MAX_LINE = 524288,   /* bytes of a line, the newline not counted */
-    MAX_WORDS = 7,
-    NODES = 32, /* the numbers that a head's node may have */
+    MAX_WORDS = 5,
     GUARD = 64, /* bytes before and after each lent buffer; a multiple of every alignment */
     REPLY_REFUSED = 4,
     REPLY_ACCEPTED = 24,
@@ -198,251 +197,50 @@ static void take_back_bytes(struct word w, struct lent bytes, const char *what)
     give_back(bytes);
 }
 
-/* ---- Servers and epochs: one server alone, which has a record, and the heads of a cluster; the epochs of their own, and those that heads share ---- */
+/* ---- The record and the epochs that every call runs on, and a copy of each for calls that may not change it ---- */
 
-/* What a LAYOUTRETURN counted: for each place the bytes read and written, and masks of the places whose number is flagged. */
-struct totals {
-    uint64_t read[SC_PLACES], written[SC_PLACES];
-    uint32_t read_over, written_over;
-};
-
-/* A server where its record or head lies, and what its latest LAYOUTRETURN counted; the other of the two is NULL, and both are where a head is not set up. */
-struct server {
-    struct lent held;
-    struct sc_record *record;
-    struct sc_head *head;
-    struct totals totals;
-};
-
-/* Epochs where they lie; the other of the two is NULL. */
-struct grace {
-    struct lent held;
-    struct sc_epochs *epochs;
-    struct sc_cluster *cluster;
-};
-
-static struct server alone, heads[NODES];
-static struct grace own, shared;
-
-/* What the line's call runs on: a line that begins with head or cluster chooses. */
-static struct server *server = &alone;
-static struct grace *grace = &own;
-
-/* Room for a copy of what a call may only read. */
-static struct sc_head server_before;
-static struct sc_cluster epochs_before;
+static struct lent record_held, epochs_held;
+static struct sc_record *record, *record_before;
+static struct sc_epochs *epochs, *epochs_before;
 
 static void set_up(void)
 {
-    alone.held = lend(sizeof *alone.record);
-    own.held = lend(sizeof *own.epochs);
-    shared.held = lend(sizeof *shared.cluster);
-    alone.record = (struct sc_record *)(void *)bytes_of(alone.held);
-    own.epochs = (struct sc_epochs *)(void *)bytes_of(own.held);
-    shared.cluster = (struct sc_cluster *)(void *)bytes_of(shared.held);
+    record_held = lend(sizeof *record);
+    epochs_held = lend(sizeof *epochs);
+    record = (struct sc_record *)(void *)bytes_of(record_held);
+    epochs = (struct sc_epochs *)(void *)bytes_of(epochs_held);
+    record_before = malloc(sizeof *record);
+    epochs_before = malloc(sizeof *epochs);
+    if (record_before == NULL || epochs_before == NULL)
+        trouble("out of memory");
 }
 
 static void check_held(void)
 {
-    check_lent(alone.held, alone.held.len, "bytes beside the record changed");
-    check_lent(own.held, own.held.len, "bytes beside the epochs changed");
-    check_lent(shared.held, shared.held.len, "bytes beside the cluster's epochs changed");
-    for (struct server *h = heads; h < heads + NODES; h++)
-        if (h->head != NULL)
-            check_lent(h->held, h->held.len, "bytes beside a head changed");
+    check_lent(record_held, record_held.len, "bytes beside the record changed");
+    check_lent(epochs_held, epochs_held.len, "bytes beside the epochs changed");
 }
 
-/* Keeps what the server holds before a call that may only read it. */
-static void keep_server(void)
-{
-    memcpy(&server_before, bytes_of(server->held), server->held.len);
-}
-
-static void check_server(const char *what)
-{
-    if (memcmp(&server_before, bytes_of(server->held), server->held.len) != 0)
-        broken(what);
-}
-
-/* The same of epochs. */
-static void keep_epochs(void)
-{
-    memcpy(&epochs_before, bytes_of(grace->held), grace->held.len);
-}
-
-static void check_epochs(const char *what)
-{
-    if (memcmp(&epochs_before, bytes_of(grace->held), grace->held.len) != 0)
-        broken(what);
-}
-
-static void forget_heads(void)
-{
-    for (struct server *h = heads; h < heads + NODES; h++) {
-        if (h->head != NULL)
-            give_back(h->held);
-        memset(h, 0, sizeof *h);
-    }
-}
+/* What the latest LAYOUTRETURN counted: for each place the bytes read and written, and masks of the places whose number is flagged. */
+static struct {
+    uint64_t read[SC_PLACES], written[SC_PLACES];
+    uint32_t read_over, written_over;
+} totals;
 
 static void start_anew(void)
 {
-    sc_record_fresh(alone.record);
-    sc_epochs_fresh(own.epochs);
-    sc_cluster_fresh(shared.cluster);
-    memset(&alone.totals, 0, sizeof alone.totals);
-    forget_heads();
+    sc_record_fresh(record);
+    sc_epochs_fresh(epochs);
+    memset(&totals, 0, sizeof totals);
     check_held();
 }
 
 static void clean_up(void)
 {
-    forget_heads();
-    give_back(alone.held);
-    give_back(own.held);
-    give_back(shared.held);
-}
-
-/* ---- Their calls: on the record, or on the head with the epochs that it shares; on the epochs, or on the cluster's ---- */
-
-static uint32_t call_register(struct server *s, uint64_t file, const uint8_t *mirrors, size_t len)
-{
-    return s->head != NULL ? sc_head_register(s->head, file, mirrors, len) : sc_record_register(s->record, file, mirrors, len);
-}
-
-static uint32_t call_open(struct server *s, uint64_t file, uint64_t client)
-{
-    return s->head != NULL ? sc_head_open(s->head, shared.cluster, file, client) : sc_record_open(s->record, file, client);
-}
-
-static uint32_t call_reclaim(struct server *s, uint64_t file, uint64_t client)
-{
-    return s->head != NULL ? sc_head_reclaim(s->head, shared.cluster, file, client) : sc_record_reclaim(s->record, file, client);
-}
-
-static uint32_t call_close(struct server *s, uint64_t file, uint64_t client)
-{
-    return s->head != NULL ? sc_head_close(s->head, file, client) : sc_record_close(s->record, file, client);
-}
-
-static uint32_t call_repaired(struct server *s, uint64_t file)
-{
-    return s->head != NULL ? sc_head_repaired(s->head, file) : sc_record_repaired(s->record, file);
-}
-
-static uint32_t call_forget(struct server *s, uint64_t file)
-{
-    return s->head != NULL ? sc_head_forget(s->head, file) : sc_record_forget(s->record, file);
-}
-
-static uint32_t call_add_proxy(struct server *s, uint64_t file, const uint8_t *device, size_t len)
-{
-    return s->head != NULL ? sc_head_add_proxy(s->head, file, device, len) : sc_record_add_proxy(s->record, file, device, len);
-}
-
-static uint32_t call_remove_proxy(struct server *s, uint64_t file)
-{
-    return s->head != NULL ? sc_head_remove_proxy(s->head, file) : sc_record_remove_proxy(s->record, file);
-}
-
-static uint32_t call_set_up_stateid(struct server *s, uint64_t file, uint64_t client, const uint8_t *other, size_t len)
-{
-    return s->head != NULL ? sc_head_set_up_stateid(s->head, file, client, other, len) : sc_record_set_up_stateid(s->record, file, client, other, len);
-}
-
-static uint32_t call_end_grace(struct server *s)
-{
-    return s->head != NULL ? sc_head_end_grace(s->head, shared.cluster) : sc_record_end_grace(s->record);
-}
-
-static uint32_t call_restart(struct server *s)
-{
-    return s->head != NULL ? sc_head_restart(s->head, shared.cluster) : sc_record_restart(s->record);
-}
-
-static uint32_t call_complete(struct server *s, uint64_t client)
-{
-    return sc_head_complete(s->head, shared.cluster, client);
-}
-
-static uint32_t call_layoutreturn(struct server *s, uint64_t file, uint64_t client, struct lent request, struct lent reply, uint64_t *read, uint64_t *written,
-                                  size_t places, uint32_t *read_over, uint32_t *written_over)
-{
-    if (s->head != NULL)
-        return sc_head_layoutreturn(s->head, shared.cluster, file, client, bytes_of(request), request.len, bytes_of(reply), reply.len, read, places, written,
-                                    places, read_over, written_over);
-    return sc_record_layoutreturn(s->record, file, client, bytes_of(request), request.len, bytes_of(reply), reply.len, read, places, written, places, read_over,
-                                  written_over);
-}
-
-static uint32_t call_resilver(const struct server *s, uint64_t *files, size_t files_len, uint8_t *sources, size_t sources_len, uint64_t *count)
-{
-    return s->head != NULL ? sc_head_resilver(s->head, files, files_len, sources, sources_len, count)
-                           : sc_record_resilver(s->record, files, files_len, sources, sources_len, count);
-}
-
-static uint32_t call_offered(const struct server *s, uint64_t *files, size_t files_len, uint8_t *sources, size_t sources_len, uint64_t *count)
-{
-    return s->head != NULL ? sc_head_offered(s->head, files, files_len, sources, sources_len, count)
-                           : sc_record_offered(s->record, files, files_len, sources, sources_len, count);
-}
-
-static uint32_t call_resilver_by(const struct server *s, uint64_t *files, size_t files_len, uint8_t *sources, size_t sources_len, uint64_t *count,
-                                 uint32_t direction)
-{
-    return s->head != NULL ? sc_head_resilver_by(s->head, files, files_len, sources, sources_len, count, direction)
-                           : sc_record_resilver_by(s->record, files, files_len, sources, sources_len, count, direction);
-}
-
-static uint32_t call_offered_by(const struct server *s, uint64_t *files, size_t files_len, uint8_t *sources, size_t sources_len, uint64_t *count,
-                                uint32_t direction)
-{
-    return s->head != NULL ? sc_head_offered_by(s->head, files, files_len, sources, sources_len, count, direction)
-                           : sc_record_offered_by(s->record, files, files_len, sources, sources_len, count, direction);
-}
-
-static void call_counts(const struct server *s, uint64_t *waiting, uint64_t *offered)
-{
-    if (s->head != NULL)
-        sc_head_counts(s->head, waiting, offered);
-    else
-        sc_record_counts(s->record, waiting, offered);
-}
-
-static uint32_t call_join(struct grace *g, uint32_t node)
-{
-    return g->cluster != NULL ? sc_cluster_join(g->cluster, node) : sc_epochs_join(g->epochs, node);
-}
-
-static uint32_t call_leave(struct grace *g, uint32_t node)
-{
-    return g->cluster != NULL ? sc_cluster_leave(g->cluster, node) : sc_epochs_leave(g->epochs, node);
-}
-
-static uint32_t call_enforce(struct grace *g, uint32_t node)
-{
-    return g->cluster != NULL ? sc_cluster_enforce(g->cluster, node) : sc_epochs_enforce(g->epochs, node);
-}
-
-static uint32_t call_stop_enforcing(struct grace *g, uint32_t node)
-{
-    return g->cluster != NULL ? sc_cluster_stop_enforcing(g->cluster, node) : sc_epochs_stop_enforcing(g->epochs, node);
-}
-
-static uint32_t call_may_reclaim(const struct grace *g, uint32_t node)
-{
-    return g->cluster != NULL ? sc_cluster_may_reclaim(g->cluster, node) : sc_epochs_may_reclaim(g->epochs, node);
-}
-
-/* Start and finish are calls on the epochs alone: a head's are its restart and the end of its grace. */
-static uint32_t call_start(struct grace *g, uint32_t node)
-{
-    return sc_epochs_start(g->epochs, node);
-}
-
-static uint32_t call_finish(struct grace *g, uint32_t node)
-{
-    return sc_epochs_finish(g->epochs, node);
+    give_back(record_held);
+    give_back(epochs_held);
+    free(record_before);
+    free(epochs_before);
 }
 
 /* ---- Printing ---- */
@@ -463,13 +261,13 @@ static void print_answer(uint32_t answer)
 
 /* ---- The commands: each reads its arguments, and answers false, with nothing called or printed, where it can't ---- */
 
-typedef uint32_t on_server(struct server *);
-typedef uint32_t on_number(struct server *, uint64_t);
-typedef uint32_t on_client(struct server *, uint64_t, uint64_t);
-typedef uint32_t on_devices(struct server *, uint64_t, const uint8_t *, size_t);
-typedef uint32_t listing(const struct server *, uint64_t *, size_t, uint8_t *, size_t, uint64_t *);
-typedef uint32_t listing_by(const struct server *, uint64_t *, size_t, uint8_t *, size_t, uint64_t *, uint32_t);
-typedef uint32_t on_node(struct grace *, uint32_t);
+typedef uint32_t on_record(struct sc_record *);
+typedef uint32_t on_file(struct sc_record *, uint64_t);
+typedef uint32_t on_client(struct sc_record *, uint64_t, uint64_t);
+typedef uint32_t on_devices(struct sc_record *, uint64_t, const uint8_t *, size_t);
+typedef uint32_t listing(const struct sc_record *, uint64_t *, size_t, uint8_t *, size_t, uint64_t *);
+typedef uint32_t listing_by(const struct sc_record *, uint64_t *, size_t, uint8_t *, size_t, uint64_t *, uint32_t);
+typedef uint32_t on_node(struct sc_epochs *, uint32_t);
 struct kind;
 
 struct command {
@@ -477,8 +275,8 @@ struct command {
     size_t arguments;
     bool (*run)(const struct command *, const struct word *);
     union {
-        on_server *server;
-        on_number *number;
+        on_record *record;
+        on_file *file;
         on_client *client;
         on_devices *devices;
         listing *list;
@@ -488,20 +286,19 @@ struct command {
     } call;
 };
 
-static bool run_on_server(const struct command *c, const struct word *argument)
+static bool run_on_record(const struct command *c, const struct word *argument)
 {
     (void)argument;
-    print_answer(c->call.server(server));
+    print_answer(c->call.record(record));
     return true;
 }
 
-/* A file, or a client that sends RECLAIM_COMPLETE. */
-static bool run_on_number(const struct command *c, const struct word *argument)
+static bool run_on_file(const struct command *c, const struct word *argument)
 {
-    uint64_t number;
-    if (!read_number(argument[0], UINT64_MAX, &number))
+    uint64_t file;
+    if (!read_number(argument[0], UINT64_MAX, &file))
         return false;
-    print_answer(c->call.number(server, number));
+    print_answer(c->call.file(record, file));
     return true;
 }
 
@@ -510,7 +307,7 @@ static bool run_on_client(const struct command *c, const struct word *argument)
     uint64_t file, client;
     if (!read_number(argument[0], UINT64_MAX, &file) || !read_number(argument[1], UINT64_MAX, &client))
         return false;
-    print_answer(c->call.client(server, file, client));
+    print_answer(c->call.client(record, file, client));
     return true;
 }
 
@@ -521,7 +318,7 @@ static bool run_on_devices(const struct command *c, const struct word *argument)
     struct lent devices;
     if (!read_number(argument[0], UINT64_MAX, &file) || !read_bytes(argument[1], MAX_REQUEST, &devices))
         return false;
-    uint32_t answer = c->call.devices(server, file, bytes_of(devices), devices.len);
+    uint32_t answer = c->call.devices(record, file, bytes_of(devices), devices.len);
     take_back_bytes(argument[1], devices, "bytes in or beside the devices changed");
     print_answer(answer);
     return true;
@@ -535,7 +332,7 @@ static bool run_stateid(const struct command *c, const struct word *argument)
     struct lent other;
     if (!read_number(argument[0], UINT64_MAX, &file) || !read_number(argument[1], UINT64_MAX, &client) || !read_bytes(argument[2], MAX_REQUEST, &other))
         return false;
-    uint32_t answer = call_set_up_stateid(server, file, client, bytes_of(other), other.len);
+    uint32_t answer = sc_record_set_up_stateid(record, file, client, bytes_of(other), other.len);
     take_back_bytes(argument[2], other, "bytes in or beside a stateid's other changed");
     print_answer(answer);
     return true;
@@ -583,11 +380,11 @@ static void keep_flags(struct lent mask, uint32_t *kept)
 }
 
 /* Only an accepted report counts bytes. */
-static void check_totals(const struct totals *t, uint32_t answer)
+static void check_totals(uint32_t answer)
 {
-    uint64_t any = t->read_over | t->written_over;
+    uint64_t any = totals.read_over | totals.written_over;
     for (size_t i = 0; i < SC_PLACES; i++)
-        any |= t->read[i] | t->written[i];
+        any |= totals.read[i] | totals.written[i];
     if (answer != 0 && any != 0)
         broken("a LAYOUTRETURN that is not accepted gave totals");
 }
@@ -597,14 +394,14 @@ static uint32_t layoutreturn(uint64_t file, uint64_t client, struct lent request
 {
     struct lent read = lend((SC_PLACES + 1) * sizeof(uint64_t)), written = lend((SC_PLACES + 1) * sizeof(uint64_t));
     struct lent read_over = lend(sizeof(uint32_t)), written_over = lend(sizeof(uint32_t));
-    struct totals *t = &server->totals;
-    uint32_t answer = call_layoutreturn(server, file, client, request, reply, (uint64_t *)(void *)bytes_of(read), (uint64_t *)(void *)bytes_of(written),
-                                        SC_PLACES + 1, (uint32_t *)(void *)bytes_of(read_over), (uint32_t *)(void *)bytes_of(written_over));
-    keep_totals(read, t->read);
-    keep_totals(written, t->written);
-    keep_flags(read_over, &t->read_over);
-    keep_flags(written_over, &t->written_over);
-    check_totals(t, answer);
+    uint32_t answer = sc_record_layoutreturn(record, file, client, bytes_of(request), request.len, bytes_of(reply), reply.len,
+                                             (uint64_t *)(void *)bytes_of(read), SC_PLACES + 1, (uint64_t *)(void *)bytes_of(written),
+                                             SC_PLACES + 1, (uint32_t *)(void *)bytes_of(read_over), (uint32_t *)(void *)bytes_of(written_over));
+    keep_totals(read, totals.read);
+    keep_totals(written, totals.written);
+    keep_flags(read_over, &totals.read_over);
+    keep_flags(written_over, &totals.written_over);
+    check_totals(answer);
     return answer;
 }
 
@@ -670,11 +467,10 @@ static bool run_totals(const struct command *c, const struct word *argument)
 {
     (void)c;
     (void)argument;
-    const struct totals *t = &server->totals;
     for (size_t i = 0; i < SC_PLACES; i++) {
-        print_total(t->read[i], t->read_over >> i & 1);
+        print_total(totals.read[i], totals.read_over >> i & 1);
         putchar(':');
-        print_total(t->written[i], t->written_over >> i & 1);
+        print_total(totals.written[i], totals.written_over >> i & 1);
         putchar(i + 1 < SC_PLACES ? ' ' : '\n');
     }
     return true;
@@ -711,14 +507,15 @@ static bool lend_listing(const struct word *argument, struct listed *l)
     l->files = lend((size_t)l->room_files * sizeof(uint64_t));
     l->sources = lend((size_t)l->room_sources);
     l->count = lend(sizeof(uint64_t));
-    keep_server();
+    memcpy(record_before, record, sizeof *record);
     return true;
 }
 
 /* Prints what a listing answered, and takes back what it was lent. */
 static void take_back_listing(uint32_t answer, const struct listed *l)
 {
-    check_server("a listing changed the record");
+    if (memcmp(record_before, record, sizeof *record) != 0)
+        broken("a listing changed the record");
     check_lent(l->count, l->count.len, "bytes beside a listing's count changed");
     print_listing(answer, number_in(l->count), l->files, l->sources);
     give_back(l->files);
@@ -732,7 +529,7 @@ static bool run_listing(const struct command *c, const struct word *argument)
     struct listed l;
     if (!lend_listing(argument, &l))
         return false;
-    take_back_listing(c->call.list(server, (uint64_t *)(void *)bytes_of(l.files), (size_t)l.room_files, bytes_of(l.sources), (size_t)l.room_sources,
+    take_back_listing(c->call.list(record, (uint64_t *)(void *)bytes_of(l.files), (size_t)l.room_files, bytes_of(l.sources), (size_t)l.room_sources,
                                    (uint64_t *)(void *)bytes_of(l.count)),
                       &l);
     return true;
@@ -745,7 +542,7 @@ static bool run_listing_by(const struct command *c, const struct word *argument)
     struct listed l;
     if ((!lowest && !word_is(argument[2], "highest")) || !lend_listing(argument, &l))
         return false;
-    take_back_listing(c->call.list_by(server, (uint64_t *)(void *)bytes_of(l.files), (size_t)l.room_files, bytes_of(l.sources),
+    take_back_listing(c->call.list_by(record, (uint64_t *)(void *)bytes_of(l.files), (size_t)l.room_files, bytes_of(l.sources),
                                       (size_t)l.room_sources, (uint64_t *)(void *)bytes_of(l.count), lowest ? SC_LOWEST : SC_HIGHEST),
                       &l);
     return true;
@@ -757,9 +554,10 @@ static bool run_counts(const struct command *c, const struct word *argument)
     (void)c;
     (void)argument;
     struct lent waiting = lend(sizeof(uint64_t)), offered = lend(sizeof(uint64_t));
-    keep_server();
-    call_counts(server, (uint64_t *)(void *)bytes_of(waiting), (uint64_t *)(void *)bytes_of(offered));
-    check_server("a question for the counts changed the record");
+    memcpy(record_before, record, sizeof *record);
+    sc_record_counts(record, (uint64_t *)(void *)bytes_of(waiting), (uint64_t *)(void *)bytes_of(offered));
+    if (memcmp(record_before, record, sizeof *record) != 0)
+        broken("a question for the counts changed the record");
     check_lent(waiting, waiting.len, "bytes beside the count of files that wait changed");
     check_lent(offered, offered.len, "bytes beside the count of offered files changed");
     check_held();
@@ -989,7 +787,7 @@ static bool run_on_node(const struct command *c, const struct word *argument)
     uint32_t node;
     if (!read_node(argument[0], &node))
         return false;
-    print_answer(c->call.node(grace, node));
+    print_answer(c->call.node(epochs, node));
     return true;
 }
 
@@ -999,9 +797,10 @@ static bool run_may(const struct command *c, const struct word *argument)
     uint32_t node;
     if (!read_node(argument[0], &node))
         return false;
-    keep_epochs();
-    uint32_t answer = call_may_reclaim(grace, node);
-    check_epochs("may changed the epochs");
+    memcpy(epochs_before, epochs, sizeof *epochs);
+    uint32_t answer = sc_epochs_may_reclaim(epochs, node);
+    if (memcmp(epochs_before, epochs, sizeof *epochs) != 0)
+        broken("may changed the epochs");
     check_held();
     if (answer <= 1)
         puts(answer == 1 ? "yes" : "no");
@@ -1014,9 +813,8 @@ static bool run_epochs(const struct command *c, const struct word *argument)
 {
     (void)c;
     (void)argument;
-    const struct sc_epochs *e = grace->cluster != NULL ? &grace->cluster->epochs : grace->epochs;
-    printf("%" PRIu64 " %" PRIu64, e->current, e->recovery);
-    printf(" %08" PRIx32 " %08" PRIx32 " %08" PRIx32 "\n", e->members, e->need, e->enforcing);
+    printf("%" PRIu64 " %" PRIu64, epochs->current, epochs->recovery);
+    printf(" %08" PRIx32 " %08" PRIx32 " %08" PRIx32 "\n", epochs->members, epochs->need, epochs->enforcing);
     return true;
 }
 
@@ -1036,84 +834,57 @@ static bool run_fresh_edition(const struct command *c, const struct word *argume
     if (!word_is(argument[0], "old"))
         return false;
     start_anew();
-    sc_record_fresh_old(alone.record);
+    sc_record_fresh_old(record);
     check_held();
     puts("0");
     return true;
 }
 
-/* ---- The tables of commands: name, number of arguments, how it is run, and the call where several are run alike ---- */
+/* ---- The table of commands: name, number of arguments, how it is run, and the call where several are run alike ---- */
 
-/* The lines of a server: of the one that is alone, and after `head NODE` of that head. These leave the epochs that heads share as they are. */
-static const struct command server_commands[] = {
-    {"register", 2, run_on_devices, {.devices = call_register}},
-    {"open", 2, run_on_client, {.client = call_open}},
-    {"reclaim", 2, run_on_client, {.client = call_reclaim}},
-    {"close", 2, run_on_client, {.client = call_close}},
-    {"repaired", 1, run_on_number, {.number = call_repaired}},
-    {"forget", 1, run_on_number, {.number = call_forget}},
-    {"addproxy", 2, run_on_devices, {.devices = call_add_proxy}},
-    {"removeproxy", 1, run_on_number, {.number = call_remove_proxy}},
+static const struct command commands[] = {
+    {"register", 2, run_on_devices, {.devices = sc_record_register}},
+    {"open", 2, run_on_client, {.client = sc_record_open}},
+    {"reclaim", 2, run_on_client, {.client = sc_record_reclaim}},
+    {"close", 2, run_on_client, {.client = sc_record_close}},
+    {"repaired", 1, run_on_file, {.file = sc_record_repaired}},
+    {"forget", 1, run_on_file, {.file = sc_record_forget}},
+    {"addproxy", 2, run_on_devices, {.devices = sc_record_add_proxy}},
+    {"removeproxy", 1, run_on_file, {.file = sc_record_remove_proxy}},
     {"stateid", 3, run_stateid, {NULL}},
+    {"end", 0, run_on_record, {.record = sc_record_end_grace}},
+    {"restart", 0, run_on_record, {.record = sc_record_restart}},
     {"layoutreturn", 4, run_layoutreturn, {NULL}},
-    {"totals", 0, run_totals, {NULL}},
-    {"resilver", 2, run_listing, {.list = call_resilver}},
-    {"offered", 2, run_listing, {.list = call_offered}},
-    {"resilver", 3, run_listing_by, {.list_by = call_resilver_by}},
-    {"offered", 3, run_listing_by, {.list_by = call_offered_by}},
-    {"counts", 0, run_counts, {NULL}},
-};
-
-/* Those that move the head's node in the cluster. */
-static const struct command moving_commands[] = {
-    {"end", 0, run_on_server, {.server = call_end_grace}},
-    {"restart", 0, run_on_server, {.server = call_restart}},
-};
-
-/* The one that only a head has. */
-static const struct command head_commands[] = {
-    {"complete", 1, run_on_number, {.number = call_complete}},
-};
-
-/* The lines of epochs: of those on their own, and after `cluster` of those that heads share. */
-static const struct command epoch_commands[] = {
-    {"join", 1, run_on_node, {.node = call_join}},
-    {"leave", 1, run_on_node, {.node = call_leave}},
-    {"enforce", 1, run_on_node, {.node = call_enforce}},
-    {"stop", 1, run_on_node, {.node = call_stop_enforcing}},
-    {"may", 1, run_may, {NULL}},
-    {"epochs", 0, run_epochs, {NULL}},
-};
-
-/* The lines that no head and no cluster has. */
-static const struct command other_commands[] = {
-    {"start", 1, run_on_node, {.node = call_start}},
-    {"finish", 1, run_on_node, {.node = call_finish}},
     {"request", 1, run_request, {NULL}},
+    {"totals", 0, run_totals, {NULL}},
+    {"resilver", 2, run_listing, {.list = sc_record_resilver}},
+    {"offered", 2, run_listing, {.list = sc_record_offered}},
+    {"resilver", 3, run_listing_by, {.list_by = sc_record_resilver_by}},
+    {"offered", 3, run_listing_by, {.list_by = sc_record_offered_by}},
+    {"counts", 0, run_counts, {NULL}},
     {"layout", 1, run_layout, {.kind = &scsi}},
     {"rdma", 1, run_layout, {.kind = &rdma}},
     {"write", 2, run_write, {.kind = &scsi}},
     {"rdmawrite", 2, run_write, {.kind = &rdma}},
     {"merge", 2, run_write, {.kind = &merged}},
     {"commit", 4, run_commit, {.kind = &scsi}},
+    {"join", 1, run_on_node, {.node = sc_epochs_join}},
+    {"leave", 1, run_on_node, {.node = sc_epochs_leave}},
+    {"start", 1, run_on_node, {.node = sc_epochs_start}},
+    {"enforce", 1, run_on_node, {.node = sc_epochs_enforce}},
+    {"finish", 1, run_on_node, {.node = sc_epochs_finish}},
+    {"stop", 1, run_on_node, {.node = sc_epochs_stop_enforcing}},
+    {"may", 1, run_may, {NULL}},
+    {"epochs", 0, run_epochs, {NULL}},
     {"fresh", 0, run_fresh, {NULL}},
     {"fresh", 1, run_fresh_edition, {NULL}},
 };
 
-struct table {
-    const struct command *commands;
-    size_t count;
-};
-
-#define TABLE(T) {T##_commands, sizeof T##_commands / sizeof T##_commands[0]}
-static const struct table of_server = TABLE(server), moving = TABLE(moving), of_head = TABLE(head), of_epochs = TABLE(epoch), others = TABLE(other);
-
-/* The command of these words, its name first, or NULL. */
-static const struct command *find_command(const struct table *t, const struct word *words, size_t count)
+static const struct command *find_command(struct word name, size_t arguments)
 {
-    for (const struct command *c = t->commands; c < t->commands + t->count; c++)
-        if (count == c->arguments + 1 && word_is(words[0], c->name))
-            return c;
+    for (size_t i = 0; i < sizeof commands / sizeof commands[0]; i++)
+        if (word_is(name, commands[i].name) && commands[i].arguments == arguments)
+            return &commands[i];
     return NULL;
 }
 
@@ -1140,79 +911,11 @@ static bool read_line(FILE *in, struct line *line)
     return c == '\n' || line->len > 0;
 }
 
-/* Runs the command of a table that these words are; false where there is none, or its arguments can't be read. */
-static bool run_command(const struct table *t, const struct word *words, size_t count)
-{
-    const struct command *c = find_command(t, words, count);
-    return c != NULL && c->run(c, words + 1);
-}
-
-/* Sets up the head of a node, current or old, in memory of its own, in place of one that is there. */
-static bool run_set_up(uint32_t node, bool old)
-{
-    struct server h = {.held = lend(sizeof(struct sc_head))};
-    h.head = (struct sc_head *)(void *)bytes_of(h.held);
-    uint32_t answer = (old ? sc_head_fresh_old : sc_head_fresh)(h.head, node);
-    check_lent(h.held, answer == 0 ? h.held.len : 0, "bytes beside a head, or of one that was refused, changed");
-    if (answer == 0 && node >= NODES)
-        broken("a head was set up for a node above 31");
-    if (answer == 0 && heads[node].head != NULL)
-        give_back(heads[node].held);
-    if (answer == 0)
-        heads[node] = h;
-    else
-        give_back(h.held);
-    print_answer(answer);
-    return true;
-}
-
-/* A line of the chosen head: one that leaves the epochs as they are, or one that may move them. */
-static bool run_on_head(const struct word *words, size_t count)
-{
-    keep_epochs();
-    if (run_command(&of_server, words, count)) {
-        check_epochs("a call that may only read the cluster's epochs changed them");
-        return true;
-    }
-    return run_command(&moving, words, count) || run_command(&of_head, words, count);
-}
-
-/* A line that begins with head: the node, and then a set-up or a line of a head that is there. */
-static bool run_head(const struct word *words, size_t count)
-{
-    uint32_t node;
-    if (count < 2 || !read_node(words[0], &node))
-        return false;
-    if (word_is(words[1], "setup") && (count == 2 || (count == 3 && word_is(words[2], "old"))))
-        return run_set_up(node, count == 3);
-    if (node >= NODES || heads[node].head == NULL)
-        return false;
-    server = &heads[node];
-    grace = &shared;
-    bool read = run_on_head(words + 1, count - 1);
-    server = &alone;
-    grace = &own;
-    return read;
-}
-
-/* A line that begins with cluster. */
-static bool run_cluster(const struct word *words, size_t count)
-{
-    grace = &shared;
-    bool read = count > 0 && run_command(&of_epochs, words, count);
-    grace = &own;
-    return read;
-}
-
 /* Runs a line that has words; false where it can't be read. */
 static bool run_words(const struct word *words, size_t count)
 {
-    if (word_is(words[0], "head"))
-        return run_head(words + 1, count - 1);
-    if (word_is(words[0], "cluster"))
-        return run_cluster(words + 1, count - 1);
-    return run_command(&of_server, words, count) || run_command(&moving, words, count) || run_command(&of_epochs, words, count) ||
-           run_command(&others, words, count);
+    const struct command *c = find_command(words[0], count - 1);
+    return c != NULL && c->run(c, words + 1);
 }
 
 static void run_line(const struct line *line)

@@ -1,13 +1,11 @@
 /* stellcircle.h: the checked recovery core of a pNFS metadata server, for C and C++. Link with -lstellcircle.
- * In this order: the version; statuses; layout bodies; LAYOUTRETURN requests; the recovery record; the epochs of a cluster; the heads of a cluster.
+ * In this order: the version; statuses; layout bodies; LAYOUTRETURN requests; the recovery record; the epochs of a cluster.
  *
  * Every function here is compiled from Rattle code that is proved to meet its contract. What a host has to keep to, since C checks none of it:
  *   - a pointer is good for its count of elements and is not NULL, also where the count is 0;
  *   - memory behind a pointer that is not const overlaps no other argument of the same call;
  *   - no other thread reads or writes that memory during the call;
- *   - buffers of bytes are good at any alignment, numbers and structs at that of their type;
- *   - a struct sc_record or sc_head, once it is set up, has the bytes that these calls left in it: its flags are bytes of 0 or 1, no call looks whether they are, and one
- *     that is neither, as in an image that a disk has damaged, may make a call write outside the record.
+ *   - buffers of bytes are good at any alignment, numbers and structs at that of their type.
  * No function keeps a pointer after it returns, allocates, locks or fails in any way but by its answer.
  * Stack: every call takes 2,048 bytes at most (tests/stack).
  *
@@ -34,7 +32,7 @@ extern "C" {
  * The first number rises where a server has to be changed, the second where calls are added, the third where neither is.
  */
 #define SC_VERSION_MAJOR 3
-#define SC_VERSION_MINOR 1
+#define SC_VERSION_MINOR 0
 #define SC_VERSION_PATCH 0
 
 /* ---- statuses, by NFS's own names (RFC 8881, 15.1) ----
@@ -44,17 +42,16 @@ extern "C" {
 #define SC_NOENT UINT32_C(2)                  /* the node is no member of the cluster, or the file has no proxy */
 #define SC_EXIST UINT32_C(17)                 /* the file is registered or has a proxy, the intent has a stateid, or the node is a member, already */
 #define SC_INVAL UINT32_C(22)                 /* a node above 31, a bad mirror list, proxy, stateid or commit list, no direction, or nothing to repair or to finish */
-#define SC_NOSPC UINT32_C(28)                 /* no room: in a table or a head's list of clients, in a buffer that is lent, or for another epoch */
+#define SC_NOSPC UINT32_C(28)                 /* no room: in a table, in a buffer that is lent, or for another epoch */
 #define SC_STALE UINT32_C(70)                 /* no such file */
 #define SC_DELAY UINT32_C(10008)              /* not yet: the file needs repair, or an intent is open */
-#define SC_GRACE UINT32_C(10013)              /* a grace period is on, of the server or of the cluster */
+#define SC_GRACE UINT32_C(10013)              /* a grace period is on */
 #define SC_OLD_STATEID UINT32_C(10024)        /* a stateid whose seqid is older than the latest */
 #define SC_BAD_STATEID UINT32_C(10025)        /* no intent to close or for a stateid, one not reclaimed, or a stateid that is not taken */
-#define SC_NO_GRACE UINT32_C(10033)           /* no grace period is on, or the client has sent RECLAIM_COMPLETE */
+#define SC_NO_GRACE UINT32_C(10033)           /* no grace period is on */
 #define SC_RECLAIM_BAD UINT32_C(10034)        /* the client has no intent on the file, or commits what it may not write */
 #define SC_BADXDR UINT32_C(10036)             /* malformed bytes */
 #define SC_BADIOMODE UINT32_C(10049)          /* an iomode outside 1 to 3 */
-#define SC_COMPLETE_ALREADY UINT32_C(10054)   /* the client has sent RECLAIM_COMPLETE since the restart */
 #define SC_UNKNOWN_LAYOUTTYPE UINT32_C(10062) /* a layout type that is not 4 */
 
 /* ---- layout bodies of SCSI layouts (RFC 8154), sc_layout_*, and of RDMA layouts (draft-hellwig-nfsv4-rdma-layout), sc_rdma_layout_* ----
@@ -351,88 +348,6 @@ uint32_t sc_epochs_stop_enforcing(struct sc_epochs *e, uint32_t node);
 /* Whether the node's clients may reclaim: 1 (yes) exactly when R isn't 0, the node has NEED, and every member enforces; otherwise 0 (no), also for a
  * node that is no member; 22 for a node above 31. The record is only read. */
 uint32_t sc_epochs_may_reclaim(const struct sc_epochs *e, uint32_t node);
-
-/* ---- the heads of a cluster: several metadata servers, each with a record of its own, and the epochs that they share ----
- *
- * A head has the number of its node, a recovery record, and the list of the clients that have sent RECLAIM_COMPLETE since its latest restart. It is plain memory
- * that the server owns, sizeof(struct sc_head) bytes aligned as a uint64_t, and its words are for these calls alone. sc_head_fresh or sc_head_fresh_old sets it
- * up; no other call may come first. A call changes the head where it lies, and leaves it as it was where it answers a refusal.
- *
- * The epochs that heads share are a type of their own: a restart of a head is its node's start, and the end of its grace its node's finish, so there is no
- * other call for either, and none of sc_record_* for a head. A host gives each head a node that no other head of the cluster has, and always the same cluster.
- * A call that takes a const struct sc_cluster * only reads it: such calls on two heads may run at once, and so may calls that take no cluster.
- */
-struct sc_cluster {
-    struct sc_epochs epochs; /* for reading alone */
-};
-
-struct sc_head {
-    uint64_t opaque[3202];
-};
-
-SC_ASSERT(sizeof(struct sc_cluster) == 32, "struct sc_cluster is as the library has it");
-SC_ASSERT(sizeof(struct sc_head) == 25616, "struct sc_head is as the library has it");
-
-/* As sc_epochs_ of the same name, on the epochs that heads share. */
-void sc_cluster_fresh(struct sc_cluster *c);
-uint32_t sc_cluster_join(struct sc_cluster *c, uint32_t node);
-uint32_t sc_cluster_leave(struct sc_cluster *c, uint32_t node);
-uint32_t sc_cluster_enforce(struct sc_cluster *c, uint32_t node);
-uint32_t sc_cluster_stop_enforcing(struct sc_cluster *c, uint32_t node);
-uint32_t sc_cluster_may_reclaim(const struct sc_cluster *c, uint32_t node);
-
-/* The head of the node becomes empty and not in grace, with a current record or with an old one. What it held is not read. 22: a node above 31. */
-uint32_t sc_head_fresh(struct sc_head *h, uint32_t node);
-uint32_t sc_head_fresh_old(struct sc_head *h, uint32_t node);
-
-/* The client opens the file for writing. 10013: R isn't 0, also where this head has finished; then as sc_record_open. */
-uint32_t sc_head_open(struct sc_head *h, const struct sc_cluster *c, uint64_t file, uint64_t client);
-
-/* The client reclaims its intent. 10013: the head may not reclaim, and R isn't 0; 10033: it may not, and R is 0; 10033: the client has sent RECLAIM_COMPLETE
- * since the restart; then as sc_record_reclaim. */
-uint32_t sc_head_reclaim(struct sc_head *h, const struct sc_cluster *c, uint64_t file, uint64_t client);
-
-/* The head restarted: its node starts in the cluster, its record is in grace as after sc_record_restart, and its list of clients is empty.
- * 2: the node is no member; 28: R is 0 and C is 2^64 - 1; head and cluster then stay as they were. */
-uint32_t sc_head_restart(struct sc_head *h, struct sc_cluster *c);
-
-/* Grace ends as by sc_record_end_grace, and the node finishes in the cluster. 10033: not in grace. */
-uint32_t sc_head_end_grace(struct sc_head *h, struct sc_cluster *c);
-
-/* RECLAIM_COMPLETE of the client: it is in the list, and reclaims no more until the next restart. Where each client that holds an intent on a file of this head,
- * reclaimed or not, has sent it now, grace ends as by sc_head_end_grace.
- * 10033: not in grace; 10054: the client has sent it since the restart; 28: 64 clients have, and the host ends grace with sc_head_end_grace. */
-uint32_t sc_head_complete(struct sc_head *h, struct sc_cluster *c, uint64_t client);
-
-/* A LAYOUTRETURN of the client on the file, as sc_record_layoutreturn, with two refusals more, after an old record's 10025: a stateid of all zeros while the head
- * may not reclaim gets 10013 where R isn't 0, else 10033. */
-uint32_t sc_head_layoutreturn(struct sc_head *h, const struct sc_cluster *c, uint64_t file, uint64_t client, const uint8_t *request, size_t request_len,
-                              uint8_t *reply, size_t reply_len, uint64_t *read, size_t read_len, uint64_t *written, size_t written_len,
-                              uint32_t *read_over, uint32_t *written_over);
-
-/* As sc_record_ of the same name, on the head's record. */
-uint32_t sc_head_register(struct sc_head *h, uint64_t file, const uint8_t *mirrors, size_t mirrors_len);
-uint32_t sc_head_close(struct sc_head *h, uint64_t file, uint64_t client);
-uint32_t sc_head_repaired(struct sc_head *h, uint64_t file);
-uint32_t sc_head_forget(struct sc_head *h, uint64_t file);
-uint32_t sc_head_add_proxy(struct sc_head *h, uint64_t file, const uint8_t *device, size_t device_len);
-uint32_t sc_head_remove_proxy(struct sc_head *h, uint64_t file);
-uint32_t sc_head_set_up_stateid(struct sc_head *h, uint64_t file, uint64_t client, const uint8_t *other, size_t other_len);
-uint32_t sc_head_resilver_by(const struct sc_head *h, uint64_t *files, size_t files_len, uint8_t *sources, size_t sources_len, uint64_t *count,
-                             uint32_t direction);
-uint32_t sc_head_offered_by(const struct sc_head *h, uint64_t *files, size_t files_len, uint8_t *sources, size_t sources_len, uint64_t *count,
-                            uint32_t direction);
-void sc_head_counts(const struct sc_head *h, uint64_t *waiting, uint64_t *offered);
-
-static inline uint32_t sc_head_resilver(const struct sc_head *h, uint64_t *files, size_t files_len, uint8_t *sources, size_t sources_len, uint64_t *count)
-{
-    return sc_head_resilver_by(h, files, files_len, sources, sources_len, count, SC_UNASKED);
-}
-
-static inline uint32_t sc_head_offered(const struct sc_head *h, uint64_t *files, size_t files_len, uint8_t *sources, size_t sources_len, uint64_t *count)
-{
-    return sc_head_offered_by(h, files, files_len, sources, sources_len, count, SC_UNASKED);
-}
 
 #undef SC_ASSERT
 

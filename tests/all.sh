@@ -9,7 +9,6 @@ tests/commit/run.sh
 tests/layoutreturn/run.sh
 tests/epochs/run.sh
 tests/capi/run.sh
-tests/heads/run.sh
 tests/stack/run.sh
 bench/copies.sh build/libstellcircle.a
 tests/install.sh

@@ -131,7 +131,7 @@ def invariants(entry, decls):
         if len(params) != len(want):
             out.append(f"-- LEFT ({len(params)} names for {len(want)}: {want}): ")
         sub = dict(zip(params, want))
-        body = re.sub(rf"(?<![\w.'₀-])({'|'.join(sorted(map(re.escape, params), key=len, reverse=True))})(?![\w'₀-])", lambda k: sub[k.group(1)], body) if params else body
+        body = re.sub(rf"(?<![\w.'₀-])({'|'.join(sorted(map(re.escape, params), key=len, reverse=True))})(?![\w'₀-]| = )", lambda k: sub[k.group(1)], body) if params else body
         out.append(f"abbrev pub {kind}-{new} : goal.{kind}-{new}\n{kind}-{new} l = {body}")
     return out
 
@@ -243,8 +243,13 @@ def fill(crate):
             continue
         out, miss = [], []
         for g in goals:
+            if g not in answers and "?" + norm(g) in answers:
+                answers[g] = answers["?" + norm(g)]
             if g in answers:
                 unf, b = answers[g]
+                arm = re.search(r"-in-(\w+)$", g)
+                if arm:
+                    b = re.sub(r"\bc\.(?:enum_told-(?:in-\w+-)?1|n-1|k-1)\.given\.1", f"c.in-{arm.group(1)}.is", b)
                 out.append(f"pub {g} : goal.{g}\n{unf}{g} c ={'' if b.startswith(chr(10)) else ' '}{b}")
             else:
                 miss.append(g)
@@ -262,8 +267,7 @@ def fill(crate):
                     grown = True
         hs = [t for n, t in helpers if t in hs]
         whole = "\n\n".join(hs + [body])
-        inv = os.path.exists(os.path.join(os.path.dirname(path), "Invariants.antt"))
-        lines = ([] if inv else head) + used(whole, uses) + [f"use Rattle.{crate}.proofs.{rel.replace('/', '.')}.Goals as goal", "", whole]
+        lines = head + used(whole, uses) + [f"use Rattle.{crate}.proofs.{rel.replace('/', '.')}.Goals as goal", "", whole]
         os.makedirs(os.path.dirname(path), exist_ok=True)
         with open(path, "w") as f:
             f.write("\n".join(lines) + "\n")

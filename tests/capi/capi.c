@@ -6,14 +6,17 @@
  * reaches, about 2^31 and at the end of their width, are written into the record.
  * Prints one line, and ends with 1 where anything differs.
  */
-#include "common.h"
+#include "bytes.h"
 #include "plain.h"
+#include "stellcircle.h"
 #include <inttypes.h>
+#include <stdio.h>
 #include <stdlib.h>
+#include <string.h>
 
 PLAIN(plain_)
 
-enum { CALLS = 400000, CLIENTS = 11, ROOM = 80 };
+enum { CALLS = 400000, CLIENTS = 11, DEVICES = 6, ROOM = 80 };
 
 /* The record with guards on either side, which no call may touch. */
 static struct {
@@ -22,6 +25,13 @@ static struct {
     uint8_t after[64];
 } held;
 static struct plain_record plain;
+static unsigned long differences;
+
+static void expect(int good, const char *what, unsigned long n)
+{
+    if (!good && differences++ < 10)
+        fprintf(stderr, "%s (%lu) differs\n", what, n);
+}
 
 /* An answer beside plain C's. Each of these has to come up among the random calls. */
 static const uint32_t answers[] = {0, 2, 17, 22, 28, 70, 10008, 10013, 10024, 10025, 10033, 10034, 10036, 10049, 10062, SC_HANDED_ON};
@@ -42,7 +52,12 @@ static void guards(unsigned long n)
             expect(0, "a byte beside the record", n);
 }
 
-/* ---- what the record holds, as common.h has it, beside plain C */
+/* ---- what a record holds: 64 files, then the two counts, grace and the edition. A file: its number; its places, each of the two halves of a device's id and whether it
+ * is there, is blamed and is a proxy; eight intents; whether there is such a file, and its mark. An intent: its client; its stateid's other as two numbers,
+ * of 8 bytes and of 4, and its seqid, where 0 is no stateid; whether it is there, and is reclaimed. */
+enum { HIGH = 8, LOW = 16, SEQID = 20, TAKEN = 24, RECLAIMED = 25, INTENT_SIZE = 32 };
+enum { MIRRORS = 8, MIRROR_SIZE = 24, INTENTS = MIRRORS + SC_PLACES * MIRROR_SIZE, FLAGS = INTENTS + 8 * INTENT_SIZE, FILE_SIZE = FLAGS + 8, HEAD = 64 * FILE_SIZE, GRACE = HEAD + 2, OLD };
+
 /* The id of a device as the record holds it: two numbers. */
 static int holds(const uint8_t *mirror, const uint8_t *id)
 {
@@ -52,23 +67,14 @@ static int holds(const uint8_t *mirror, const uint8_t *id)
     return high == be64(id) && low == be64(id + 8);
 }
 
-/* Whether nothing stands there: a free place is zeros, to its last field. */
-static int zeros(const uint8_t *at, size_t n)
-{
-    for (size_t i = 0; i < n; i++)
-        if (at[i] != 0)
-            return 0;
-    return 1;
-}
-
 /* Whether a place of a file is as plain C has it: nothing, a mirror or the proxy, blamed or not. */
 static int same_place(const uint8_t *mirror, const struct plain_file *f, size_t i)
 {
     int proxy = i == PLAIN_PROXY && f->proxy, there = i < f->mirror_count || proxy;
-    return there ? mirror[16] == 1 && mirror[17] == (f->blamed >> i & 1) && mirror[18] == proxy && holds(mirror, f->devices[i]) : zeros(mirror, 19);
+    return mirror[16] == there && mirror[17] == (f->blamed >> i & 1) && mirror[18] == proxy && (!there || holds(mirror, f->devices[i]));
 }
 
-/* Whether an intent is of the client, and has its stateid, or none, which is zeros, as plain C has it; only in grace does it say that the client reclaimed. */
+/* Whether an intent is of the client, and has its stateid, or none, as plain C has it. */
 static int same_intent(const uint8_t *at, const struct plain_intent *i)
 {
     uint64_t client, high;
@@ -77,8 +83,7 @@ static int same_intent(const uint8_t *at, const struct plain_intent *i)
     memcpy(&high, at + HIGH, 8);
     memcpy(&low, at + LOW, 4);
     memcpy(&seqid, at + SEQID, 4);
-    return at[TAKEN] == 1 && at[RECLAIMED] == (plain.grace && i->reclaimed) && client == i->client && seqid == i->seqid
-        && (seqid == 0 ? high == 0 && low == 0 : high == be64(i->other) && low == be32(i->other + 8));
+    return at[TAKEN] == 1 && client == i->client && seqid == i->seqid && (seqid == 0 || (high == be64(i->other) && low == be32(i->other + 8)));
 }
 
 /* Whether the intents of a file are as plain C has them, both in the order in which they came. */
@@ -86,21 +91,10 @@ static int same_intents(const uint8_t *file, const struct plain_file *f)
 {
     for (size_t i = 0; i < 8; i++) {
         const uint8_t *at = file + INTENTS + INTENT_SIZE * i;
-        if (i < f->intent_count ? !same_intent(at, &f->intents[i]) : !zeros(at, RECLAIMED + 1))
+        if (i < f->intent_count ? !same_intent(at, &f->intents[i]) : at[TAKEN] != 0)
             return 0;
     }
     return 1;
-}
-
-/* Whether a place has no file, and nothing of one that it had. */
-static int no_file(const uint8_t *file)
-{
-    int good = zeros(file, MIRRORS) && zeros(file + FLAGS, 2);
-    for (size_t i = 0; i < SC_PLACES; i++)
-        good = good && zeros(file + MIRRORS + MIRROR_SIZE * i, 19);
-    for (size_t i = 0; i < 8; i++)
-        good = good && zeros(file + INTENTS + INTENT_SIZE * i, RECLAIMED + 1);
-    return good;
 }
 
 /* The files of the record beside plain C's, both by rising number. */
@@ -109,10 +103,10 @@ static void compare_files(unsigned long n)
     const uint8_t *at = (const uint8_t *)&held.r;
     for (size_t k = 0; k < 64; k++, at += FILE_SIZE) {
         const struct plain_file *f = &plain.files[k];
-        int good = k < plain.count ? at[FLAGS] == 1 && memcmp(at, &f->number, 8) == 0 : no_file(at);
+        int good = at[FLAGS] == (k < plain.count);
         for (size_t i = 0; i < SC_PLACES && k < plain.count; i++)
             good = good && same_place(at + MIRRORS + MIRROR_SIZE * i, f, i);
-        expect(good && (k >= plain.count || at[FLAGS + 1] == f->marked), "the number, the mirrors, the proxy, the blame or the mark of a file, or a place without one", n);
+        expect(good && (k >= plain.count || at[FLAGS + 1] == f->marked), "the mirrors, the proxy, the blame or the mark of a file", n);
         expect(k >= plain.count || same_intents(at, f), "the intents of a file, or their stateids", n);
     }
 }
@@ -147,6 +141,45 @@ static void layout(void)
     expect(_Alignof(struct sc_record) == _Alignof(uint64_t) && sizeof(struct sc_record) == HEAD + 8, "the struct", 0);
 }
 
+/* ---- requests */
+static uint8_t request[4200], device[DEVICES][16];
+
+/* One error record of so many device errors of the devices from `first` on, each with the status. */
+static size_t report(int first, int many, uint32_t status)
+{
+    memset(request, 0, sizeof request);
+    put32(request + 4, 4);
+    put32(request + 8, 2);
+    put32(request + 12, 1);
+    put32(request + 48, (uint32_t)(44 + 24 * many));
+    put32(request + 52, 1);
+    put32(request + 88, (uint32_t)many);
+    for (int i = 0; i < many; i++) {
+        memcpy(request + 92 + 24 * i, device[(first + i) % DEVICES], 16);
+        put32(request + 108 + 24 * i, status);
+    }
+    return (size_t)(52 + 44 + 24 * many);
+}
+
+/* ---- totals */
+/* What is lent for the totals of one call, with a word past each slice that no call may touch. */
+enum { LENT = 7, FILL = 0x5c };
+
+struct lent {
+    uint64_t read[LENT + 1], written[LENT + 1];
+    uint32_t before, read_over, between, written_over, after;
+    size_t read_len, written_len;
+};
+
+static struct lent lend(size_t read_len, size_t written_len)
+{
+    struct lent t;
+    memset(&t, FILL, sizeof t);
+    t.read_len = read_len;
+    t.written_len = written_len;
+    return t;
+}
+
 /* Whether a column is so many sums, zeros in the places past them that are lent, and what it was filled with after that. */
 static int column(const uint64_t *lent, size_t len, const uint64_t *sums)
 {
@@ -156,6 +189,14 @@ static int column(const uint64_t *lent, size_t len, const uint64_t *sums)
         if (lent[i] != (i >= len ? filled : i < SC_PLACES ? sums[i] : 0))
             return 0;
     return 1;
+}
+
+/* Whether the numbers beside the flags are as they were. */
+static int flags_alone(const struct lent *t)
+{
+    uint32_t filled;
+    memset(&filled, FILL, sizeof filled);
+    return t->before == filled && t->between == filled && t->after == filled;
 }
 
 /* ---- lists */
@@ -218,6 +259,30 @@ static void examples(void)
 }
 
 /* ---- totals of one file with the mirrors of devices 0, 1 and 2, and a client with an intent */
+/* One statistics record more at the end of a request that ends with them; its strings and handle have so many bytes. Its latencies count other bytes. */
+static size_t statistic(size_t len, size_t count, const uint8_t *id, uint64_t read, uint64_t written, const size_t *opaques)
+{
+    uint8_t *s = request + len;
+    put32(request + count, request[count + 3] + 1u);
+    memset(s, 0x11, 80);
+    put64(s + 40, read);
+    put64(s + 56, written);
+    memcpy(s + 64, id, 16);
+    s += 80;
+    for (int i = 0; i < 3; i++) {
+        size_t padded = (opaques[i] + 3) / 4 * 4;
+        put32(s, (uint32_t)opaques[i]);
+        memset(s + 4, 0x7a, opaques[i]);
+        memset(s + 4 + opaques[i], 0, padded - opaques[i]);
+        s += 4 + padded;
+    }
+    memset(s, 0x22, 140);
+    put32(s + 140, 1);
+    s += 144;
+    put32(request + 48, (uint32_t)(s - request - 52));
+    return (size_t)(s - request);
+}
+
 /* A request of the client 1 on the file 7 gets the answer; its totals are so many bytes and flags, or zeros. */
 static void totals(const char *what, size_t len, uint64_t client, size_t room, uint32_t answer, const uint64_t *read, const uint64_t *written, uint32_t read_over, uint32_t written_over)
 {
@@ -476,6 +541,18 @@ static void counts_astray(void)
 }
 
 /* ---- random calls */
+static uint64_t seed = 1;
+
+static uint64_t random64(void)
+{
+    seed ^= seed << 13;
+    seed ^= seed >> 7;
+    seed ^= seed << 17;
+    return seed;
+}
+
+static uint64_t below(uint64_t n) { return random64() % n; }
+
 /* A list into lent slices, which are filled before the call. */
 struct listed {
     uint64_t files[ROOM], count, answer;
@@ -544,6 +621,21 @@ static void compare_lists(unsigned long n)
 
 /* How often a total was flagged, was 2^64 - 1 without a flag, and was neither that nor 0; how often one was a proxy's; and how often a proxy was blamed. */
 static unsigned long flagged, full, counted, of_proxies, blamed_proxies;
+
+/* So many statistics records of any devices at the end of a request, whose bytes often come to about 2^64. */
+static size_t statistics(size_t len, uint64_t many)
+{
+    static const uint64_t some[] = {0, 1, 4096, UINT64_MAX / 2, UINT64_MAX / 2 + 1, UINT64_MAX - 1, UINT64_MAX};
+    static const size_t lens[] = {0, 1, 4, 9, 127, 128};
+    size_t count = len - 4;
+    for (; many > 0; many--) {
+        size_t opaques[3];
+        for (int i = 0; i < 3; i++)
+            opaques[i] = below(40) ? lens[below(6)] : 129;
+        len = statistic(len, count, device[below(DEVICES)], some[below(7)], below(3) ? some[below(7)] : random64(), opaques);
+    }
+    return len;
+}
 
 static void tell(const uint64_t *sums, size_t len, uint32_t over)
 {

@@ -18,7 +18,6 @@ fi
 cat "$desk/marked.txt" "$desk/lines.txt" "$desk/proxies.txt" "$desk/counts.txt" "$desk/stateids.txt" > "$work/script"
 echo >> "$work/script"
 printf 'fresh\nregister 7 %032d\nopen 7 1\nrestart\nend\nresilver 3 3\nresilver 3 3 lowest\nresilver 0 3 lowest\nresilver 3 0 lowest\nlayoutreturn 7 1 30 -\nlayoutreturn 7 1 3 -\n' 1 >> "$work/script"
-printf 'head 32 setup\nhead 3 setup\ncluster join 3\ncluster may 3\nhead 3 register 7 %032d\nhead 3 open 7 1\nhead 3 restart\nhead 3 layoutreturn 7 1 30 -\nhead 3 complete 1\nhead 3 resilver 3 3\nhead 3 counts\n' 1 >> "$work/script"
 number=0
 for promise in $(grep -o '\(scribble\|breaks\)("[a-z0-9-]*"' "$desk/scribble.c" | cut -d'"' -f2 | sort -u); do
     SCRIBBLE=$promise "$work/replay" < "$work/script" > "$work/output" 2> "$work/message"

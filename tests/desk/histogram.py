@@ -4,7 +4,7 @@
     histogram.py COUNTS SCRIPT OUTPUT     adds a script's answers to the file COUNTS
     histogram.py COUNTS                   prints what was counted, and exits 1 if an answer was never given
 
-Only start's 28 can't be reached by calls, nor a head's restart's: it takes 2^64 - 2 starts; nor can a seqid above some hundreds, so tests/capi writes such ones into a record.
+Only start's 28 can't be reached by calls: it takes 2^64 - 2 starts; nor can a seqid above some hundreds, so tests/capi writes such ones into a record.
 In this order: the answers; keys of lines; the stateids that a script's answers leave; main.
 """
 import json
@@ -64,23 +64,6 @@ ANSWERS = {
     "can't be read": "?",
 }
 
-# Ticket 12: the lines of a record on a head, which has a few answers of its own; RECLAIM_COMPLETE; and the lines of the epochs on those that heads share.
-RECORD = "register open reclaim close repaired forget addproxy removeproxy stateid end layoutreturn totals counts".split() + [f"{l}{d}" for l in LISTS for d in ("", " lowest", " highest")]
-ANSWERS.update({f"head {command}": ANSWERS[command] for command in RECORD})
-ANSWERS["head reclaim"] += " 10013"
-ANSWERS.update({
-    "head restart": "0 2",
-    "head complete": "0 10033 10054 28",
-    "head setup": "0 22",
-    "head setup old": "0 22",
-    "head report": "0 10013 10033 70 10034 10036",
-    "head report, old record": "10025 10036",
-    "head ordinary": "0:zero 0:latest 10036:body 10013 70 10024:1 10025:ahead 10025:none 10025:closed 10025:restarted 10025:other-client 10025:other-file 10025:unknown",
-    "head ordinary, old record": "0:zero 0:latest 10036:body 10013 10024:1 10025:ahead 10025:none 10025:unknown",
-    "head ordinary, totals": "bytes proxy",
-})
-ANSWERS.update({f"cluster {command}": ANSWERS[command] for command in "join leave enforce stop may epochs".split()})
-
 
 def words_of(line):
     return line.replace(b"\t", b" ").replace(b"\r", b" ").split()
@@ -106,7 +89,7 @@ def keys(command, words):
     """The answers that one output line shows."""
     if words[0] == b"?":
         return [("can't be read", "?")]
-    if command in ("epochs", "cluster epochs"):
+    if command == "epochs":
         return [(command, "shown")]
     if command == "totals":
         kinds = total_kinds(words) + [f"proxy:{kind}" for kind in total_kinds(words[4:]) if kind != "zeros"]
@@ -120,23 +103,15 @@ def keys(command, words):
 
 
 def calls_of(script):
-    """Of each line that prints one: the head that it names, the command and its words; a line past the limit prints one whatever it holds."""
+    """The command of each line that prints one, and its words; a line past the limit prints one whatever it holds."""
     for line in script:
-        words = words_of(line.rstrip(b"\n") if line.lstrip().startswith((b"layoutreturn", b"stateid", b"head")) else line.rstrip(b"\n")[:128])
+        words = words_of(line.rstrip(b"\n") if line.lstrip().startswith((b"layoutreturn", b"stateid")) else line.rstrip(b"\n")[:128])
         if len(line.rstrip(b"\n")) > 524288:
-            yield None, b"too long", [b"too long"]
+            yield b"too long", [b"too long"]
         elif words and not words[0].startswith(b"#"):
-            head = words[0] == b"head" and len(words) > 2
-            yield (words[1].lstrip(b"0") if head else None, *command_of(words[2:] if head else words))
-
-
-def command_of(words):
-    """A call's command, with what else it asks for, and its words."""
-    if words[0] == b"cluster":
-        return b" ".join(words[:2]), words
-    asked = words[1:] if words[0] in (b"fresh", b"setup") else words[3:] if words[0] in (b"resilver", b"offered") else []
-    no_id = words[0] == b"addproxy" and len(words) == 3 and len(words[2]) != 32
-    return b" ".join(words[:1] + asked + [b"of no id"] * no_id), words
+            asked = words[1:] if words[0] == b"fresh" else words[3:] if words[0] in (b"resilver", b"offered") else []
+            no_id = words[0] == b"addproxy" and len(words) == 3 and len(words[2]) != 32
+            yield b" ".join(words[:1] + asked + [b"of no id"] * no_id), words
 
 
 def directions(before, after):
@@ -160,10 +135,10 @@ class Stateids:
         name = words[0].decode(errors="replace")
         if answer[0] == b"?":
             return []
-        if name in ("fresh", "setup"):
+        if name == "fresh":
             self.__init__()
             self.old = len(words) == 2
-        elif name == "restart" and answer[0] == b"0":
+        elif name == "restart":
             self.ended.update({(holder, other): "restarted" for holder, (other, _) in self.held.items()})
             self.held.clear()
         elif name == "close" and answer[0] == b"0":
@@ -189,10 +164,9 @@ class Stateids:
         return [("stateid", "22:same-file" if any(o == other for (file, _), (o, _) in self.held.items() if file == holder[0]) else "22:other-file")]
 
     def returned(self, holder, request, answer):
-        """A return with an all-zero or an ordinary stateid: its status, and of the other what decided it."""
+        """A return with an ordinary stateid: its status, with what decided it."""
         if request[24:32] != b"00000001" or len(request) < 104 or request[72:96] in (24 * b"0", 24 * b"f"):
-            anonymous = request[24:32] == b"00000001" and request[64:96] == 32 * b"0"
-            return [("report, old record" if self.old else "report", answer[0].decode())] if anonymous else []
+            return []
         status, given, other = answer[0].decode(), int(request[64:72], 16), request[72:96]
         why = self.why(status, holder, given, other, request)
         if status == "0":
@@ -225,7 +199,7 @@ class Stateids:
         return "unknown" if held else "none"
 
 
-def ordinary_totals(before, after):
+def ordinary_totals(stateids, before, after):
     """Of a return with an ordinary stateid, answered 0, and the totals asked for right after it: whether there are any, and any of a proxy."""
     if before != ("ordinary", "0") or after[0] != "totals":
         return []
@@ -233,32 +207,15 @@ def ordinary_totals(before, after):
     return [("ordinary, totals", kind) for kind, seen in kinds.items() if seen]
 
 
-class Calls:
-    """The calls on one record, a head's or not, each with the one before it."""
-
-    def __init__(self):
-        self.stateids, self.before, self.returned = Stateids(), ("", [b""]), None
-
-    def keys(self, name, words, answer):
-        of_stateids = self.stateids.keys(words, answer)
-        found = (keys(name, answer) if name != "stateid" else []) + of_stateids + directions(self.before, (name, answer)) + ordinary_totals(self.returned, (name, answer))
-        self.before, self.returned = (name, answer), next(((kind, key[:1]) for kind, key in of_stateids if key[:2] == "0:"), None)
-        return found
-
-
-def named(head, found):
-    """The keys of a head's call, by names of their own."""
-    return [(name if head is None or name == "can't be read" else f"head {name}", key) for name, key in found]
-
-
 def count(script_path, output_path, counts):
     with open(script_path, "rb") as script, open(output_path, "rb") as output:
-        calls, records = calls_of(script), {}
-        for (head, call, words), answer in zip(calls, output):
-            name, answered = call.decode(errors="replace"), answer.split()
-            if name in ("fresh", "fresh old") and answered == [b"0"]:
-                records = {None: records.get(None, Calls())}
-            counts.update(named(head, records.setdefault(head, Calls()).keys(name, words, answered)))
+        calls, before, stateids, returned = calls_of(script), ("", [b""]), Stateids(), None
+        for (call, all_words), answer in zip(calls, output):
+            name, words = call.decode(errors="replace"), answer.split()
+            of_stateids = stateids.keys(all_words, words)
+            counts.update((keys(name, words) if name != "stateid" else []) + of_stateids + directions(before, (name, words)))
+            counts.update(ordinary_totals(stateids, returned, (name, words)))
+            before, returned = (name, words), next(((kind, key[:1]) for kind, key in of_stateids if key[:2] == "0:"), None)
         if next(calls, None) is not None or output.read(1):
             sys.exit(f"histogram: {output_path} does not have a line for each call of {script_path}")
 
@@ -273,13 +230,10 @@ def show(counts):
         sys.exit("histogram: never answered: " + ", ".join(missing))
     if counts["directions", "differ"] < counts["directions", "agree"]:
         sys.exit("histogram: the two directions seldom differ")
-    for command in ("ordinary", "ordinary, old record", "head ordinary", "head ordinary, old record"):
+    for command in ("ordinary", "ordinary, old record"):
         accepted = counts[command, "0:zero"] + counts[command, "0:latest"]
         if 5 * accepted < sum(number for (name, key), number in counts.items() if name == command and key != "10013"):
             sys.exit(f"histogram: {command}: less than a fifth of the returns out of grace is accepted")
-    for command in ("head reclaim", "head report", "head complete"):
-        if 4 * counts[command, "0"] < sum(number for (name, _), number in counts.items() if name == command):
-            sys.exit(f"histogram: {command}: less than a quarter is accepted")
 
 
 def main():

@@ -59,7 +59,7 @@ def scripts(work):
         capture = os.path.join(DESK, "..", "captures", name + ".txt")
         subprocess.run([sys.executable, os.path.join(DESK, "captures.py"), name, capture, path, path + ".expected"], check=True)
         yield path
-    for name in ["marked", "incident", "lines", "directions", "proxies", "counts", "stateids", "heads"]:
+    for name in ["marked", "incident", "lines", "directions", "proxies", "counts", "stateids"]:
         yield os.path.join(DESK, name + ".txt")
 
 

@@ -27,7 +27,7 @@ compare() {
     fi
 }
 
-for name in incident marked lines directions proxies counts stateids heads; do
+for name in incident marked lines directions proxies counts stateids; do
     compare "$name" "$desk/$name.txt" "$desk/$name.expected"
 done
 "$desk/../rustc.sh" -O -o "$work/gen" "$desk/gen/main.rs" && "$work/gen" 99 20000 > "$work/script" && "$1" < "$work/script" > "$work/expected" || exit 1

@@ -1,5 +1,5 @@
 /* scribble: stands between replay and the libraries (ld's --wrap) and, after the real call, breaks the one promise that the environment's
-   SCRIBBLE names. guards.sh uses it to see that replay notices each. In this order: the choice; the record's calls; the wire check; the commit; epochs; heads. */
+   SCRIBBLE names. guards.sh uses it to see that replay notices each. In this order: the choice; the record's calls; the wire check; the commit; epochs. */
 #include "stellcircle.h"
 
 #include <stdlib.h>
@@ -196,93 +196,4 @@ uint32_t __wrap_sc_epochs_may_reclaim(const struct sc_epochs *e, uint32_t node)
     uint32_t answer = __real_sc_epochs_may_reclaim(e, node);
     scribble("may-epochs", e);
     return answer;
-}
-
-uint32_t __real_sc_cluster_join(struct sc_cluster *, uint32_t);
-uint32_t __wrap_sc_cluster_join(struct sc_cluster *, uint32_t);
-uint32_t __wrap_sc_cluster_join(struct sc_cluster *c, uint32_t node)
-{
-    uint32_t answer = __real_sc_cluster_join(c, node);
-    scribble("cluster-after", c + 1);
-    scribble("cluster-before", (uint8_t *)c - 1);
-    return answer;
-}
-
-uint32_t __real_sc_cluster_may_reclaim(const struct sc_cluster *, uint32_t);
-uint32_t __wrap_sc_cluster_may_reclaim(const struct sc_cluster *, uint32_t);
-uint32_t __wrap_sc_cluster_may_reclaim(const struct sc_cluster *c, uint32_t node)
-{
-    uint32_t answer = __real_sc_cluster_may_reclaim(c, node);
-    scribble("may-cluster", c);
-    return answer;
-}
-
-uint32_t __real_sc_head_fresh(struct sc_head *, uint32_t);
-uint32_t __wrap_sc_head_fresh(struct sc_head *, uint32_t);
-uint32_t __wrap_sc_head_fresh(struct sc_head *h, uint32_t node)
-{
-    uint32_t answer = __real_sc_head_fresh(h, node);
-    scribble("head-after", h + 1);
-    scribble("head-before", (uint8_t *)h - 1);
-    if (answer != 0)
-        scribble("head-on-22", h);
-    return breaks("head-of-node-32") ? 0 : answer;
-}
-
-uint32_t __real_sc_head_open(struct sc_head *, const struct sc_cluster *, uint64_t, uint64_t);
-uint32_t __wrap_sc_head_open(struct sc_head *, const struct sc_cluster *, uint64_t, uint64_t);
-uint32_t __wrap_sc_head_open(struct sc_head *h, const struct sc_cluster *c, uint64_t file, uint64_t client)
-{
-    uint32_t answer = __real_sc_head_open(h, c, file, client);
-    scribble("head-open-cluster", c);
-    scribble("head-open-after", h + 1);
-    return answer;
-}
-
-uint32_t __real_sc_head_complete(struct sc_head *, struct sc_cluster *, uint64_t);
-uint32_t __wrap_sc_head_complete(struct sc_head *, struct sc_cluster *, uint64_t);
-uint32_t __wrap_sc_head_complete(struct sc_head *h, struct sc_cluster *c, uint64_t client)
-{
-    uint32_t answer = __real_sc_head_complete(h, c, client);
-    scribble("head-complete-after", h + 1);
-    scribble("head-complete-cluster-after", c + 1);
-    return answer;
-}
-
-uint32_t __real_sc_head_layoutreturn(struct sc_head *, const struct sc_cluster *, uint64_t, uint64_t, const uint8_t *, size_t, uint8_t *, size_t, uint64_t *,
-                                     size_t, uint64_t *, size_t, uint32_t *, uint32_t *);
-uint32_t __wrap_sc_head_layoutreturn(struct sc_head *, const struct sc_cluster *, uint64_t, uint64_t, const uint8_t *, size_t, uint8_t *, size_t, uint64_t *,
-                                     size_t, uint64_t *, size_t, uint32_t *, uint32_t *);
-uint32_t __wrap_sc_head_layoutreturn(struct sc_head *h, const struct sc_cluster *c, uint64_t file, uint64_t client, const uint8_t *request,
-                                     size_t request_len, uint8_t *reply, size_t reply_len, uint64_t *read, size_t read_len, uint64_t *written,
-                                     size_t written_len, uint32_t *read_over, uint32_t *written_over)
-{
-    uint32_t answer = __real_sc_head_layoutreturn(h, c, file, client, request, request_len, reply, reply_len, read, read_len, written, written_len, read_over,
-                                                  written_over);
-    scribble("head-return-cluster", c);
-    scribble("head-reply-past-4", reply + 4);
-    scribble("head-totals-of-a-refusal", written);
-    scribble("head-request-after", request + request_len);
-    return answer;
-}
-
-uint32_t __real_sc_head_resilver_by(const struct sc_head *, uint64_t *, size_t, uint8_t *, size_t, uint64_t *, uint32_t);
-uint32_t __wrap_sc_head_resilver_by(const struct sc_head *, uint64_t *, size_t, uint8_t *, size_t, uint64_t *, uint32_t);
-uint32_t __wrap_sc_head_resilver_by(const struct sc_head *h, uint64_t *files, size_t files_len, uint8_t *sources, size_t sources_len, uint64_t *count,
-                                    uint32_t direction)
-{
-    uint32_t answer = __real_sc_head_resilver_by(h, files, files_len, sources, sources_len, count, direction);
-    scribble("head-listing-record", h);
-    scribble("head-listing-list", (const uint8_t *)(h + 1) - 1);
-    scribble("head-listing-count-after", count + 1);
-    return answer;
-}
-
-void __real_sc_head_counts(const struct sc_head *, uint64_t *, uint64_t *);
-void __wrap_sc_head_counts(const struct sc_head *, uint64_t *, uint64_t *);
-void __wrap_sc_head_counts(const struct sc_head *h, uint64_t *waiting, uint64_t *offered)
-{
-    __real_sc_head_counts(h, waiting, offered);
-    scribble("head-counts-record", h);
-    scribble("head-counts-waiting-after", waiting + 1);
 }

@@ -1,6 +1,5 @@
 #!/usr/bin/env python3
-"""corpus.py FOLDER: writes the fuzz targets' seeds, those of wire.c made from the captures into FOLDER/wire, and those of heads.c into FOLDER/heads; each file's first
-byte chooses as the target says."""
+"""corpus.py FOLDER: writes the fuzz target's seeds, made from the captures; each file's first byte chooses as wire.c says."""
 import hashlib
 import os
 import sys
@@ -139,36 +138,12 @@ def seeds():
             yield from chosen(other)
 
 
-JOIN, LEAVE, ENFORCE, STOP, MAY, REGISTER, OPEN, RECLAIM, CLOSE, REPAIRED, FORGET, ADD, REMOVE, SET_STATEID, END, RESTART, COMPLETE, SET_UP, RETURN = range(19)
-
-
-def call(number, head=0, file=1, client=0, says=0):
-    """A call as heads.c reads it; of a call on the cluster the client is the node."""
-    return bytes([number, head | file << 2, client, says])
-
-
-def heads_seeds():
-    """Grace periods of three heads that overlap, with reclaims, reports, RECLAIM_COMPLETEs and opens in each; and a list of clients that gets full."""
-    begin = b"".join(call(REGISTER, k, 1, 0, 2) + call(OPEN, k, 1, 1) + call(OPEN, k, 1, 2) + call(SET_STATEID, k, 1, 1, 0x51) + call(RETURN, k, 1, 1, 6) for k in range(3))
-    enforce = b"".join(call(ENFORCE, client=k) for k in range(3))
-    in_grace = b"".join(call(RECLAIM, k, 1, 1) + call(RETURN, k, 1, 1, 64) + call(OPEN, k, 1, 3) + call(COMPLETE, k, 1, 1) + call(RECLAIM, k, 1, 1) for k in range(3))
-    ends = call(COMPLETE, 0, 1, 2) + call(OPEN, 0, 1, 3) + call(RETURN, 0, 1, 1, 0) + call(END, 1) + call(COMPLETE, 2, 1, 2) + call(OPEN, 0, 1, 3) + call(STOP)
-    full = b"".join(call(COMPLETE, 0, 1, 100 + c) for c in range(66)) + call(END)
-    for members in (0x38, 0x39, 0x18, 0x3F):
-        choice = bytes([members])
-        yield choice + begin
-        yield choice + begin + call(RESTART, 0) + call(RESTART, 1) + in_grace
-        yield choice + begin + call(RESTART, 0) + call(RESTART, 2) + enforce + in_grace + ends + call(RESTART, 0)
-        yield choice + begin + call(RESTART, 0) + enforce + full
-
-
 def main():
-    for name, made in (("wire", seeds()), ("heads", heads_seeds())):
-        folder = os.path.join(sys.argv[1], name)
-        os.makedirs(folder, exist_ok=True)
-        for seed in made:
-            with open(os.path.join(folder, hashlib.sha1(seed).hexdigest()), "wb") as file:
-                file.write(seed)
+    folder = sys.argv[1]
+    os.makedirs(folder, exist_ok=True)
+    for seed in seeds():
+        with open(os.path.join(folder, hashlib.sha1(seed).hexdigest()), "wb") as file:
+            file.write(seed)
 
 
 if __name__ == "__main__":

@@ -3,20 +3,52 @@
    size, 6 and 7 the room for its body. LAYOUTRETURN: bit 1 grace, 2 and 3 whether the file is registered, has an intent, or has an intent and a proxy, 4 and 5 how many mirrors, 6 and 7 the
    edition and the reply's room. The other bytes are the body, the list or the request, whose length also chooses how many totals are lent, the bytes of a device that is to be a proxy, and which stateid the client has out of grace, mostly the request's own, and how often it is raised before; of a LAYOUTCOMMIT a count of extents (2 bytes), the extents and the commit list. The libraries are not instrumented
    (plain C is, and steers towards new cases), so every body, list, request, reply and total lent to them lies against a page that can't be touched, once at its start and once at its end.
-   In this order: what is lent; layout bodies; lists; merging; LAYOUTCOMMIT; reports; the record; proxies; stateids; LAYOUTRETURN; the target. */
-#include "pages.h"
-
+   In this order: pages; layout bodies; lists; merging; LAYOUTCOMMIT; reports; the record; proxies; stateids; LAYOUTRETURN; the target. */
+#define _DEFAULT_SOURCE
 #include "bytes.h"
 #include "plain.h"
 #include "stellcircle.h"
 
-enum { FILE_NUMBER = 7, CLIENT = 1, FILL = 0x5a };
+#include <inttypes.h>
+#include <stdio.h>
+#include <stdlib.h>
+#include <string.h>
+#include <sys/mman.h>
+
+enum { PAGE = 4096, REGION = 17 * PAGE, FILE_NUMBER = 7, CLIENT = 1, FILL = 0x5a };
 
 PLAIN(plain_)
 
 int LLVMFuzzerTestOneInput(const uint8_t *data, size_t size);
 
-/* ---- What is lent ---- */
+static void differ(const char *what, uint64_t got, uint64_t wanted)
+{
+    fprintf(stderr, "wire: %s: the library says %" PRIu64 ", plain C %" PRIu64 "\n", what, got, wanted);
+    abort();
+}
+
+static void same(const char *what, uint64_t got, uint64_t wanted)
+{
+    if (got != wanted)
+        differ(what, got, wanted);
+}
+
+/* ---- Pages ---- */
+
+/* A region between two pages that can't be touched. */
+static uint8_t *make_region(void)
+{
+    uint8_t *all = mmap(NULL, REGION + 2 * PAGE, PROT_NONE, MAP_PRIVATE | MAP_ANONYMOUS, -1, 0);
+    if (all == MAP_FAILED || mprotect(all + PAGE, REGION, PROT_READ | PROT_WRITE) != 0)
+        abort();
+    return all + PAGE;
+}
+
+/* `len` bytes at the region's start or end. */
+static uint8_t *at_edge(uint8_t *region, size_t len, bool end)
+{
+    return end ? region + REGION - len : region;
+}
 
 /* A region for each thing that is lent. */
 enum { INPUT, REPLY, READ, WRITTEN, READ_OVER, WRITTEN_OVER, WANTED, STORAGES, STATES, COMMITS, DEVICE, OTHER, WAITING, OFFERED, REGIONS };

@@ -10,7 +10,7 @@
 #include <stdint.h>
 
 /* A file's proxy has the place after those of its mirrors. */
-enum { PLAIN_FILES = 64, PLAIN_MIRRORS = 4, PLAIN_PROXY = PLAIN_MIRRORS, PLAIN_PLACES = PLAIN_PROXY + 1, PLAIN_INTENTS = 8, PLAIN_NODES = 32, PLAIN_COMPLETED = 64 };
+enum { PLAIN_FILES = 64, PLAIN_MIRRORS = 4, PLAIN_PROXY = PLAIN_MIRRORS, PLAIN_PLACES = PLAIN_PROXY + 1, PLAIN_INTENTS = 8, PLAIN_NODES = 32 };
 
 /* The directions that a source is looked for from. */
 enum { PLAIN_LOWEST = 1, PLAIN_HIGHEST = 2 };
@@ -47,13 +47,6 @@ struct plain_record {
 struct plain_epochs {
     uint64_t current, recovery;
     uint32_t members, need, enforcing;
-};
-
-/* A head: its record, the clients that have sent RECLAIM_COMPLETE since its latest restart, how many, and its node. */
-struct plain_head {
-    struct plain_record own;
-    uint64_t completed[PLAIN_COMPLETED];
-    uint32_t count, node;
 };
 
 #define PLAIN(P) \
@@ -101,28 +94,7 @@ struct plain_head {
     uint32_t P##epochs_enforce(struct plain_epochs *, uint32_t); \
     uint32_t P##epochs_finish(struct plain_epochs *, uint32_t); \
     uint32_t P##epochs_stop_enforcing(struct plain_epochs *, uint32_t); \
-    uint32_t P##epochs_may_reclaim(const struct plain_epochs *, uint32_t); \
-    uint32_t P##head_fresh(struct plain_head *, uint32_t); \
-    uint32_t P##head_fresh_old(struct plain_head *, uint32_t); \
-    uint32_t P##head_register(struct plain_head *, uint64_t, const uint8_t *, size_t); \
-    uint32_t P##head_open(struct plain_head *, const struct plain_epochs *, uint64_t, uint64_t); \
-    uint32_t P##head_reclaim(struct plain_head *, const struct plain_epochs *, uint64_t, uint64_t); \
-    uint32_t P##head_close(struct plain_head *, uint64_t, uint64_t); \
-    uint32_t P##head_repaired(struct plain_head *, uint64_t); \
-    uint32_t P##head_forget(struct plain_head *, uint64_t); \
-    uint32_t P##head_add_proxy(struct plain_head *, uint64_t, const uint8_t *, size_t); \
-    uint32_t P##head_remove_proxy(struct plain_head *, uint64_t); \
-    uint32_t P##head_set_up_stateid(struct plain_head *, uint64_t, uint64_t, const uint8_t *, size_t); \
-    uint32_t P##head_end_grace(struct plain_head *, struct plain_epochs *); \
-    uint32_t P##head_restart(struct plain_head *, struct plain_epochs *); \
-    uint32_t P##head_complete(struct plain_head *, struct plain_epochs *, uint64_t); \
-    uint32_t P##head_layoutreturn(struct plain_head *, const struct plain_epochs *, uint64_t, uint64_t, const uint8_t *, size_t, uint8_t *, size_t, uint64_t *, \
-                                  size_t, uint64_t *, size_t, uint32_t *, uint32_t *); \
-    uint32_t P##head_resilver(const struct plain_head *, uint64_t *, size_t, uint8_t *, size_t, uint64_t *); \
-    uint32_t P##head_offered(const struct plain_head *, uint64_t *, size_t, uint8_t *, size_t, uint64_t *); \
-    uint32_t P##head_resilver_by(const struct plain_head *, uint64_t *, size_t, uint8_t *, size_t, uint64_t *, uint32_t); \
-    uint32_t P##head_offered_by(const struct plain_head *, uint64_t *, size_t, uint8_t *, size_t, uint64_t *, uint32_t); \
-    void P##head_counts(const struct plain_head *, uint64_t *, uint64_t *);
+    uint32_t P##epochs_may_reclaim(const struct plain_epochs *, uint32_t);
 
 /* In the sources: FN(f) is the name of function f. */
 #ifdef NAME

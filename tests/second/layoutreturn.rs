@@ -249,16 +249,13 @@ pub enum Return {
     Ordinary(Stateid, Vec<u8>),
 }
 
-/// Steps 1 to 3, and step 4 as far as edition, bar, phase and kind decide it.
-pub fn judge(edition: Edition, bar: Result<(), u32>, in_grace: bool, room: usize, request: &[u8]) -> Result<Return, Other> {
+/// Steps 1 to 3, and step 4 as far as edition, phase and kind decide it.
+pub fn judge(edition: Edition, in_grace: bool, room: usize, request: &[u8]) -> Result<Return, Other> {
     if room < 24 {
         return Err(Other::NoRoom);
     }
     let (kind, stateid, body) = check(request)?;
     refuse_if(edition == Edition::Old && kind == Kind::Anonymous, BAD_STATEID)?;
-    if kind == Kind::Anonymous {
-        bar?;
-    }
     match (in_grace, kind) {
         (true, Kind::Anonymous) => Ok(Return::Anonymous(body)),
         (true, _) => Err(GRACE.into()),

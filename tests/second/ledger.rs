@@ -175,13 +175,8 @@ impl Ledger {
     }
 
     /// The refusal of calls that belong in grace.
-    pub fn in_grace(&self) -> Result<(), u32> {
+    fn in_grace(&self) -> Result<(), u32> {
         refuse_if(!self.in_grace, NO_GRACE)
-    }
-
-    /// Every client that has an intent, on whichever file.
-    pub fn clients(&self) -> BTreeSet<u64> {
-        self.rows.values().flat_map(|row| row.intents.iter().copied()).collect()
     }
 
     pub fn register(&mut self, file: u64, mirrors: &[u8]) -> Result<(), u32> {
@@ -284,9 +279,9 @@ impl Ledger {
         Ok(())
     }
 
-    /// A LAYOUTRETURN: the stateid of its reply, and its totals. `bar` is what refuses an all-zero report in step 4 (Ticket 12).
-    pub fn layoutreturn(&mut self, bar: Result<(), u32>, file: u64, client: u64, room: usize, request: &[u8]) -> Result<(Stateid, Totals), Other> {
-        match layoutreturn::judge(self.edition, bar, self.in_grace, room, request)? {
+    /// A LAYOUTRETURN: the stateid of its reply, and its totals.
+    pub fn layoutreturn(&mut self, file: u64, client: u64, room: usize, request: &[u8]) -> Result<(Stateid, Totals), Other> {
+        match layoutreturn::judge(self.edition, self.in_grace, room, request)? {
             Return::Anonymous(body) => Ok((Stateid { seqid: 0, other: [0; 12] }, self.anonymous(file, client, &body)?)),
             Return::Ordinary(stateid, body) => Ok(self.ordinary(file, client, stateid, &body)?),
         }

@@ -1,10 +1,8 @@
-//! The second program: speaks the lines of replay (man/stellcircle-replay.1) and prints the same, but is written from the papers alone, over maps and sets.
-//! In this order: refusals; the commands, first a record's; what they print; one line; main. `words` reads words; `layout`, `merge`, `commit`, `layoutreturn`,
-//! `ledger`, `epochs` and `heads` hold the rules, `examples` the marked ones.
+//! The second program: speaks the lines of replay (man/stellcircle-replay.1) and prints the same, but is written from the paper alone, over maps and sets.
+//! In this order: refusals; the commands; what they print; one line; main. `words` reads words, `layout`, `merge`, `commit`, `layoutreturn`, `ledger` and `epochs` hold the rules, `examples` the marked ones.
 
 mod commit;
 mod epochs;
-mod heads;
 mod layout;
 mod layoutreturn;
 mod ledger;
@@ -15,13 +13,11 @@ mod words;
 mod examples;
 
 use epochs::Epochs;
-use heads::Head;
 use layout::{list, Extent, Kind};
 use layoutreturn::{Other, Stateid};
 use ledger::{Edition, Ledger, Totals};
-use std::collections::BTreeMap;
 use std::io::{self, BufRead, Write};
-use words::{bytes, direction, node, number, room, split, text, MAX_BODY, MAX_LINE, MAX_LIST, MAX_REQUEST};
+use words::{bytes, direction, node, number, room, split, MAX_BODY, MAX_LINE, MAX_LIST, MAX_REQUEST};
 
 /// A refusal with its number, where it applies.
 pub fn refuse_if(refused: bool, number: u32) -> Result<(), u32> {
@@ -32,22 +28,23 @@ pub fn refuse_if(refused: bool, number: u32) -> Result<(), u32> {
     }
 }
 
-/// A recovery record that lines run on.
-pub struct Record {
-    pub ledger: Ledger,
+/// What the calls run on.
+struct Desk {
+    ledger: Ledger,
+    epochs: Epochs,
     /// Of the latest LAYOUTRETURN.
     totals: Totals,
 }
 
-impl Record {
-    pub fn fresh(edition: Edition) -> Record {
-        Record { ledger: Ledger::fresh(edition), totals: Totals::default() }
+impl Desk {
+    fn fresh(edition: Edition) -> Desk {
+        Desk { ledger: Ledger::fresh(edition), epochs: Epochs::fresh(), totals: Totals::default() }
     }
 
-    /// Runs a command of the record and gives the line that it prints; `None` where the words can't be read, and then nothing changed.
-    /// `bar` is what refuses an all-zero report in step 4 (Ticket 12).
-    fn run(&mut self, bar: Result<(), u32>, name: &str, arguments: &[&[u8]]) -> Option<String> {
-        match (name, arguments) {
+    /// Runs one command and gives the line that it prints; `None` where the words can't be read, and then nothing changed.
+    fn run(&mut self, words: &[&[u8]]) -> Option<String> {
+        let name = std::str::from_utf8(words[0]).ok()?;
+        match (name, &words[1..]) {
             ("register", [f, m]) => {
                 let (file, mirrors) = (number(f)?, bytes(m, MAX_REQUEST)?);
                 Some(answered(self.ledger.register(file, &mirrors)))
@@ -67,36 +64,24 @@ impl Record {
             ("restart", []) => Some(answered(self.ledger.restart())),
             ("layoutreturn", [f, c, r, q]) => {
                 let (file, client, room, request) = (number(f)?, number(c)?, room(r)?, bytes(q, MAX_REQUEST)?);
-                let call = self.ledger.layoutreturn(bar, file, client, room, &request);
+                let call = self.ledger.layoutreturn(file, client, room, &request);
                 self.totals = call.as_ref().map_or(Totals::default(), |(_, totals)| *totals);
                 Some(said(call))
             }
+            ("request", [q]) => Some(asked(&bytes(q, MAX_REQUEST)?)),
             ("totals", []) => Some(summed(&self.totals)),
             ("resilver", [f, s, asked @ ..]) => Some(listed(self.ledger.resilver(direction(asked)?), room(f)?, room(s)?)),
             ("offered", [f, s, asked @ ..]) => Some(listed(self.ledger.offered(direction(asked)?), room(f)?, room(s)?)),
             ("counts", []) => Some(counted(self.ledger.counts())),
-            _ => None,
-        }
-    }
-}
-
-/// What the calls run on: a record and epochs, each by itself, and the heads of a cluster by node (Ticket 12), with the epochs that these share.
-struct Desk {
-    record: Record,
-    epochs: Epochs,
-    heads: BTreeMap<u32, Head>,
-    shared: Epochs,
-}
-
-impl Desk {
-    fn fresh(edition: Edition) -> Desk {
-        Desk { record: Record::fresh(edition), epochs: Epochs::fresh(), heads: BTreeMap::new(), shared: Epochs::fresh() }
-    }
-
-    /// Runs one command and gives the line that it prints; `None` where the words can't be read, and then nothing changed.
-    fn run(&mut self, words: &[&[u8]]) -> Option<String> {
-        let (name, arguments) = (text(words[0])?, &words[1..]);
-        match (name, arguments) {
+            ("layout", [b]) => Some(laid_out(Kind::Scsi, &bytes(b, MAX_BODY)?)),
+            ("rdma", [b]) => Some(laid_out(Kind::Rdma, &bytes(b, MAX_BODY)?)),
+            ("write", [r, e]) => Some(written(Kind::Scsi, room(r)?, &list(Kind::Scsi, &bytes(e, MAX_LIST)?)?)),
+            ("merge", [r, e]) => Some(put(merge::merge(&list(Kind::Scsi, &bytes(e, MAX_LIST)?)?, room(r)?))),
+            ("commit", [b, r, c, e]) => {
+                let (block, room, commits, extents) = (number(b)?, room(r)?, bytes(c, MAX_BODY)?, bytes(e, MAX_LIST)?);
+                Some(put(commit::commit(&list(Kind::Scsi, &extents)?, block, &commits, room)))
+            }
+            ("rdmawrite", [r, e]) => Some(written(Kind::Rdma, room(r)?, &list(Kind::Rdma, &bytes(e, MAX_LIST)?)?)),
             ("fresh", []) => {
                 *self = Desk::fresh(Edition::Current);
                 Some("0".to_string())
@@ -105,65 +90,27 @@ impl Desk {
                 *self = Desk::fresh(Edition::Old);
                 Some("0".to_string())
             }
-            ("cluster", [b"start" | b"finish", ..]) => None,
-            ("cluster", [call, arguments @ ..]) => run_on_epochs(&mut self.shared, text(call)?, arguments),
-            ("head", [n, b"setup"]) => Some(answered(self.set_up(node(n)?, Edition::Current))),
-            ("head", [n, b"setup", b"old"]) => Some(answered(self.set_up(node(n)?, Edition::Old))),
-            ("head", [n, call, arguments @ ..]) => run_on_head(self.heads.get_mut(&node(n)?)?, &mut self.shared, text(call)?, arguments),
-            _ => self.record.run(Ok(()), name, arguments).or_else(|| run_on_epochs(&mut self.epochs, name, arguments)).or_else(|| run_on_bytes(name, arguments)),
+            _ => self.run_on_epochs(name, &words[1..]),
         }
     }
 
-    fn set_up(&mut self, node: u32, edition: Edition) -> Result<(), u32> {
-        self.heads.insert(node, Head::set_up(node, edition)?);
-        Ok(())
-    }
-}
-
-/// The commands of a head: those that Ticket 12 names, and the others as its record has them.
-fn run_on_head(head: &mut Head, shared: &mut Epochs, name: &str, arguments: &[&[u8]]) -> Option<String> {
-    match (name, arguments) {
-        ("open", [f, c]) => Some(answered(head.open(shared, number(f)?, number(c)?))),
-        ("reclaim", [f, c]) => Some(answered(head.reclaim(shared, number(f)?, number(c)?))),
-        ("complete", [c]) => Some(answered(head.complete(shared, number(c)?))),
-        ("end", []) => Some(answered(head.end(shared))),
-        ("restart", []) => Some(answered(head.restart(shared))),
-        _ => head.record.run(head.bar(shared), name, arguments),
-    }
-}
-
-fn run_on_epochs(e: &mut Epochs, name: &str, arguments: &[&[u8]]) -> Option<String> {
-    match (name, arguments) {
-        ("join", [n]) => Some(answered(e.join(node(n)?))),
-        ("leave", [n]) => Some(answered(e.leave(node(n)?))),
-        ("start", [n]) => Some(answered(e.start(node(n)?))),
-        ("enforce", [n]) => Some(answered(e.enforce(node(n)?))),
-        ("finish", [n]) => Some(answered(e.finish(node(n)?))),
-        ("stop", [n]) => Some(answered(e.stop_enforcing(node(n)?))),
-        ("may", [n]) => Some(match e.may_reclaim(node(n)?) {
-            Ok(true) => "yes".to_string(),
-            Ok(false) => "no".to_string(),
-            Err(number) => number.to_string(),
-        }),
-        ("epochs", []) => Some(e.to_string()),
-        _ => None,
-    }
-}
-
-/// The commands that read and write bytes, and keep nothing.
-fn run_on_bytes(name: &str, arguments: &[&[u8]]) -> Option<String> {
-    match (name, arguments) {
-        ("request", [q]) => Some(asked(&bytes(q, MAX_REQUEST)?)),
-        ("layout", [b]) => Some(laid_out(Kind::Scsi, &bytes(b, MAX_BODY)?)),
-        ("rdma", [b]) => Some(laid_out(Kind::Rdma, &bytes(b, MAX_BODY)?)),
-        ("write", [r, e]) => Some(written(Kind::Scsi, room(r)?, &list(Kind::Scsi, &bytes(e, MAX_LIST)?)?)),
-        ("merge", [r, e]) => Some(put(merge::merge(&list(Kind::Scsi, &bytes(e, MAX_LIST)?)?, room(r)?))),
-        ("commit", [b, r, c, e]) => {
-            let (block, room, commits, extents) = (number(b)?, room(r)?, bytes(c, MAX_BODY)?, bytes(e, MAX_LIST)?);
-            Some(put(commit::commit(&list(Kind::Scsi, &extents)?, block, &commits, room)))
+    fn run_on_epochs(&mut self, name: &str, arguments: &[&[u8]]) -> Option<String> {
+        let e = &mut self.epochs;
+        match (name, arguments) {
+            ("join", [n]) => Some(answered(e.join(node(n)?))),
+            ("leave", [n]) => Some(answered(e.leave(node(n)?))),
+            ("start", [n]) => Some(answered(e.start(node(n)?))),
+            ("enforce", [n]) => Some(answered(e.enforce(node(n)?))),
+            ("finish", [n]) => Some(answered(e.finish(node(n)?))),
+            ("stop", [n]) => Some(answered(e.stop_enforcing(node(n)?))),
+            ("may", [n]) => Some(match e.may_reclaim(node(n)?) {
+                Ok(true) => "yes".to_string(),
+                Ok(false) => "no".to_string(),
+                Err(number) => number.to_string(),
+            }),
+            ("epochs", []) => Some(e.to_string()),
+            _ => None,
         }
-        ("rdmawrite", [r, e]) => Some(written(Kind::Rdma, room(r)?, &list(Kind::Rdma, &bytes(e, MAX_LIST)?)?)),
-        _ => None,
     }
 }
 

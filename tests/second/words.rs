@@ -1,4 +1,4 @@
-//! The words of a line: how a line is split, and how names, numbers, bytes and directions are read from words. The rules are those of man/stellcircle-replay.1.
+//! The words of a line: how a line is split, and how numbers, bytes and directions are read from words. The rules are those of man/stellcircle-replay.1.
 
 use crate::ledger::Direction;
 
@@ -18,17 +18,12 @@ pub fn split(line: &[u8]) -> Vec<&[u8]> {
     line.split(|b| b" \t\r".contains(b)).filter(|word| !word.is_empty()).collect()
 }
 
-/// The name of a command.
-pub fn text(word: &[u8]) -> Option<&str> {
-    std::str::from_utf8(word).ok()
-}
-
 /// A number of at most 64 bits.
 pub fn number(word: &[u8]) -> Option<u64> {
     if word.is_empty() || !word.iter().all(u8::is_ascii_digit) {
         return None;
     }
-    text(word)?.parse().ok()
+    std::str::from_utf8(word).ok()?.parse().ok()
 }
 
 /// A node's number: at most 32 bits.

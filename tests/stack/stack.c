@@ -1,5 +1,5 @@
-/* The stack that each call uses: those on a record, on a head and the epochs that heads share, on layout bodies and requests, on epochs. The call runs on a painted stack of its own, once with each of two colours, and the lowest byte that is no
- * longer paint says how deep it went. Record and head have 62 or 63 files, one of them with 7 or 8 intents; each call is answered as written beside it.
+/* The stack that each call uses: those on a record, on layout bodies and requests, on epochs. The call runs on a painted stack of its own, once with each of two colours, and the lowest byte that is no
+ * longer paint says how deep it went. The record has 62 or 63 files, one of them with 7 or 8 intents; each call is answered as written beside it.
  * Ends with 1 where a call takes more than LIMIT bytes or is answered otherwise. */
 #define _XOPEN_SOURCE 700
 #include "stellcircle.h"
@@ -11,8 +11,6 @@ enum { STACK = 256 * 1024, FILES = 64, LIMIT = 2048 };
 static _Alignas(64) unsigned char stack[STACK];
 static ucontext_t here, there;
 static struct sc_record record, before;
-static struct sc_head head, head_before;
-static struct sc_cluster cluster, cluster_before;
 static uint8_t mirrors[64], proxy[16], other[12], request[52 + 4 + 60 + 4], ordinary[sizeof request], bulk[16], reply[24], sources[FILES];
 static uint64_t files[FILES], count, waiting, waiting_offered, read_bytes[SC_PLACES], written_bytes[SC_PLACES];
 static uint32_t read_over, written_over;
@@ -53,40 +51,6 @@ static void resilver_by(void) { answer = sc_record_resilver_by(&record, files, F
 static void offered_by(void) { answer = sc_record_offered_by(&record, files, FILES, sources, FILES, &count, SC_LOWEST); }
 static void counts(void) { sc_record_counts(&record, &waiting, &waiting_offered); answer = 0; }
 static void resilver_by_none(void) { answer = sc_record_resilver_by(&record, files, FILES, sources, FILES, &count, 3); }
-
-static uint32_t head_layoutreturn(const uint8_t *s, size_t len)
-{
-    return sc_head_layoutreturn(&head, &cluster, 7, 1, s, len, reply, sizeof reply, read_bytes, SC_PLACES, written_bytes, SC_PLACES, &read_over, &written_over);
-}
-
-static void head_fresh(void) { answer = sc_head_fresh(&head, 3); }
-static void head_fresh_old(void) { answer = sc_head_fresh_old(&head, 3); }
-static void head_enter(void) { answer = sc_head_register(&head, 5, mirrors, sizeof mirrors); }
-static void head_open(void) { answer = sc_head_open(&head, &cluster, 7, 9); }
-static void head_close(void) { answer = sc_head_close(&head, 7, 9); }
-static void head_forget(void) { answer = sc_head_forget(&head, 5); }
-static void head_add_proxy(void) { answer = sc_head_add_proxy(&head, 13, proxy, sizeof proxy); }
-static void head_remove_proxy(void) { answer = sc_head_remove_proxy(&head, 13); }
-static void head_set_up(void) { answer = sc_head_set_up_stateid(&head, 7, 1, other, sizeof other); }
-static void head_returns(void) { answer = head_layoutreturn(ordinary, sizeof ordinary); }
-static void head_restart(void) { answer = sc_head_restart(&head, &cluster); }
-static void head_reclaim(void) { answer = sc_head_reclaim(&head, &cluster, 7, 1); }
-static void head_reports(void) { answer = head_layoutreturn(request, sizeof request); }
-static void head_handed_on(void) { answer = head_layoutreturn(bulk, sizeof bulk); }
-static void head_complete(void) { answer = sc_head_complete(&head, &cluster, 77); }
-static void head_complete_last(void) { answer = sc_head_complete(&head, &cluster, 1); }
-static void head_end_grace(void) { answer = sc_head_end_grace(&head, &cluster); }
-static void head_repaired(void) { answer = sc_head_repaired(&head, 7); }
-static void head_close_last(void) { answer = sc_head_close(&head, 7, 1); }
-static void head_resilver(void) { answer = sc_head_resilver(&head, files, FILES, sources, FILES, &count); }
-static void head_offered(void) { answer = sc_head_offered(&head, files, FILES, sources, FILES, &count); }
-static void head_counts(void) { sc_head_counts(&head, &waiting, &waiting_offered); answer = 0; }
-static void cluster_fresh(void) { sc_cluster_fresh(&cluster); answer = 0; }
-static void cluster_join(void) { answer = sc_cluster_join(&cluster, 3); }
-static void cluster_leave(void) { answer = sc_cluster_leave(&cluster, 3); }
-static void cluster_enforce(void) { answer = sc_cluster_enforce(&cluster, 3); }
-static void cluster_stop(void) { answer = sc_cluster_stop_enforcing(&cluster, 3); }
-static void cluster_may(void) { answer = sc_cluster_may_reclaim(&cluster, 3); }
 
 static void write_layout(void)
 {
@@ -137,17 +101,6 @@ static const struct { const char *what; void (*call)(void); uint32_t answer; } c
     {"resilver list, lowest", resilver_by, 0}, {"offered, lowest", offered_by, 0}, {"resilver, no direction", resilver_by_none, SC_INVAL},
     {"counts", counts, 0}, {"repaired", repaired, 0},
     {"fresh", fresh, 0}, {"fresh, old", fresh_old, 0},
-    {"head: register", head_enter, 0}, {"head: open", head_open, 0}, {"head: close", head_close, 0}, {"head: forget", head_forget, 0},
-    {"head: add proxy", head_add_proxy, 0}, {"head: remove proxy", head_remove_proxy, 0}, {"head: stateid", head_set_up, 0},
-    {"head: LAYOUTRETURN, ordinary", head_returns, 0}, {"head: LAYOUTRETURN, older", head_returns, SC_OLD_STATEID},
-    {"head: restart, no member", head_restart, SC_NOENT}, {"cluster: join", cluster_join, 0}, {"head: report, barred", head_reports, SC_NO_GRACE},
-    {"head: restart", head_restart, 0}, {"cluster: may reclaim", cluster_may, 1}, {"head: open, R isn't 0", head_open, SC_GRACE}, {"head: reclaim", head_reclaim, 0},
-    {"head: LAYOUTRETURN", head_reports, 0}, {"head: LAYOUTRETURN, handed on", head_handed_on, SC_HANDED_ON}, {"cluster: enforce", cluster_enforce, 0},
-    {"head: end of grace", head_end_grace, 0}, {"head: restart again", head_restart, 0}, {"head: reclaim again", head_reclaim, 0},
-    {"head: complete", head_complete, 0}, {"head: complete, the last", head_complete_last, 0}, {"cluster: stop enforcing", cluster_stop, 0},
-    {"head: resilver list", head_resilver, 0}, {"head: offered for copying", head_offered, 0}, {"head: counts", head_counts, 0},
-    {"head: close, in no grace", head_close_last, 0}, {"head: repaired", head_repaired, 0}, {"cluster: leave", cluster_leave, 0}, {"cluster: fresh", cluster_fresh, 0},
-    {"head: fresh", head_fresh, 0}, {"head: fresh, old", head_fresh_old, 0},
     {"layout write", write_layout, 0}, {"layout check", check_layout, 0}, {"layout extent", extent, 0}, {"layout merge", merge, 0},
     {"layout commit", commit, 0},
     {"RDMA layout write", write_rdma, 0}, {"RDMA layout check", check_rdma, 0}, {"request check", check_request, 0},
@@ -170,16 +123,12 @@ static size_t painted(void (*call)(void), unsigned char paint)
     return STACK - i;
 }
 
-/* the deeper of two runs on the same record, head and cluster */
+/* the deeper of two runs on the same record */
 static size_t used(void (*call)(void))
 {
     before = record;
-    head_before = head;
-    cluster_before = cluster;
     size_t first = painted(call, 0xa5);
     record = before;
-    head = head_before;
-    cluster = cluster_before;
     size_t second = painted(call, 0x5a);
     return first > second ? first : second;
 }
@@ -220,19 +169,6 @@ static void prepare(void)
     put32(bulk + 12, 2);
 }
 
-/* the same files and intents in a head of node 3, which is no member of the cluster yet */
-static void prepare_head(void)
-{
-    sc_cluster_fresh(&cluster);
-    sc_head_fresh(&head, 3);
-    for (uint64_t k = 0; k < 62; k++)
-        sc_head_register(&head, 7 + 3 * k, mirrors, sizeof mirrors);
-    sc_head_add_proxy(&head, 7, proxy, sizeof proxy);
-    for (uint64_t c = 1; c < 8; c++)
-        sc_head_open(&head, &cluster, 7, c);
-    sc_head_open(&head, &cluster, 10, 1);
-}
-
 /* invalid extents of 4,096 bytes that touch, of one device, each as far in storage as in the file; and ranges over every other one of them, half by half */
 static void prepare_extents(void)
 {
@@ -252,13 +188,12 @@ int main(void)
 {
     int bad = 0;
     prepare();
-    prepare_head();
     prepare_extents();
     size_t none = used(nothing);
     for (size_t k = 0; k < sizeof calls / sizeof calls[0]; k++) {
         size_t n = used(calls[k].call) - none;
         int otherwise = answer != calls[k].answer;
-        printf("%-28s %6zu bytes of stack%s%s\n", calls[k].what, n, n > LIMIT ? ", more than the limit" : "", otherwise ? ", answered otherwise" : "");
+        printf("%-24s %6zu bytes of stack%s%s\n", calls[k].what, n, n > LIMIT ? ", more than the limit" : "", otherwise ? ", answered otherwise" : "");
         bad |= n > LIMIT || otherwise;
     }
     return bad;

@@ -10,7 +10,6 @@ use Rattle.files.specs.declared.file.Closing.{Closing}
 use Rattle.files.specs.declared.file.File.{File}
 use Rattle.capi.specs.OneFile.{last_moved}
 use Rattle.capi.specs.Whole.{slid}
-use Rattle.capi.proofs.Fields.{intents}
 use Rattle.capi.proofs.Whole.{set_past}
 
 -- no place stays
@@ -44,14 +43,14 @@ module _ {A : Type 0} (e : A) where
       ∙ set_past e (take at xs) (slid (drop at xs)) (length (drop (suc at) xs))
       ∙ ap (λ (zs : List A). take at xs ++ zs) (subst (λ (zs : List A). set (slid zs) (length (drop (suc at) xs)) e ≡ pull e zs) (sym here) (slid-pulled (get_or xs at e) (drop (suc at) xs))))
 
-pub ended_so : (f : File) (at : ℕ) (s : Closing) → length f.intents ≡ 8 → draws intents no_intent slid f at (last_moved at) ≡ with_ended at s f
-unfolding intents pull
+pub ended_so : (f : File) (at : ℕ) (s : Closing) → length f.intents ≡ 8 → with_intents (draws 8 no_intent slid f.intents at (last_moved at)) f ≡ with_ended at s f
+unfolding pull
 ended_so f at s long = by (ltb at 8) refl
   where
     xs : List Intent
     xs = f.intents
 
-    by : (b : Bool) → ltb at 8 ≡ b → draws intents no_intent slid f at (last_moved at) ≡ with_intents (left_out no_intent at xs) f
+    by : (b : Bool) → ltb at 8 ≡ b → with_intents (draws 8 no_intent slid xs at (last_moved at)) f ≡ with_intents (left_out no_intent at xs) f
     by true e =
         let l : at < 8 = ltb-true at 8 e in
         let seven : last_moved at ≡ 7 = omega (arith, l) in

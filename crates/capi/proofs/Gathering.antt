@@ -3,14 +3,12 @@
 use Rattle.std.proofs.Common.{◌≡◌, ℕ, zero, suc, ◌+◌, Bool, true, false, cond, not, List, [], ◌∷◌, ◌++◌, map, length, get_or, set, replicate, sym, refl, ap, ◌∙◌, append_assoc, append-nil, arith, length-append, get_or-append-add}
 use lib.ListN.{length-replicate}
 use lib.Seq.{get_or_at, set_at, set-append_seam}
-use Rattle.records.proofs.Gathered.{gathers}
 use Rattle.places.specs.Lists.{any, chosen, fill}
 use Rattle.intents.specs.Intents.{no_intent, is_kept, is_lost, stayed_intent}
 use Rattle.intents.specs.declared.Intent.{Intent}
 use Rattle.files.specs.File.{with_intents, with_mark, ended_file}
 use Rattle.files.specs.declared.file.File.{File}
 use Rattle.capi.specs.Whole.{emptied_at, moved_to, gathered}
-use Rattle.capi.proofs.Fields.{intents, marked}
 
 -- ---- between two turns: ys stay, m places are emptied, and l is to come
 abbrev lay : List Intent → ℕ → List Intent → List Intent
@@ -35,13 +33,6 @@ module _ (ys : List Intent) (m : ℕ) (x : Intent) (l : List Intent) (i n : ℕ)
   moved y = rw count (set-append_seam ys no_intent (replicate m no_intent ++ l) y ∙ sym (append_assoc ys (y ∷ []) (replicate m no_intent ++ l)))
 
 -- ---- the turns
-gathers-so : (t i n : ℕ) (f : File) → gathers intents marked no_intent no_intent is_kept is_lost stayed_intent t i n f ≡ gathered t i n f
-unfolding gathered intents marked
-gathers-so zero i n f = refl
-gathers-so (suc t) i n f = λ j.
-    cond (is_kept (get_or f.intents i no_intent)) (gathers-so t (i + 1) (n + 1) (moved_to n (get_or f.intents i no_intent) (emptied_at i f)) j)
-    (cond (is_lost (get_or f.intents i no_intent)) (gathers-so t (i + 1) n (with_mark true (emptied_at i f)) j) (gathers-so t (i + 1) n (emptied_at i f) j))
-
 -- where they lead
 abbrev led : List Intent → ℕ → List Intent → File → File
 led ys m l f = with_mark (cond (any is_lost l) true f.marked) (with_intents (ys ++ fill (map stayed_intent (chosen is_kept l)) (replicate (m + length l) no_intent)) f)
@@ -117,9 +108,9 @@ all-turns [] ys m i n f at count =
     ap (λ (t : List Intent). with_intents (ys ++ t) f) (append-nil (replicate m no_intent) ∙ ap (λ (j : ℕ). replicate j no_intent) e)
 all-turns (x ∷ l) ys m i n f at count = one-turn x l (all-turns l) ys m i n at count f
 
-pub gathered-so : (f : File) → length f.intents ≡ 8 → gathers intents marked no_intent no_intent is_kept is_lost stayed_intent 8 0 0 f ≡ ended_file f
+pub gathered-so : (f : File) → length f.intents ≡ 8 → gathered 8 0 0 f ≡ ended_file f
 unfolding ended_file
 gathered-so f long =
     let e : 0 + length f.intents ≡ 8 = omega (arith, long) in
-    gathers-so 8 0 0 f ∙ ap (λ (k : ℕ). gathered k 0 0 f) (sym long) ∙ all-turns f.intents [] 0 0 0 f refl refl
+    ap (λ (k : ℕ). gathered k 0 0 f) (sym long) ∙ all-turns f.intents [] 0 0 0 f refl refl
     ∙ ap (λ (k : ℕ). with_mark (cond (any is_lost f.intents) true f.marked) (with_intents (fill (map stayed_intent (chosen is_kept f.intents)) (replicate k no_intent)) f)) e

@@ -1,10 +1,7 @@
--- Types, Fields: the record, a file, what a call answers, and the fields that a walk goes to, as the laws of `walks` and `records` take them.
--- Places: what is done at the place that is sought is what the definitions say. Lent: what C is handed of totals. OnFile: the law of a call on one file. Whole: a call that changes
+-- Places: what is done at the place that is sought is what the definitions say. Lent: what C is handed of totals. OnFile: what a call on one file does is what they say. Whole: a call that changes
 -- more than one file does what the definitions say. Gathering: so does the end of grace to the intents of one. Turns: so does a listing in place. Parting: so does LAYOUTRETURN. Ended: so does an intent that ends. SetUp: so does the
 -- set-up of a stateid. Tallying: a report without statistics has no totals. Settling: a return is settled by the two halves of a walk as
 -- the definitions say.
-mod Types
-mod Fields
 mod Places
 mod Lent
 mod OnFile

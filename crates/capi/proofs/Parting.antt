@@ -4,7 +4,6 @@ use Rattle.std.proofs.Common.{◌≡◌, ℕ, ◌≤◌, Bool, true, false, cond
 use lib.Seq.{set-get_or, set_out}
 use Rattle.places.proofs.Sets.{true-false}
 use Rattle.records.proofs.Headed.{if-called}
-use Rattle.records.proofs.Amended.{amends}
 use Rattle.mirroring.specs.Totals.{no_totals}
 use Rattle.wire.specs.Request.{request_of}
 use Rattle.wire.specs.Stateid.{no_stateid}
@@ -29,7 +28,6 @@ use Rattle.recovery.specs.declared.record.Record.{Record}
 use Rattle.recovery.proofs.Returning.{Placed, returned_at, returned-at, stateid-at}
 use Rattle.capi.specs.Place.{sought_in}
 use Rattle.capi.specs.LayoutReturn.{begun_of, body_read, outcome_in, returned_in, stateid_for, raised_each, changed_files}
-use Rattle.capi.proofs.Fields.{files}
 use Rattle.capi.proofs.Places.{sought-place}
 
 -- ---- the file is what it is by value; where the return is refused, it stays
@@ -39,8 +37,13 @@ report f o = blamed_file o.marks o.blamed f
 abbrev pub raises : Settled → Bool
 raises o = is_stated o.stateid
 
-pub changed-so : (r : Record) (i : ℕ) (o : Settled) → length r.files ≡ 64 → amends files no_file report raises raised_each r i o ≡ changed_files r i o
-unfolding files raised_each changed_files raised_file
+-- the file at the place i, where there is one
+abbrev pub amended : Record → ℕ → Settled → Record
+amended r i o =
+    if-called (ltb i 64) (with_files (set r.files i (if-called (raises o) (raised_each (report (get_or r.files i no_file) o) i o) (report (get_or r.files i no_file) o))) r) r
+
+pub changed-so : (r : Record) (i : ℕ) (o : Settled) → length r.files ≡ 64 → amended r i o ≡ changed_files r i o
+unfolding raised_each changed_files raised_file
 changed-so r i o long = by (ltb i 64) refl (raises o)
   where
     g : File

@@ -17,7 +17,6 @@ use Rattle.mirroring.specs.declared.source.Direction.{Direction}
 use Rattle.mirroring.specs.declared.source.Direction.TheVariants.{Lowest, Highest}
 use Rattle.capi.specs.Asked.{is_direction, direction_of, listing_by}
 use Rattle.capi.specs.Turns.{tally, begun, Carried, carried, is_short, written_of, turn_of}
-use Rattle.capi.proofs.Fields.{files}
 
 -- a slice that is not too short has room
 pub room : (n a b : ℕ) → is_short n a b ≡ false → (n ≤ a) × (n ≤ b)
@@ -36,7 +35,7 @@ module _ (k : Listing) (dir : Direction) (r : Record) (long : length r.files ≡
   hit j = is_wanted k (get_or r.files j no_file)
 
   abbrev turned : ℕ → Carried → Carried
-  turned i z = next files no_file turn_of r i z
+  turned i z = next 64 no_file turn_of r.files i z
 
   -- ---- the first 64 turns: before the place i there are n
   pub record Counts (i : ℕ) (z : Carried) : Type 0 where
@@ -46,7 +45,7 @@ module _ (k : Listing) (dir : Direction) (r : Record) (long : length r.files ≡
     pub is : z ≡ carried (tally 0 0 n k dir true) a b
 
   counts-on : (i : ℕ) (z : Carried) → i < 64 → Counts i z → Counts (i + 1) (turned i z)
-  unfolding files turn_of
+  unfolding turn_of
   counts-on i z l s = subst (λ (y : Carried). Counts (i + 1) (turned i y)) (sym s.is) (by (hit i) refl)
     where
       here : i % 64 ≡ i
@@ -88,7 +87,7 @@ module _ (k : Listing) (dir : Direction) (r : Record) (long : length r.files ≡
     in_list = omega (arith, long, l)
 
     writes-on : (z : Carried) → Writes j z → Writes (j + 1) (turned (64 + j) z)
-    unfolding files turn_of written_of
+    unfolding turn_of written_of
     writes-on z (filling m xs ys s g h v w is) = subst (λ (y : Carried). Writes (j + 1) (turned (64 + j) y)) (sym is) (by (hit j) refl)
       where
         by : (t : Bool) → t ≡ hit j → Writes (j + 1) (turned (64 + j) (carried (tally 0 m (length wanted) k dir true) xs ys))
@@ -138,33 +137,33 @@ module _ (k : Listing) (dir : Direction) (r : Record) (long : length r.files ≡
   over z (counting h s) = absurd (omega (arith, h))
   over z (writing j e s) = let q : j ≡ 64 = omega (arith, e) in ends z (subst (λ (n : ℕ). Writes n z) q s)
 
-  listed-so : Answered (goes files no_file turn_of r 128 0 (carried (tally 0 0 0 k dir true) a b))
-  listed-so = over (goes files no_file turn_of r 128 0 (carried (tally 0 0 0 k dir true) a b)) (kept files no_file turn_of r Stage 128 128 0 (carried (tally 0 0 0 k dir true) a b) refl on (counting (omega arith) (record { n = 0; few = omega arith; so = counting-none (is_wanted k) r.files; is = refl })))
+  listed-so : Answered (goes 64 no_file turn_of r.files 128 0 (carried (tally 0 0 0 k dir true) a b))
+  listed-so = over (goes 64 no_file turn_of r.files 128 0 (carried (tally 0 0 0 k dir true) a b)) (kept 64 no_file turn_of r.files Stage 128 128 0 (carried (tally 0 0 0 k dir true) a b) refl on (counting (omega arith) (record { n = 0; few = omega arith; so = counting-none (is_wanted k) r.files; is = refl })))
 
 -- ---- a number that is no direction: each turn leaves what is carried
 module _ (k : Listing) (r : Record) (a b : List ℕ) where
   abbrev refused : Carried
   refused = carried (tally 22 0 0 k Highest false) a b
 
-  stays : (i : ℕ) (z : Carried) → i < 128 → z ≡ refused → next files no_file turn_of r i z ≡ refused
-  unfolding files turn_of
-  stays i z l e = subst (λ (y : Carried). next files no_file turn_of r i y ≡ refused) (sym e) (by (ltb i 64))
+  stays : (i : ℕ) (z : Carried) → i < 128 → z ≡ refused → next 64 no_file turn_of r.files i z ≡ refused
+  unfolding turn_of
+  stays i z l e = subst (λ (y : Carried). next 64 no_file turn_of r.files i y ≡ refused) (sym e) (by (ltb i 64))
     where
       by : (t : Bool) → cond t refused refused ≡ refused
       by true = refl
       by false = refl
 
-  refused-so : goes files no_file turn_of r 128 0 refused ≡ refused
-  refused-so = kept files no_file turn_of r (λ i z. z ≡ refused) 128 128 0 refused refl stays refl
+  refused-so : goes 64 no_file turn_of r.files 128 0 refused ≡ refused
+  refused-so = kept 64 no_file turn_of r.files (λ i z. z ≡ refused) 128 128 0 refused refl stays refl
 
 abbrev Gives : Listing → ℕ → Record → List ℕ → List ℕ → Carried → Type 0
 Gives k n r a b z = listed z.0.status z.0.count z.1 z.2 ≡ listing_by k n r a b
 
-pub listed_by : (k : Listing) (n : ℕ) (r : Record) → length r.files ≡ 64 → (a b : List ℕ) → Gives k n r a b (goes files no_file turn_of r 128 0 (carried (begun k n) a b))
+pub listed_by : (k : Listing) (n : ℕ) (r : Record) → length r.files ≡ 64 → (a b : List ℕ) → Gives k n r a b (goes 64 no_file turn_of r.files 128 0 (carried (begun k n) a b))
 unfolding begun listing_by
 listed_by k n r long a b = by (is_direction n) refl
   where
-    by : (t : Bool) → is_direction n ≡ t → Gives k n r a b (goes files no_file turn_of r 128 0 (carried (cond t (tally 0 0 0 k (direction_of n) true) (tally 22 0 0 k Highest false)) a b))
+    by : (t : Bool) → is_direction n ≡ t → Gives k n r a b (goes 64 no_file turn_of r.files 128 0 (carried (cond t (tally 0 0 0 k (direction_of n) true) (tally 22 0 0 k Highest false)) a b))
     by true e = rw e (listed-so k (direction_of n) r long a b)
     by false e = rw e (ap (λ (z : Carried). listed z.0.status z.0.count z.1 z.2) (refused-so k r a b))
 

@@ -3,7 +3,6 @@ use Rattle.std.proofs.Common.{◌≡◌, ℕ, zero, suc, ◌+◌, ◌-◌, ◌<�
 use lib.Seq.{append_snoc, get_or_at, set-append_seam}
 use Rattle.records.proofs.Headed.{if-called}
 use Rattle.records.proofs.Drawn.{draws}
-use Rattle.records.proofs.Raised.{raises}
 use Rattle.records.proofs.Reached.{reach, reach-past}
 use Rattle.records.proofs.Slid.{slides}
 use Rattle.records.proofs.Tallied.{tallied as tallies}
@@ -26,7 +25,6 @@ use Rattle.recovery.proofs.Tallying.{ended-counts}
 use Rattle.capi.specs.Place.{sought_in}
 use Rattle.capi.specs.declared.Verdict.{Verdict}
 use Rattle.capi.specs.Whole.{end_verdict, forget_verdict, emptied_file, each_file, ended_each, admitted_of, room_sought, is_below, entered_files, slid, last_in, last_sought, pulled_files}
-use Rattle.capi.proofs.Fields.{files}
 use Rattle.capi.proofs.Places.{sought, sought-place}
 
 -- ---- a fresh record
@@ -71,19 +69,9 @@ room-so : (k : ℕ) (r : Record) → length r.files ≡ 64 → room_sought k r �
 unfolding room_sought room_in
 room-so k r h = sought is_vacant no_file r.files 63 (first is_vacant r.files) 63 0 (searching is_vacant r.files) (omega (arith, h)) (omega arith)
 
-raises-so : (s : FileAnswered) (i : ℕ) (r : Record) → raises files no_file s.file (λ y. is_below y.number s) i r ≡ with_files (raised s.file i r.files) r
-unfolding files raised
-raises-so s zero r = refl
-raises-so s (suc i) r = by (leb (get_or r.files i no_file).number s.file.number) (raises-so s i (with_files (set r.files (suc i) (get_or r.files i no_file)) r))
-  where
-    by : (b : Bool) → raises files no_file s.file (λ y. is_below y.number s) i (with_files (set r.files (suc i) (get_or r.files i no_file)) r) ≡ with_files (raised s.file i (set r.files (suc i) (get_or r.files i no_file))) (with_files (set r.files (suc i) (get_or r.files i no_file)) r)
-        → if-called b (with_files (set r.files (suc i) s.file) r) (raises files no_file s.file (λ y. is_below y.number s) i (with_files (set r.files (suc i) (get_or r.files i no_file)) r)) ≡ with_files (cond b (set r.files (suc i) s.file) (raised s.file i (set r.files (suc i) (get_or r.files i no_file)))) r
-    by true k = refl
-    by false k = k
-
-pub entered_so : (r : Record) (at : ℕ) (s : FileAnswered) → length r.files ≡ 64 → raises files no_file s.file (λ y. is_below y.number s) (room_sought 0 r) r ≡ entered_files r at s
+pub entered_so : (r : Record) (at : ℕ) (s : FileAnswered) → length r.files ≡ 64 → with_files (raised s.file (room_sought 0 r) r.files) r ≡ entered_files r at s
 unfolding entered_files enter
-entered_so r at s long = raises-so s (room_sought 0 r) r ∙ ap (λ i. with_files (raised s.file i r.files) r) (room-so 0 r long)
+entered_so r at s long = ap (λ i. with_files (raised s.file i r.files) r) (room-so 0 r long)
 
 -- a place that is found passes
 module _ {A : Type 0} (p : A → Bool) (d : A) where
@@ -220,14 +208,14 @@ pub set_past : {A : Type 0} (e : A) (p zs : List A) (n : ℕ) → set (p ++ zs) 
 set_past e [] zs n = let q : 0 + n ≡ n = omega arith in rw q refl
 set_past e (x ∷ p) zs n = let q : suc (length p) + n ≡ suc (length p + n) = omega arith in rw q (ap (◌∷◌ x) (set_past e p zs n))
 
-pub pulled-so : (r : Record) (at : ℕ) (v : Verdict) → length r.files ≡ 64 → draws files blank_file slid r at (last_sought r at) ≡ pulled_files r at v
-unfolding files last_sought pulled_files pulled last_in
+pub pulled-so : (r : Record) (at : ℕ) (v : Verdict) → length r.files ≡ 64 → with_files (draws 64 blank_file slid r.files at (last_sought r at)) r ≡ pulled_files r at v
+unfolding last_sought pulled_files pulled last_in
 pulled-so r at v long = by (ltb at 64) refl
   where
     fs : List File
     fs = r.files
 
-    inside : at < 64 → draws files blank_file slid r at (last_in fs (63 - at) at) ≡ with_files (without_file at fs) r
+    inside : at < 64 → with_files (draws 64 blank_file slid fs at (last_in fs (63 - at) at)) r ≡ with_files (without_file at fs) r
     inside l =
         let here : drop at fs ≡ get_or fs at no_file ∷ drop (suc at) fs = drop-cons fs at no_file (omega (arith, l, long)) in
         let m : ℕ = run (drop at fs) in
@@ -241,7 +229,7 @@ pulled-so r at v long = by (ltb at 64) refl
         ∙ set_past blank_file (take at fs) (slid (take (suc m) (drop at fs)) ++ drop (suc m) (drop at fs)) m
         ∙ ap (λ zs. take at fs ++ zs) (subst (λ (zs : List File). set (slid (take (suc (run zs)) zs) ++ drop (suc (run zs)) zs) (run zs) blank_file ≡ pulled zs) (sym here) (run-pulled (get_or fs at no_file) (drop (suc at) fs)))))
 
-    by : (b : Bool) → ltb at 64 ≡ b → draws files blank_file slid r at (last_in fs (63 - at) at) ≡ with_files (without_file at fs) r
+    by : (b : Bool) → ltb at 64 ≡ b → with_files (draws 64 blank_file slid fs at (last_in fs (63 - at) at)) r ≡ with_files (without_file at fs) r
     by true e = inside (ltb-true at 64 e)
     by false e =
         let l : 64 ≤ at = ltb-false at 64 e in

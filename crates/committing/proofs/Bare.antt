@@ -3,22 +3,20 @@ use Prim.Native.Nat.{ℕ, ◌+◌, ◌<◌, ◌≤◌}
 use mathlib.Core.Path.{◌≡◌, refl, sym, ◌∙◌}
 use mathlib.Core.List.{List, [], ◌∷◌}
 use mathlib.Core.Logic.{◌⊎◌, inl, inr}
-use mathlib.Core.Bool.{Bool, true, false, not, ◌&&◌, ◌||◌, false≢true}
+use mathlib.Core.Bool.{Bool, true, false, not, ◌||◌, false≢true}
 use native.Mathlib.Omega.{arith}
 use native.Mathlib.Decide.{dec_le, dec_lt}
 use borrow.Author.Tests.{eq-eqb, eqb-true, not-true}
 use lib.Dec.{eqb}
 use Rattle.extents.specs.Extents.{any_of}
-use Rattle.extents.specs.Sentences.{Covers}
 use Rattle.extents.specs.declared.Extent.{Extent}
 use Rattle.extents.proofs.Sentences.{and_both, by_cases}
-use Rattle.merging.specs.Meaning.{Some, All}
 use Rattle.committing.specs.Ranges.{Range, Within}
 use Rattle.committing.specs.Commit.{is_committed, lies, all_cuts}
 use Rattle.merging.proofs.Rules.{some-map, some-all, met}
 use Rattle.committing.proofs.Cuts.{Sorted, Cut, Ends, ExtentEnds, RangeEnds, all-cuts, Known, Outside, at-or-above}
 use Rattle.committing.proofs.Sweep.{or-true, Free, committed-said, committed-holds, lies-there, lies-here, any-said, any-holds, At, next, free-ranges, free-extents, begins}
-use Rattle.committing.specs.Bare.{Writable, Bare, writable_at, bare_at, bare_from, bare_over, is_bare, BareTold}
+use Rattle.committing.specs.Bare.{Writable, Bare, writable_at, bare_at, bare_from, bare_over, BareTold}
 
 -- ---- at one byte nothing begins or ends
 outside-one : (a n : ℕ) → Outside a (a + 1) n
@@ -87,6 +85,7 @@ module _ (rs : List Range) (es : List Extent) where
     from-holds a [] h l = absurd (met past rs h.ranges b.in-range)
       where
         ended : (n : ℕ) → Known a [] n → n ≤ a
+        ended n (inr x3) = elim x3 [ ]
         ended n (inl k) = k
 
         past : (r : Range) → Ends (Known a []) r.offset r.len → Within b.byte r → ⊥

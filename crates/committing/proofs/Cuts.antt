@@ -64,6 +64,7 @@ is_cut n (c ∷ cuts) = by (ltb n c) (eqb n c) refl (is_cut n cuts)
 
 still-cut : (n k : ℕ) (cuts : List ℕ) → Cut cuts k → Cut (cut_at n cuts) k
 unfolding cut_at
+still-cut n k [] h = elim h [ ]
 still-cut n k (c ∷ cuts) h = by (ltb n c) (eqb n c) h (still-cut n k cuts)
   where
     by : (s t : Bool) → Cut (c ∷ cuts) k → (Cut cuts k → Cut (cut_at n cuts) k) → Cut (cond s (n ∷ c ∷ cuts) (cond t (c ∷ cuts) (c ∷ cut_at n cuts))) k
@@ -121,6 +122,7 @@ abbrev pub Outside : ℕ → ℕ → ℕ → Type 0
 Outside a b n = (n ≤ a) ⊎ (b ≤ n)
 
 pub at-or-above : (b n : ℕ) (cuts : List ℕ) → Rising b cuts → Cut cuts n → b ≤ n
+at-or-above b n [] r x = elim x [ ]
 at-or-above b n (c ∷ cuts) r (inl q) = omega (arith, r.0)
 at-or-above b n (c ∷ cuts) r (inr h) =
     let g : c ≤ n = at-or-above c n cuts r.1 h in

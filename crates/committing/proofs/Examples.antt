@@ -2,7 +2,7 @@
 -- follows a read-write extent; no range, which merges; 10034's test under read and under a hole; 22's test on ranges that touch, overlap or are not aligned.
 use Prim.Native.Nat.{ℕ}
 use mathlib.Core.Path.{◌≡◌, refl}
-use mathlib.Core.List.{List, [], ◌∷◌}
+use mathlib.Core.List.{[], ◌∷◌}
 use mathlib.Core.Bool.{true, false}
 use lib.ListN.{replicate}
 use Rattle.xdr.specs.Reader.{same_bytes}

@@ -1,14 +1,13 @@
 -- The cuts to come. In this order: a cut begins or ends something; the next cut; no cut is left; what a test chooses, as one place.
-use Prim.Native.Nat.{ℕ, zero, suc, ◌+◌, ◌-◌, ◌<◌, ◌≤◌}
+use Prim.Native.Nat.{ℕ, zero, suc, ◌+◌, ◌<◌, ◌≤◌}
 use mathlib.Core.Path.{◌≡◌, refl, sym, ap, ◌∙◌}
-use mathlib.Core.List.{List, [], ◌∷◌, ◌++◌, map}
+use mathlib.Core.List.{List, [], ◌∷◌}
 use mathlib.Core.Logic.{◌⊎◌, inl, inr}
-use mathlib.Core.Bool.{Bool, true, false, cond, not, ◌&&◌, ◌||◌, false≢true}
+use mathlib.Core.Bool.{Bool, true, false, cond, not, ◌||◌, false≢true}
 use native.Mathlib.Omega.{arith}
-use native.Mathlib.Decide.{dec_le, dec_lt, ℕ_discrete}
-use borrow.Author.Tests.{lt-ltb, le-ltb, ltb-true, ltb-false, eqb-true, eqb-false}
-use lib.Dec.{leb, ltb, eqb}
-use lib.ListN.{length}
+use native.Mathlib.Decide.{ℕ_discrete}
+use borrow.Author.Tests.{lt-ltb, le-ltb, ltb-true, ltb-false}
+use lib.Dec.{ltb, eqb}
 use Rattle.extents.specs.Extents.{list_from, any_of}
 use Rattle.extents.specs.declared.Extent.{Extent}
 use Rattle.extents.proofs.Sentences.{by_cases}
@@ -23,6 +22,7 @@ use Rattle.committing.specs.Seek.{above}
 -- ---- what holds of every begin and end holds of every cut
 cut-from : (n k : ℕ) (cuts : List ℕ) → Cut (cut_at n cuts) k → (n ≡ k) ⊎ Cut cuts k
 unfolding cut_at
+cut-from n k [] (inr x) = elim x [ ]
 cut-from n k [] (inl q) = inl q
 cut-from n k (c ∷ cuts) h = by (ltb n c) (eqb n c) h (cut-from n k cuts)
   where
@@ -71,6 +71,7 @@ rising-sorted a (c ∷ cuts) r = r.1
 
 pub next-cut : (x y : ℕ) (cuts : List ℕ) → Sorted cuts → Cut cuts y → x < y → ((c : ℕ) → Cut cuts c → x < c → y ≤ c) → above x cuts ≡ y ∷ above y cuts
 unfolding above
+next-cut x y [] r k l least = elim k [ ]
 next-cut x y (c ∷ cuts) r k l least = by (ltb x c) refl (ltb y c) refl k (λ g. next-cut x y cuts (rising-sorted c cuts r) g l (λ d h. least d (inr h)))
   where
     by : (s : Bool) → ltb x c ≡ s → (t : Bool) → ltb y c ≡ t → Cut (c ∷ cuts) y → (Cut cuts y → above x cuts ≡ y ∷ above y cuts) → cond s (c ∷ cuts) (above x cuts) ≡ y ∷ cond t (c ∷ cuts) (above y cuts)

@@ -15,7 +15,7 @@ use Rattle.extents.proofs.OnePass.{or_left}
 use Rattle.merging.specs.Meaning.{All}
 use Rattle.merging.proofs.Rules.{or-rest, all_map, all-map₂}
 use Rattle.committing.proofs.Places.{from_next, from-done}
-use Rattle.committing.specs.Ranges.{Range, Within, malformed, Aligned, InOrder, AllPairs, Committable, unfit, any_unfit, CommittableTold}
+use Rattle.committing.specs.Ranges.{Range, malformed, Aligned, InOrder, AllPairs, Committable, unfit, any_unfit, CommittableTold}
 
 -- ---- one range, test by test
 module _ (block before : ℕ) (r : Range) where

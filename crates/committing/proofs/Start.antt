@@ -1,23 +1,23 @@
 -- The sweep from byte 0. In this order: every begin and end is passed or to come; no piece and no bare byte lies before the first cut; how many cuts; the
 -- next cut of several.
-use Prim.Native.Nat.{ℕ, zero, suc, ◌+◌, ◌-◌, ◌*◌, ◌^◌, ◌<◌, ◌≤◌, min}
-use mathlib.Core.Path.{◌≡◌, refl, sym, ap, ◌∙◌}
-use mathlib.Core.List.{List, [], ◌∷◌, ◌++◌, map}
-use mathlib.Core.Logic.{◌⊎◌, inl, inr}
+use Prim.Native.Nat.{ℕ, ◌+◌, ◌-◌, ◌*◌, ◌^◌, ◌<◌, ◌≤◌, min}
+use mathlib.Core.Path.{◌≡◌, refl}
+use mathlib.Core.List.{List, [], ◌∷◌}
+use mathlib.Core.Logic.{inl, inr}
 use mathlib.Core.Bool.{Bool, true, false, cond, not, ◌&&◌, ◌||◌, false≢true, true≢false}
 use native.Mathlib.Omega.{arith}
-use native.Mathlib.Decide.{dec_le, dec_lt, ℕ_discrete}
-use borrow.Author.Tests.{ltb-true, ltb-false, eqb-true}
+use native.Mathlib.Decide.{dec_le}
+use borrow.Author.Tests.{ltb-true, ltb-false}
 use lib.Dec.{leb, ltb, eqb}
 use lib.ListN.{length}
 use Rattle.extents.specs.declared.Extent.{Extent}
 use Rattle.extents.proofs.Sentences.{by_cases}
-use Rattle.merging.specs.Meaning.{Some, All}
+use Rattle.merging.specs.Meaning.{All}
 use Rattle.committing.specs.Ranges.{Range}
 use Rattle.committing.specs.Commit.{in_range, is_committed, lies, invalid_at, other_at, between, sweep_from, sweep, cut_at, range_cuts, all_cuts}
 use Rattle.places.specs.Lists.{chosen}
 use Rattle.merging.proofs.Rules.{all_map}
-use Rattle.committing.proofs.Cuts.{Rising, Sorted, Cut, Ends, ExtentEnds, RangeEnds, all-cuts, Known, at-or-above, ends-map}
+use Rattle.committing.proofs.Cuts.{Rising, Sorted, Cut, ExtentEnds, RangeEnds, all-cuts, Known, at-or-above, ends-map}
 use Rattle.committing.proofs.Sweep.{At, test-said, none-chosen}
 use Rattle.committing.specs.Bare.{bare_at, bare_from, bare_over}
 use Rattle.committing.specs.Seek.{above}
@@ -26,6 +26,7 @@ use Rattle.committing.proofs.Next.{above-rising, rising-sorted}
 -- ---- every begin and end is passed, or is to come
 above-known : (x n : ℕ) (cuts : List ℕ) → Sorted cuts → Cut cuts n → Known x (above x cuts) n
 unfolding above
+above-known x n [] r h = elim h [ ]
 above-known x n (c ∷ cuts) r h = by (ltb x c) refl h (above-known x n cuts (rising-sorted c cuts r))
   where
     by : (t : Bool) → ltb x c ≡ t → Cut (c ∷ cuts) n → (Cut cuts n → Known x (above x cuts) n) → Known x (cond t (c ∷ cuts) (above x cuts)) n

@@ -74,6 +74,7 @@ module _ (a b x : ℕ) (at_a : a ≤ x) (below-b : x < b) where
 
   pub committed-holds : (rs : List Range) → RangeEnds (Outside a b) rs → Committed rs x → is_committed rs a ≡ true
   unfolding is_committed
+  committed-holds [] k x3 = elim x3 [ ]
   committed-holds (r ∷ rs) k (inl w) =
       let (u, v) = over-a r.offset r.len k.0 w.from w.below in
       rw (test-holds r.offset r.len a u v)
@@ -108,6 +109,7 @@ module _ (a b x : ℕ) (at_a : a ≤ x) (below-b : x < b) where
 -- ---- the parts that are chosen
 pub chosen-said : (P : Extent → Type 0) (p : Extent → Bool) (g : Extent → Extent) (es : List Extent) → Some P (map g (chosen p es)) → Some (λ e. (p e ≡ true) × P (g e)) es
 unfolding chosen
+chosen-said P p g [] h = elim h [ ]
 chosen-said P p g (e ∷ es) h = by (p e) refl h (chosen-said P p g es)
   where
     by : (t : Bool) → p e ≡ t → Some P (map g (cond t (e ∷ chosen p es) (chosen p es))) → (Some P (map g (chosen p es)) → Some (λ c. (p c ≡ true) × P (g c)) es)
@@ -118,6 +120,7 @@ chosen-said P p g (e ∷ es) h = by (p e) refl h (chosen-said P p g es)
 
 pub chosen-holds : (P : Extent → Type 0) (p : Extent → Bool) (g : Extent → Extent) (es : List Extent) → Some (λ e. (p e ≡ true) × P (g e)) es → Some P (map g (chosen p es))
 unfolding chosen
+chosen-holds P p g [] x = elim x [ ]
 chosen-holds P p g (e ∷ es) (inl (q, k)) = rw q (inl k)
 chosen-holds P p g (e ∷ es) (inr h) = by (p e) (chosen-holds P p g es h)
   where
@@ -151,6 +154,7 @@ any-said p (e ∷ es) h = by (p e) refl h (any-said p es)
 
 pub any-holds : (p : Extent → Bool) (es : List Extent) → Some (λ e. p e ≡ true) es → any_of p es ≡ true
 unfolding any_of
+any-holds p [] x = elim x [ ]
 any-holds p (e ∷ es) (inl h) = rw h
 any-holds p (e ∷ es) (inr h) = rw (any-holds p es h) (or-true (p e))
 
@@ -434,6 +438,7 @@ module _ (rs : List Range) (es : List Extent) where
   from-says a [] h x l m = (λ s. absurd s, λ s. absurd (nothing_said x m (all_map past es h.extents) s))
     where
       ended : (n : ℕ) → Known a [] n → n ≤ a
+      ended n (inr x5) = elim x5 [ ]
       ended n (inl k) = k
 
       past : (e : Extent) → Ends (Known a []) e.offset e.len → Covers e x → ⊥

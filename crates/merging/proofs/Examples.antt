@@ -2,7 +2,7 @@
 -- storage; a gap in the file; read and invalid; holes.
 use Prim.Native.Nat.{ℕ}
 use mathlib.Core.Path.{◌≡◌, refl}
-use mathlib.Core.List.{List, [], ◌∷◌}
+use mathlib.Core.List.{[], ◌∷◌}
 use lib.ListN.{replicate}
 use Rattle.xdr.specs.Reader.{same_bytes}
 use Rattle.extents.specs.declared.Extent.{Extent}

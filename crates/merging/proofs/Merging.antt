@@ -1,7 +1,7 @@
 -- TICKET 9 is proved here: `merging : Merging`. In this order: what the merged list says; that it is valid, unmerged and plain; that such a list stays as it is; the claim.
 use mathlib.Core.Path.{◌≡◌}
 use mathlib.Core.List.{List, [], map}
-use mathlib.Core.Logic.{◌⊎◌, inl}
+use mathlib.Core.Logic.{◌⊎◌, inl, inr}
 use lib.ListN.{length}
 use Rattle.extents.specs.declared.Extent.{Extent}
 use Rattle.merging.specs.Meaning.{Says, SameMeaning}
@@ -15,6 +15,7 @@ pub merged-says : (es : List Extent) → SameMeaning es (merged es)
 merged-says es x m = (λ s. (joined_says x m [] (map plain es)).1 (inl ((plain-says x m es).0 s)), λ s. (plain-says x m es).1 (only ((joined_says x m [] (map plain es)).0 s)))
   where
     only : Says (map plain es) x m ⊎ Says [] x m → Says (map plain es) x m
+    only (inr x) = elim x [ ]
     only (inl s) = s
 
 pub merged-canonical : (es : List Extent) → Valid es → Canonical (merged es)

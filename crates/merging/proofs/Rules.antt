@@ -4,7 +4,7 @@ use Prim.Native.Nat.{ℕ, zero, suc, ◌+◌, ◌-◌, ◌^◌, ◌<◌, ◌≤�
 use mathlib.Core.Path.{◌≡◌, refl, sym, ap, ◌∙◌}
 use mathlib.Core.List.{List, [], ◌∷◌, ◌++◌}
 use mathlib.Core.Logic.{◌⊎◌, inl, inr}
-use mathlib.Core.Bool.{Bool, true, false, not, ◌&&◌, ◌||◌, true≢false, false≢true}
+use mathlib.Core.Bool.{Bool, true, false, not, ◌&&◌, ◌||◌, true≢false}
 use native.Mathlib.Omega.{arith}
 use native.Mathlib.Decide.{dec_le, ℕ_discrete}
 use borrow.Author.Tests.{le-ltb, eq-eqb, ne_eqb, ltb-false, eqb-true, eqb-false}
@@ -34,10 +34,12 @@ module _ {A : Type 0} where
   all_append P (e ∷ es) fs h g = (h.0, all_append P es fs h.1 g)
 
   pub some-map : {P Q : A → Type 0} → ((e : A) → P e → Q e) → (es : List A) → Some P es → Some Q es
+  some-map f [] x = elim x [ ]
   some-map f (e ∷ es) (inl h) = inl (f e h)
   some-map f (e ∷ es) (inr h) = inr (some-map f es h)
 
   pub some_left : (P : A → Type 0) (es fs : List A) → Some P es → Some P (es ++ fs)
+  some_left P [] fs x = elim x [ ]
   some_left P (e ∷ es) fs (inl h) = inl h
   some_left P (e ∷ es) fs (inr h) = inr (some_left P es fs h)
 
@@ -55,6 +57,7 @@ module _ {A : Type 0} where
       by (inr g) = inr g
 
   pub some-either : {P Q R : A → Type 0} → ((e : A) → P e → Q e ⊎ R e) → (es : List A) → Some P es → Some Q es ⊎ Some R es
+  some-either f [] x = elim x [ ]
   some-either {P} {Q} {R} f (e ∷ es) (inl h) = by (f e h)
     where
       by : Q e ⊎ R e → Some Q (e ∷ es) ⊎ Some R (e ∷ es)
@@ -67,11 +70,13 @@ module _ {A : Type 0} where
       by (inr g) = inr (inr g)
 
   pub some-all : {P Q R : A → Type 0} → ((e : A) → P e → Q e → R e) → (es : List A) → All P es → Some Q es → Some R es
+  some-all f [] h x = elim x [ ]
   some-all f (e ∷ es) h (inl q) = inl (f e h.0 q)
   some-all f (e ∷ es) h (inr q) = inr (some-all f es h.1 q)
 
   -- one that is among all
   pub met : {P Q : A → Type 0} {R : Type 0} → ((e : A) → P e → Q e → R) → (es : List A) → All P es → Some Q es → R
+  met f [] h x = elim x [ ]
   met f (e ∷ es) h (inl q) = f e h.0 q
   met f (e ∷ es) h (inr q) = met f es h.1 q
 

@@ -4,7 +4,7 @@ use Prim.Native.Nat.{ℕ, ◌+◌, ◌-◌, ◌^◌, ◌<◌, ◌≤◌}
 use mathlib.Core.Path.{◌≡◌, refl, sym, ap, ◌∙◌}
 use mathlib.Core.List.{List, [], ◌∷◌, ◌++◌, append-nil, append_assoc, map}
 use mathlib.Core.Logic.{◌⊎◌, inl, inr, ◌↔◌}
-use mathlib.Core.Bool.{Bool, true, false, cond, ◌&&◌, ◌||◌, false≢true}
+use mathlib.Core.Bool.{Bool, true, false, cond, ◌&&◌, ◌||◌}
 use native.Mathlib.Omega.{arith}
 use native.Mathlib.Decide.{dec_lt, ℕ_discrete}
 use borrow.Author.Tests.{eq-eqb, eqb-true, eqb-false}
@@ -164,10 +164,12 @@ pub plain-says : (x : ℕ) (m : Meaning) (es : List Extent) → Says es x m ↔ 
 plain-says x m es = (there es, back es)
   where
     there : (cs : List Extent) → Says cs x m → Says (map plain cs) x m
+    there [] x = elim x [ ]
     there (c ∷ cs) (inl g) = inl ((plain-gives x m c).0 g)
     there (c ∷ cs) (inr s) = inr (there cs s)
 
     back : (cs : List Extent) → Says (map plain cs) x m → Says cs x m
+    back [] x = elim x [ ]
     back (c ∷ cs) (inl g) = inl ((plain-gives x m c).1 g)
     back (c ∷ cs) (inr s) = inr (back cs s)
 
@@ -416,6 +418,7 @@ unfolding joined
 joined_says x m runs [] = (inr, none)
   where
     none : Says [] x m ⊎ Says runs x m → Says runs x m
+    none (inl x) = elim x [ ]
     none (inr s) = s
 joined_says x m runs (e ∷ es) = by (joined_says x m (place e runs) es) (place-says x m e runs)
   where

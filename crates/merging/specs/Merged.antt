@@ -1,6 +1,6 @@
 -- DEFINITION. Extents that belong together (Rules 2.13). In this order: a hole without device and storage; when one extent begins just where another
 -- ends; the two as one; one more extent among the runs, wherever in the list the one that it follows stands; the merged list.
-use Rattle.std.specs.Prelude.{ℕ, ◌+◌, List, [], ◌∷◌, map, Bool, cond, ◌&&◌, ◌||◌, replicate, eqb}
+use Rattle.std.specs.Prelude.{◌+◌, List, [], ◌∷◌, map, Bool, cond, ◌&&◌, ◌||◌, replicate, eqb}
 use Rattle.xdr.specs.Reader.{same_bytes}
 use Rattle.extents.specs.declared.Extent.{Extent}
 

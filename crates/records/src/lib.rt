@@ -1,2 +1,2 @@
-// Laws of walks by hand over a record behind a reference that holds an array, in proofs/, which the proofs of other crates cite. No code.
+// Laws of the loops over the array of a record, in proofs/, which the proofs of crate capi cite. No code.
 #![tactic(auto)]

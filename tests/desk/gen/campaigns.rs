@@ -1,40 +1,33 @@
-//! Campaigns: short stories of calls, each aimed at an edge of the record, the epochs, the bodies or the lines; those on heads are in `heads`.
+//! Campaigns: short stories of calls, each aimed at an edge of the record, the epochs, the bodies or the lines.
 //! In this order: the writer of calls; calls on the record; campaigns on the record; campaigns on epochs, bodies and lines; the runs.
 
 use crate::bodies::{layout_body, list_to_write};
 use crate::commits::commit;
-use crate::heads::Cluster;
 use crate::lines::{at_the_limits, dressed, spoilt};
 use crate::merges::{merge_list, merge_size};
-use crate::random::{hex, Device, Random, BEYOND};
+use crate::random::{hex, Device, Random};
 use crate::requests::{request, request_of};
 use crate::stateids::{names, Held, Name};
-use std::collections::BTreeMap;
 use std::io::{self, Write};
 
 pub struct Campaigns<W: Write> {
-    pub r: Random,
+    r: Random,
     out: W,
     calls: u64,
     /// Whether a console asks for the counts after each call.
     polled: bool,
-    /// The head whose record calls are on, if it is a head's.
-    at: Option<u64>,
-    /// What is held in the record that calls are on, and in each other one.
-    pub held: Held,
-    others: BTreeMap<Option<u64>, Held>,
-    pub cluster: Cluster,
+    held: Held,
 }
 
 /// The numbers that one campaign's calls draw from.
-pub struct Pool {
-    pub files: Vec<u64>,
-    pub clients: Vec<u64>,
+struct Pool {
+    files: Vec<u64>,
+    clients: Vec<u64>,
     devices: Vec<Device>,
     names: Vec<Name>,
 }
 
-pub type Done = io::Result<()>;
+type Done = io::Result<()>;
 
 /// Where one more restart may go.
 const ONCE_MORE: &str = "# once more";
@@ -62,79 +55,49 @@ const WALK: [(u64, &str); 17] = [
 
 impl<W: Write> Campaigns<W> {
     pub fn new(seed: u64, out: W) -> Campaigns<W> {
-        let (r, held, others, cluster) = (Random::new(seed), Held::default(), BTreeMap::new(), Cluster::default());
-        Campaigns { r, out, calls: 0, polled: false, at: None, held, others, cluster }
+        Campaigns { r: Random::new(seed), out, calls: 0, polled: false, held: Held::default() }
     }
 
-    /// Turns to a head's record, or back to the one that is no head's: the calls that follow are on it.
-    pub fn turn_to(&mut self, node: Option<u64>) {
-        let left = std::mem::take(&mut self.held);
-        self.others.insert(self.at, left);
-        self.held = self.others.remove(&node).unwrap_or_default();
-        self.at = node;
-    }
-
-    /// Notes a call, and gives its line.
-    fn line(&mut self, call: &str) -> String {
-        match self.at {
-            _ if call.starts_with("cluster ") => call.to_string(),
-            Some(node) => {
-                self.cluster.note_on(node, &mut self.held, call);
-                format!("head {node} {call}")
-            }
-            None => {
-                self.held.note(call);
-                call.to_string()
-            }
-        }
-    }
-
-    pub fn raw(&mut self, line: &[u8]) -> Done {
+    fn raw(&mut self, line: &[u8]) -> Done {
         self.calls += 1;
         self.out.write_all(line)?;
         self.out.write_all(b"\n")
     }
 
     /// Writes a call, now and then in other dress, or with a spoilt one before it that must change nothing; and what a console asks for after it.
-    pub fn call(&mut self, call: &str) -> Done {
-        let line = self.line(call);
+    fn call(&mut self, line: &str) -> Done {
+        self.held.note(line);
         match self.r.below(200) {
             0 => {
-                let dressed = dressed(&mut self.r, &line);
+                let dressed = dressed(&mut self.r, line);
                 self.raw(&dressed)?;
             }
             1 => {
-                let spoilt = spoilt(&mut self.r, &line);
+                let spoilt = spoilt(&mut self.r, line);
                 self.raw(&spoilt)?;
                 self.raw(line.as_bytes())?;
             }
             _ => self.raw(line.as_bytes())?,
         }
         if self.polled {
-            let counts = self.line("counts");
-            self.raw(counts.as_bytes())?;
+            self.raw(b"counts")?;
         }
         Ok(())
     }
 
     // ---- Calls on the record ----
 
-    /// The line that sets up a record, or the head that calls are on: now and then an old one.
+    /// The line that sets up a record: now and then an old one.
     fn fresh_line(&mut self) -> &'static str {
-        let (current, old) = if self.at.is_some() { ("setup", "setup old") } else { ("fresh", "fresh old") };
-        self.r.weighted(&[(3, current), (1, old)])
+        self.r.weighted(&[(3, "fresh"), (1, "fresh old")])
     }
 
-    pub fn fresh(&mut self) -> Done {
-        if self.at.is_none() {
-            self.others.clear();
-            self.cluster = Cluster::default();
-        }
+    fn fresh(&mut self) -> Done {
         let line = self.fresh_line();
         self.call(line)
     }
 
-    pub fn pool(&mut self, files: usize, clients: usize, devices: usize) -> Pool {
+    fn pool(&mut self, files: usize, clients: usize, devices: usize) -> Pool {
         Pool { files: self.r.numbers(files), clients: self.r.numbers(clients), devices: self.r.devices(devices), names: names(&mut self.r) }
     }
 
@@ -163,13 +126,13 @@ impl<W: Write> Campaigns<W> {
         bytes
     }
 
-    pub fn register(&mut self, pool: &Pool, file: u64) -> Done {
+    fn register(&mut self, pool: &Pool, file: u64) -> Done {
         let mirrors = hex(&self.mirrors(pool));
         self.call(&format!("register {file} {mirrors}"))
     }
 
     /// A file with the first so many devices as its mirrors and, if asked, the next one as its proxy, so that reports of the first few devices name it.
-    pub fn register_first(&mut self, pool: &Pool, file: u64, mirrors: usize, proxied: bool) -> Done {
+    fn register_first(&mut self, pool: &Pool, file: u64, mirrors: usize, proxied: bool) -> Done {
         self.call(&format!("register {file} {}", hex(&pool.devices[..mirrors].concat())))?;
         if proxied {
             self.call(&format!("addproxy {file} {}", hex(&pool.devices[mirrors])))?;
@@ -195,7 +158,7 @@ impl<W: Write> Campaigns<W> {
         }
     }
 
-    pub fn layoutreturn(&mut self, pool: &Pool, file: u64, client: u64) -> Done {
+    fn layoutreturn(&mut self, pool: &Pool, file: u64, client: u64) -> Done {
         let room = self.r.weighted(&[(90, 24), (2, 0), (1, 4), (3, 23), (2, 25), (1, 100)]);
         let request = hex(&request(&mut self.r, &pool.devices, 12));
         self.call(&format!("layoutreturn {file} {client} {room} {request}"))?;
@@ -205,25 +168,15 @@ impl<W: Write> Campaigns<W> {
         Ok(())
     }
 
-    /// An all-zero report, mostly sound.
-    pub fn report(&mut self, pool: &Pool, file: u64, client: u64) -> Done {
-        let (request, _) = request_of(&mut self.r, &pool.devices, &[0; 16], 80);
-        self.call(&format!("layoutreturn {file} {client} 24 {}", hex(&request)))?;
-        if self.r.percent(40) {
-            self.call("totals")?;
-        }
-        Ok(())
-    }
-
     /// A stateid is set up, mostly for an intent that has none.
-    pub fn set_up_stateid(&mut self, pool: &Pool, file: u64, client: u64) -> Done {
+    fn set_up_stateid(&mut self, pool: &Pool, file: u64, client: u64) -> Done {
         let (file, client) = self.held.without(&mut self.r, (file, client));
         let name = hex(&self.held.name(&mut self.r, &pool.names));
         self.call(&format!("stateid {file} {client} {name}"))
     }
 
     /// A return with an ordinary stateid, mostly of a client that holds one, which raises it if the request is sound.
-    pub fn ordinary(&mut self, pool: &Pool, file: u64, client: u64) -> Done {
+    fn ordinary(&mut self, pool: &Pool, file: u64, client: u64) -> Done {
         if self.held.in_grace() && self.r.percent(75) {
             return self.layoutreturn(pool, file, client);
         }
@@ -259,12 +212,12 @@ impl<W: Write> Campaigns<W> {
         Ok(())
     }
 
-    pub fn listings(&mut self, about: u64) -> Done {
+    fn listings(&mut self, about: u64) -> Done {
         self.listing("resilver", about)?;
         self.listing("offered", about)
     }
 
-    pub fn walk_step(&mut self, pool: &Pool) -> Done {
+    fn walk_step(&mut self, pool: &Pool) -> Done {
         let (file, client) = (self.r.pick(&pool.files), self.r.pick(&pool.clients));
         match self.r.weighted(&WALK) {
             "register" => self.register(pool, file),
@@ -569,7 +522,7 @@ impl<W: Write> Campaigns<W> {
     }
 
     /// Every client opens every file, and now and then one closes it again.
-    pub fn open_all(&mut self, pool: &Pool) -> Done {
+    fn open_all(&mut self, pool: &Pool) -> Done {
         for file in &pool.files {
             for client in &pool.clients {
                 self.call(&format!("open {file} {client}"))?;
@@ -581,30 +534,21 @@ impl<W: Write> Campaigns<W> {
         Ok(())
     }
 
-    /// Another campaign on a record, with a console that asks for the counts after each call (Ticket 8).
+    /// Another campaign on the record, with a console that asks for the counts after each call (Ticket 8).
     fn console(&mut self) -> Done {
         self.polled = true;
-        match self.r.below(6) {
-            0 => self.heads()?,
-            1 | 2 => self.one_head()?,
-            _ => self.story()?,
+        match self.r.below(8) {
+            0 => self.walk()?,
+            1 => self.intents()?,
+            2 => self.table()?,
+            3 => self.all_lost()?,
+            4 => self.reports()?,
+            5 => self.returning()?,
+            6 => self.stateids()?,
+            _ => self.proxies()?,
         }
         self.polled = false;
         Ok(())
-    }
-
-    /// One of the campaigns on the record, which is a head's where calls are on one.
-    pub fn story(&mut self) -> Done {
-        match self.r.below(8) {
-            0 => self.walk(),
-            1 => self.intents(),
-            2 => self.table(),
-            3 => self.all_lost(),
-            4 => self.reports(),
-            5 => self.returning(),
-            6 => self.stateids(),
-            _ => self.proxies(),
-        }
     }
 
     /// A history for Ticket 14: it ends with the end of a grace period and the resilver list, and the comment ONCE_MORE stands where one more restart
@@ -663,7 +607,7 @@ impl<W: Write> Campaigns<W> {
         }
         for _ in 0..120 {
             let name = self.r.weighted(&[(4, "join"), (5, "leave"), (3, "start"), (10, "enforce"), (8, "finish"), (5, "stop")]);
-            let beyond = self.r.pick(&BEYOND);
+            let beyond = self.r.pick(&[32, 33, 63, 64, 256, 0x8000_0000, 0xffff_ffff]);
             let node = if self.r.percent(4) { beyond } else { self.r.pick(nodes) };
             self.call(&format!("{name} {node}"))?;
             self.call("epochs")?;
@@ -738,15 +682,6 @@ impl<W: Write> Campaigns<W> {
                 format!("stateid {file} {client} {}", hex(&pool.names[0])),
                 format!("join {node}"),
                 format!("start {node}"),
-                format!("cluster join {node}"),
-                format!("cluster may {node}"),
-                format!("head {node} setup"),
-                format!("head {node} setup old"),
-                format!("head {node} restart"),
-                format!("head {node} complete {client}"),
-                format!("head {node} register {file} {mirrors}"),
-                format!("head {node} open {file} {client}"),
-                "cluster epochs".to_string(),
                 "restart".to_string(),
                 "end".to_string(),
                 "fresh".to_string(),
@@ -790,10 +725,8 @@ impl<W: Write> Campaigns<W> {
     }
 
     pub fn run(mut self, calls: u64) -> Done {
-        const KINDS: [(u64, u32); 19] = [
-            (30, 0), (12, 1), (10, 2), (6, 3), (50, 4), (10, 5), (18, 6), (10, 7), (24, 8), (60, 9), (12, 10), (18, 11), (30, 12), (40, 13), (45, 14), (45, 15),
-            (60, 16), (15, 17), (25, 18),
-        ];
+        const KINDS: [(u64, u32); 16] =
+            [(30, 0), (12, 1), (10, 2), (6, 3), (50, 4), (10, 5), (18, 6), (10, 7), (24, 8), (60, 9), (12, 10), (18, 11), (30, 12), (40, 13), (45, 14), (45, 15)];
         self.limits()?;
         while self.calls < calls {
             match self.r.weighted(&KINDS) {
@@ -812,9 +745,6 @@ impl<W: Write> Campaigns<W> {
                 12 => self.commits()?,
                 13 => self.proxies()?,
                 15 => self.stateids()?,
-                16 => self.heads()?,
-                17 => self.completes()?,
-                18 => self.one_head()?,
                 _ => self.console()?,
             }
         }

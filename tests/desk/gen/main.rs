@@ -1,13 +1,11 @@
 //! gen SEED CALLS: writes a script of at least CALLS random calls for replay, the same for the same seed.
 //! gen pairs SEED PAIRS: writes PAIRS histories for Ticket 14, each with the comment `# once more` where one more restart may go.
-//! A script is a row of campaigns, each a short story that aims at an edge: see `campaigns`, and `heads` for those on the heads of a cluster. `requests` makes
-//! LAYOUTRETURN requests, `bodies` makes layout bodies, `merges` lists of extents to be merged, `commits` LAYOUTCOMMITs, `stateids` what stateids calls name, `lines`
-//! makes lines that can't or only just can be read, `random` has the numbers and choices.
+//! A script is a row of campaigns, each a short story that aims at an edge: see `campaigns`. `requests` makes LAYOUTRETURN requests,
+//! `bodies` makes layout bodies, `merges` lists of extents to be merged, `commits` LAYOUTCOMMITs, `stateids` what stateids calls name, `lines` makes lines that can't or only just can be read, `random` has the numbers and choices.
 
 mod bodies;
 mod campaigns;
 mod commits;
-mod heads;
 mod lines;
 mod merges;
 mod random;

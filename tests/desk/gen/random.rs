@@ -10,9 +10,6 @@ pub type Device = [u8; 16];
 /// Numbers at the edges of their widths.
 pub const EDGES: [u64; 12] = [0, 1, 2, 7, 255, 256, 0xffff_ffff, 0x1_0000_0000, 0x7fff_ffff_ffff_ffff, 0x8000_0000_0000_0000, u64::MAX - 1, u64::MAX];
 
-/// Numbers of nodes that no cluster has.
-pub const BEYOND: [u64; 7] = [32, 33, 63, 64, 256, 0x8000_0000, 0xffff_ffff];
-
 impl Random {
     pub fn new(seed: u64) -> Random {
         Random { state: seed }

@@ -65,26 +65,6 @@ impl Held {
         self.grace
     }
 
-    /// The clients that have an intent.
-    pub fn clients(&self) -> BTreeSet<u64> {
-        self.opened.iter().map(|(_, client)| *client).collect()
-    }
-
-    /// A file and a client for a reclaim, a report or a close: mostly with an intent.
-    pub fn opener(&self, r: &mut Random, any: Holder) -> Holder {
-        let opened: Vec<Holder> = self.opened.iter().copied().collect();
-        if opened.is_empty() || r.percent(15) {
-            any
-        } else {
-            r.pick(&opened)
-        }
-    }
-
-    /// Whether nobody holds a stateid.
-    pub fn has_none(&self) -> bool {
-        self.held.is_empty()
-    }
-
     fn in_use(&self, name: &Name) -> bool {
         self.held.values().any(|(held, _)| held == name)
     }

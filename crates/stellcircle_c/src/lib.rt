@@ -1,0 +1,11 @@
+// What a C server links: a static library with one export for each call of include/stellcircle.h, which calls the library's function of that name and states its
+// clauses again. No rule stands here. One file for each part of the header, in its order:
+//     bodies      layout bodies, SCSI's and RDMA's
+//     commit      LAYOUTCOMMIT
+//     request     LAYOUTRETURN requests and replies
+//     report      the body of a flexible files LAYOUTRETURN
+//     record      the recovery record
+//     cluster     the epochs of a cluster
+#![tactic(auto)]
+
+mod cluster;
