@@ -1,7 +1,6 @@
 -- What C is handed of a layout body: of a place, and of a write.
 use Prim.Native.Nat.{ℕ}
 use mathlib.Core.Path.{◌≡◌, ap, ◌∙◌}
-use mathlib.Core.List.{List}
 use Rattle.extents.specs.Extents.{number_of, place_of}
 use Rattle.extents.specs.declared.Verdict.{Verdict}
 use Rattle.layouts.specs.declared.kinds.Kind.{Kind}
