@@ -87,7 +87,7 @@ def steps_of(entry):
 def turned(body, entry):
     """A proof's text with flat contexts and today's names of steps."""
     steps = steps_of(entry)
-    body = re.sub(r"(\.before)+(?![\w-])", "", body)
+    body = re.sub(r"(?<![\w'-])c(\.before)+(?![\w-])", "c", body)
     alias = {"c"}
     for _ in range(4):
         for m in re.finditer(rf"({NAME}) = (\w+) in", body):
@@ -103,6 +103,8 @@ def turned(body, entry):
         return m.group(0)
 
     body = re.sub(rf"(?<![\w.'-])([\w']+)\.({NAME})", proj, body)
+    body = re.sub(r"(c\.if-[\w+-]+)\.taken(?![\w-])", r"\1.true", body)
+    body = re.sub(r"(c\.if-[\w+-]+)\.left(?![\w-])", r"\1.false", body)
     # a negated condition's step says today what the condition itself is
     body = re.sub(r"\(not[-_](true|false) _ (c\.if-not-[\w-]+\.\w+)\)", r"\2", body)
     return re.sub(r"not[-_](true|false) _ (c\.if-not-[\w-]+\.\w+)", r"\2", body)

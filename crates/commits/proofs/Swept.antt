@@ -4,11 +4,11 @@ use Prim.Native.Nat.{ℕ, ◌+◌, ◌-◌, ◌*◌, ◌^◌, ◌<◌, ◌≤◌
 use mathlib.Core.Path.{◌≡◌, refl, sym, ap, ◌∙◌}
 use mathlib.Core.List.{List, [], ◌∷◌, ◌++◌, map}
 use mathlib.Core.Logic.{◌⊎◌, inl, inr}
-use mathlib.Core.Bool.{Bool, true, false, cond, not, ◌&&◌, ◌||◌, false≢true}
+use mathlib.Core.Bool.{Bool, true, false, cond, ◌||◌, false≢true}
 use native.Mathlib.Omega.{arith}
 use native.Mathlib.Decide.{dec_lt}
 use borrow.Author.Tests.{le-ltb, ltb-false, leb-false}
-use lib.Dec.{ltb, eqb}
+use lib.Dec.{ltb}
 use lib.ListN.{length, take, drop}
 use lib.Seq.{sets}
 use Rattle.extents.specs.Extents.{list_from}
@@ -29,7 +29,7 @@ use Rattle.committing.proofs.Start.{Cand, at_above, start, cuts-length, above-le
 use Rattle.joining.specs.Joiner.{bytes_of, Runs, no_runs, fed, wrote, fed_all, wrote_all, Ready, ReadyAll}
 use Rattle.joining.specs.declared.joiner.Piece.{Piece}
 use Rattle.joining.proofs.Tracks.{none-tracked}
-use Rattle.joining.proofs.Fed.{extents_of, There, Going, fed-count, wrote-all, feeds-all, none-held}
+use Rattle.joining.proofs.Fed.{extents_of, Going, fed-count, wrote-all, feeds-all, none-held}
 use Rattle.commits.specs.Spot.{Marks, range_begin, range_end, is_kind, always, Spotted, Settled, over_at, other_here, invalid_here, range_here, next_cut, over_in, cut_in, bare_by, turn_by, turn_of, moved_to, going_on}
 use Rattle.commits.specs.Pieces.{part_of, marks_of, only_if, pieces_at, other_row, invalid_row, range_row, other_over, invalid_over, range_over, pieces_between, pieces_over}
 use Rattle.commits.specs.declared.spot.Spot.{Spot}

@@ -1,5 +1,5 @@
 -- MODEL of the code: the pieces of a sweep. In this order: what a sweep takes; what it finds; a part of a row; the pieces from x up to y, from what lies over x; the three places at x; the pieces over all cuts.
-use Rattle.std.specs.Prelude.{ℕ, ◌+◌, ◌-◌, ◌*◌, ◌^◌, ◌<◌, ◌≤◌, ◌≡◌, List, [], ◌∷◌, ◌++◌, Bool, true, false, cond, not, ◌&&◌, eqb, length}
+use Rattle.std.specs.Prelude.{ℕ, ◌+◌, ◌-◌, ◌*◌, ◌^◌, ◌<◌, ◌≤◌, ◌≡◌, List, [], ◌∷◌, ◌++◌, Bool, true, false, cond, ◌&&◌, eqb, length}
 use Rattle.std.proofs.lemmas.List.Edits.{sets}
 use Rattle.extents.specs.Extents.{list_from, verdict}
 use Rattle.extents.specs.declared.Extent.{Extent}

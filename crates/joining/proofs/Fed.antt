@@ -1,25 +1,21 @@
 -- All of a list that is valid: the joiner's runs are those of `merged`. In this order: devices of 16 bytes; the runs never get fewer; where the joiner stands;
 -- one more piece, and its bytes; all pieces: how many runs, their bytes, what each piece asks; the extents of columns.
-use Rattle.std.proofs.Common.{◌≡◌, ℕ, zero, suc, ◌+◌, ◌-◌, ◌*◌, ◌%◌, ◌^◌, ◌<◌, ◌≤◌, Bool, true, false, cond, eqb, ◌⊎◌, List, [], ◌∷◌, ◌++◌, map, length, get_or, set, sym, refl, ap, ◌∙◌, inl, inr, arith, length-append, length-set, eq-eqb, ne_eqb}
+use Rattle.std.proofs.Common.{◌≡◌, ℕ, zero, suc, ◌+◌, ◌-◌, ◌*◌, ◌%◌, ◌^◌, ◌<◌, ◌≤◌, Bool, true, false, cond, eqb, ◌⊎◌, List, [], ◌∷◌, map, length, get_or, set, refl, ap, ◌∙◌, inl, inr, arith, length-append, length-set}
 use lib.Seq.{sets, length-sets}
-use Rattle.xdr.specs.Be.{be_bytes}
 use Rattle.extents.specs.Extents.{list_from}
 use Rattle.extents.specs.declared.Extent.{Extent}
-use Rattle.layouts.specs.declared.kinds.Kind.TheVariants.{Scsi}
-use Rattle.layouts.specs.Layout.{row_bytes, rows_bytes}
-use Rattle.layouts.specs.Placing.{scsi, placed}
 use Rattle.layouts.proofs.Stores.{device-length}
 use Rattle.layouts.proofs.Placed.{roomy-extent, roomy-length}
 use Rattle.merging.specs.Meaning.{All}
-use Rattle.merging.specs.Merged.{plain, follows, grown, place, joined, merged}
-use Rattle.merging.proofs.Rules.{all_map, all-map₂, Sound, Before, Valid, sounds}
-use Rattle.merging.proofs.Runs.{plain-keeps, plain-shape, plain-sound, plain-valid, all-place, Later, place-valid, place-later}
-use Rattle.joining.specs.Joiner.{bytes_of, piece_in, numbers_in, Runs, no_runs, place_of, zero_run, open_of, run_of, joins, longer_run, next_run, next_count, fed, wrote, fed_all, wrote_all, row_piece, pieces_from, HeldRun, Held, Ready, ReadyAll}
+use Rattle.merging.specs.Merged.{plain, follows, grown, place, joined}
+use Rattle.merging.proofs.Rules.{all_map, all-map₂, Valid, sounds}
+use Rattle.merging.proofs.Runs.{plain-keeps, plain-shape, plain-valid, all-place, Later, place-valid, place-later}
+use Rattle.joining.specs.Joiner.{bytes_of, piece_in, numbers_in, Runs, no_runs, place_of, zero_run, open_of, run_of, joins, next_run, next_count, fed, wrote, fed_all, wrote_all, row_piece, pieces_from, HeldRun, Held, ReadyAll}
 use Rattle.joining.specs.Merge.{row_of}
 use Rattle.joining.specs.declared.joiner.Piece.{Piece}
 use Rattle.joining.specs.declared.joiner.Run.{Run}
 use Rattle.joining.proofs.Places.{at}
-use Rattle.joining.proofs.Tracks.{Found, Tracks, Stepped, longer-run, fresh-run, which, step-tracks, none-tracked, joined_end}
+use Rattle.joining.proofs.Tracks.{Tracks, Stepped, longer-run, fresh-run, which, step-tracks, none-tracked, joined_end}
 use Rattle.joining.proofs.Bytes.{store_length, store-run}
 
 -- ---- devices of 16 bytes

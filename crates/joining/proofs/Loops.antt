@@ -1,6 +1,6 @@
 -- The two passes over the rows of columns. In this order: the pieces to come; the pass that checks and counts: what holds at each turn, its turns, its end; the
 -- pass that writes: the same.
-use Rattle.std.proofs.Common.{◌≡◌, ℕ, zero, suc, ◌+◌, ◌-◌, ◌*◌, ◌^◌, ◌<◌, ◌≤◌, Bool, true, false, cond, List, [], ◌∷◌, map, length, sym, refl, ap, ◌∙◌, arith}
+use Rattle.std.proofs.Common.{◌≡◌, ℕ, suc, ◌+◌, ◌-◌, ◌*◌, ◌^◌, ◌<◌, ◌≤◌, Bool, true, false, cond, List, [], ◌∷◌, map, length, sym, refl, ap, ◌∙◌, arith}
 use lib.Seq.{sets}
 use Rattle.layouts.specs.Layout.{rows_bytes}
 use Rattle.layouts.proofs.Placed.{length-extent-put, length-length-put}
@@ -12,13 +12,12 @@ use Rattle.extents.specs.declared.Verdict.{Verdict}
 use Rattle.extents.specs.declared.Verdict.TheVariants.{Accepted, Refused}
 use Rattle.extents.proofs.Turns as turns
 use Rattle.extents.proofs.OnePass.{accepted-end}
-use Rattle.merging.specs.Meaning.{All}
 use Rattle.merging.specs.Merged.{merged}
 use Rattle.merging.proofs.Rules.{Valid, passes-valid}
 use Rattle.joining.specs.Joiner.{bytes_of, piece_in, longer_run, Runs, no_runs, run_of, stored_longer, stored_start, joins, fed, wrote, fed_all, wrote_all, row_piece, pieces_from, Held, Ready, ReadyAll}
 use Rattle.joining.specs.Merge.{row_of, comes_to}
 use Rattle.joining.specs.declared.joiner.Piece.{Piece}
-use Rattle.joining.proofs.Fed.{There, Going, begins, fed-count, wrote-all, feeds-all, fed-held, fed-few, none-held, row_list, rows-there, length-pieces}
+use Rattle.joining.proofs.Fed.{Going, begins, fed-count, wrote-all, feeds-all, fed-held, fed-few, none-held, row_list, rows-there, length-pieces}
 
 -- ---- the pieces to come
 pieces-next : (g : ℕ → Piece) (n i : ℕ) → i < n → pieces_from g (n - i) i ≡ g i ∷ pieces_from g (n - (i + 1)) (i + 1)

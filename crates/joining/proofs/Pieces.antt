@@ -1,13 +1,13 @@
 -- What the code has in hand of a piece, as the model says it. In this order: bytes as a number; the device of two rows; the tests of a piece after a run; one
 -- more piece.
-use Rattle.std.proofs.Common.{◌≡◌, ℕ, zero, suc, ◌+◌, ◌-◌, ◌*◌, ◌%◌, ◌^◌, ◌<◌, ◌≤◌, Bool, true, false, cond, ◌&&◌, ◌||◌, eqb, List, [], ◌∷◌, ◌++◌, length, get_or, take, drop, set, sym, refl, ap, ◌∙◌, arith, length-drop, length-take-le, get_or-drop, drop-drop, take-add, eq-eqb, ne_eqb}
+use Rattle.std.proofs.Common.{◌≡◌, ℕ, suc, ◌+◌, ◌*◌, ◌%◌, ◌^◌, ◌<◌, ◌≤◌, Bool, true, false, eqb, List, [], ◌∷◌, ◌++◌, length, get_or, take, drop, set, sym, refl, ap, ◌∙◌, arith, length-drop, length-take-le, get_or-drop, drop-drop, take-add, eq-eqb, ne_eqb}
 use native.Mathlib.Decide.{ℕ_discrete}
 use Rattle.xdr.specs.Reader.{same_bytes}
 use Rattle.xdr.proofs.Be.{take_below}
 use Rattle.xdr.proofs.Bytes.{same-are}
 use Rattle.extents.proofs.Sentences.{by_cases}
 use Rattle.merging.proofs.Runs.{are-same}
-use Rattle.joining.specs.Joiner.{device_in, le_number, started_run, longer_run, Runs, zero_run, place_of, run_of, joins_run, joins, fed, stored_longer, stored_start, wrote, Ready}
+use Rattle.joining.specs.Joiner.{device_in, le_number, started_run, longer_run, Runs, zero_run, place_of, joins_run, joins, fed, stored_longer, stored_start, wrote, Ready}
 use Rattle.joining.specs.declared.joiner.Piece.{Piece}
 use Rattle.joining.specs.declared.joiner.Run.{Run}
 use Rattle.joining.proofs.Tracks.{joined_end}

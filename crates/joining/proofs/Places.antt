@@ -1,6 +1,6 @@
 -- Lists of extents by their places. In this order: what holds at each place; the run that a piece lengthens, by its place; extents of one state; the run of a
 -- state among the open ones.
-use Rattle.std.proofs.Common.{◌≡◌, ℕ, zero, suc, ◌+◌, ◌<◌, ◌≤◌, true, false, List, [], ◌∷◌, length, get_or, set, sym, refl, ap, ◌∙◌, arith, get_or-set_other, get_or-set_same}
+use Rattle.std.proofs.Common.{◌≡◌, ℕ, zero, suc, ◌+◌, ◌<◌, ◌≤◌, true, false, List, [], ◌∷◌, length, get_or, set, arith, get_or-set_other, get_or-set_same}
 use Rattle.extents.specs.declared.Extent.{Extent}
 use Rattle.layouts.specs.Layout.{no_extent}
 use Rattle.merging.specs.Meaning.{All}

@@ -2,7 +2,8 @@
 #![tactic(auto)]
 
 use layouts::kinds::Kind;
+use std::io;
 
-fn main() {
-    listings::program::run(Kind::Scsi, b"list_layout");
+fn main(rt: HostRuntime) -> io::Result<()> {
+    listings::program::run(&rt, Kind::Scsi, "list_layout")
 }

@@ -2,7 +2,8 @@
 #![tactic(auto)]
 
 use layouts::kinds::Kind;
+use std::io;
 
-fn main() {
-    listings::program::run(Kind::Rdma, b"list_rdma_layout");
+fn main(rt: HostRuntime) -> io::Result<()> {
+    listings::program::run(&rt, Kind::Rdma, "list_rdma_layout")
 }

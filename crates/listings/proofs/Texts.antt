@@ -9,12 +9,11 @@ use borrow.Author.Tests.{lt-ltb, le-ltb}
 use lib.ListN.{length, set, length-append}
 use lib.Seq.{sets, length-sets, length-take-le}
 use lib.Dec.{ltb}
-use Rattle.io.specs.Counts.{IsPrefixLen}
 use Rattle.xdr.proofs.Be.{sets-append}
 use Rattle.layouts.specs.declared.kinds.Kind.{Kind}
 use Rattle.layouts.specs.declared.kinds.Kind.TheVariants.{Scsi, Rdma}
 use Rattle.layouts.specs.Layout.{Row}
-use Rattle.listings.specs.Text.{digits, decimal, number_text, last_of, line_of, lines_of, accepted_text, refused_text, listed, Put, Listing}
+use Rattle.listings.specs.Text.{digits, decimal, number_text, last_of, line_of, lines_of, accepted_text, refused_text, listed, IsPrefixLen, Put, Listing}
 
 -- ---- one text after another
 pub nothing : (d : List ℕ) (at : ℕ) → Put d at [] d at

@@ -1,6 +1,6 @@
 -- DEFINITION. What list_layout and list_rdma_layout print (Rules 2.11), as bytes. In this order: a number in decimal; an extent's line; the text of an
--- accepted body and of a refusal; the text of an input (over 65,536 bytes: refusal 1); a text stored in a buffer.
-use Rattle.std.specs.Prelude.{ℕ, zero, suc, ◌+◌, ◌/◌, ◌%◌, ◌≡◌, List, [], ◌∷◌, ◌++◌, cond, length, ltb}
+-- accepted body and of a refusal; the text of an input (over 65,536 bytes: refusal 1); the front of a buffer; a text stored in a buffer.
+use Rattle.std.specs.Prelude.{ℕ, zero, suc, ◌+◌, ◌/◌, ◌%◌, ◌≤◌, ◌≡◌, List, [], ◌∷◌, ◌++◌, cond, length, take, ltb}
 use Rattle.std.proofs.lemmas.List.Edits.{sets}
 use Rattle.extents.specs.declared.Verdict.{Verdict}
 use Rattle.extents.specs.declared.Verdict.TheVariants.{Accepted, Refused}
@@ -49,6 +49,10 @@ text_of k (Refused rule place) s = refused_text rule place
 -- the whole output for an input that is read as a body of the kind k
 unfoldable pub listed : Kind → Bytes → Bytes
 listed k s = cond (ltb 65536 (length s)) (refused_text 1 0) (text_of k (check_body k s) s)
+
+-- the first n bytes of a buffer are within it, and are n
+abbrev pub IsPrefixLen : ℕ → Bytes → Type 0
+IsPrefixLen n xs = (n ≤ length xs) × (n ≡ length (take n xs))
 
 -- the text stands in the buffer from `at` on, the rest is as it was, and r is where the text ends
 pub record Put (before : Bytes) (at : ℕ) (text after : Bytes) (r : ℕ) : Type 0 where

@@ -1,10 +1,9 @@
 // The text that list_layout and list_rdma_layout print, into a lent buffer. Paper 01, "The program prints".
 // In this order: bytes; a number with the byte after it; an extent's line; all lines; the refusal; the whole text.
 ghost use Rattle.std.specs.Prelude.{◌≡◌, ◌+◌, ◌*◌, ◌≤◌, length};
-ghost use Rattle.io.specs.Counts.{IsPrefixLen};
 ghost use Rattle.extents.specs.declared.Verdict.TheVariants.{Accepted};
 ghost use Rattle.layouts.specs.Layout.{rows_of, check_body};
-ghost use Rattle.listings.specs.Text.{decimal, number_text, last_of, line_of, lines_of, accepted_text, refused_text, Put, Listing};
+ghost use Rattle.listings.specs.Text.{decimal, number_text, last_of, line_of, lines_of, accepted_text, refused_text, IsPrefixLen, Put, Listing};
 
 use extents::{Extent, Verdict};
 use layouts::kinds::Kind;

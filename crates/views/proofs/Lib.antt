@@ -1,3 +1,2 @@
--- Views: what a view answers. ViewTypes: the view, as the laws of `walks` take it.
+-- Views: what a view answers.
 pub mod Views
-pub mod ViewTypes

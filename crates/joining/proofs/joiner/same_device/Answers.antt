@@ -1,5 +1,5 @@
 -- same_device meets its contract: sixteen bytes as two numbers.
-use Rattle.std.proofs.Common.{◌*◌, sym, ◌∙◌, arith}
+use Rattle.std.proofs.Common.{◌*◌, sym, ◌∙◌, arith, rules}
 use Rattle.joining.proofs.Pieces.{first-differs, second-decides}
 use Rattle.joining.proofs.joiner.same_device.Goals as goal
 
@@ -12,5 +12,5 @@ pub returns : goal.returns
 returns c =
     let a = c.args in
     rw (c.word-3.ensures, c.word-4.ensures)
-    (second-decides a.devs.now (16 * a.p) (16 * a.i) (omega arith) (omega arith) (λ k. omega (arith, c.shared_slice_known-1.given k))
+    (second-decides a.devs.now (16 * a.p) (16 * a.i) (omega arith) (omega arith) (λ k. search rules)
     (sym c.word.ensures ∙ c.if-word.false ∙ c.word-2.ensures))

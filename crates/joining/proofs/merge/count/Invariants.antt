@@ -4,7 +4,7 @@ use Rattle.joining.proofs.Loops.{Counting}
 use Rattle.joining.proofs.merge.count.Given as goal
 
 abbrev pub invariant-loop-i : goal.invariant-loop-i
-invariant-loop-i l = 
+invariant-loop-i l =
     Counting l.devs l.offs l.lens l.stos l.sts (length l.offs) l.passed (record { count = l.count; latest = l.runs }) l.i
 
 abbrev pub decreases-loop-i : goal.decreases-loop-i

@@ -8,7 +8,7 @@ use Rattle.joining.proofs.Loops.{Filling}
 use Rattle.joining.proofs.merge.fill.Given as goal
 
 abbrev pub invariant-loop-i : goal.invariant-loop-i
-invariant-loop-i l = 
+invariant-loop-i l =
     Filling l.devs l.offs l.lens l.stos l.sts (length l.offs) (length l.initial.d) (sets l.initial.d 4 (bytes_of (merged (column_list l.devs l.offs l.lens l.stos l.sts)))) l.d (record { count = l.count; latest = l.runs }) l.i
 
 abbrev pub decreases-loop-i : goal.decreases-loop-i

@@ -1,0 +1,7 @@
+-- write_all: what was written so far is within the buffer.
+use Prim.Native.Nat.{◌≤◌}
+use lib.ListN.{length}
+use Rattle.listings.proofs.program.write_all.Given as goal
+
+abbrev pub invariant-loop-turn : goal.invariant-loop-turn
+invariant-loop-turn _ l = l.done ≤ length l.buf
