@@ -8,4 +8,9 @@
 //     cluster     the epochs of a cluster
 #![tactic(auto)]
 
+mod bodies;
 mod cluster;
+mod commit;
+mod record;
+mod report;
+mod request;
