@@ -1,4 +1,3 @@
-use Prim.Native.Nat.{◌-◌}
 use mathlib.Core.Path.{sym, ◌∙◌}
 use Rattle.reports.proofs.Reports.{goes_on}
 use Rattle.flexfiles.specs.Handed.{records_at}

@@ -1,5 +1,4 @@
 use mathlib.Core.Path.{◌≡◌, ap, ◌∙◌}
-use Prim.Native.Nat.{◌-◌}
 use lib.ListN.{length, get_or}
 use Rattle.places.proofs.Loops.{mapped-length, mapping-none, mapping-more}
 use Rattle.mirroring.proofs.Flags.{mapped-places}
