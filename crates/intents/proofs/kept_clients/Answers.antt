@@ -1,3 +1,4 @@
+-- By the laws of such a loop in `Loops` of places, and by `EndOfGrace`.
 use mathlib.Core.Path.{◌≡◌, refl}
 use Prim.Native.Nat.{◌<◌}
 use native.Mathlib.Omega.{arith}

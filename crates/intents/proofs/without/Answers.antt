@@ -1,3 +1,4 @@
+-- By the laws of such a loop in `Loops` of places.
 use mathlib.Core.Path.{◌∙◌}
 use Rattle.places.proofs.Loops.{pulling-next, pulled-all}
 use Rattle.intents.specs.Intents.{no_intent}

@@ -1,3 +1,4 @@
+-- By the laws of `Assessing`, `Reports` of reports and `StatisticsWalk` of reports.
 use mathlib.Core.Path.{◌≡◌, sym, ◌∙◌}
 use native.Mathlib.Omega.{arith}
 use lib.ListN.{length}

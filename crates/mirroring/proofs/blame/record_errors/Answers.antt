@@ -1,3 +1,4 @@
+-- By the laws of `Assessing` and `Reports` of reports.
 use mathlib.Core.Path.{sym, ◌∙◌}
 use native.Mathlib.Omega.{arith}
 use Rattle.reports.proofs.Reports.{device-read-as, device-missing, row_more, row_done}

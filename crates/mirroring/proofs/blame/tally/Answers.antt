@@ -1,3 +1,4 @@
+-- By the laws of `Assessing` and `StatisticsWalk` of reports.
 use mathlib.Core.Path.{◌≡◌, sym, ap, ◌∙◌}
 use native.Mathlib.Omega.{arith}
 use lib.ListN.{length}

@@ -1,3 +1,4 @@
+-- By the laws of `Enrolling`.
 use mathlib.Core.Path.{sym, ◌∙◌}
 use Rattle.mirroring.proofs.Enrolling.{refused-whole, enrolling-none, enrolling-twice, enrolling-more, enrolled-all}
 use Rattle.mirroring.proofs.enrol.enrol.Goals as goal

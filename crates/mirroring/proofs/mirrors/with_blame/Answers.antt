@@ -1,3 +1,4 @@
+-- By the laws of such a loop in `Loops` of places, and by `Flags`.
 use mathlib.Core.Path.{◌≡◌, ap, ◌∙◌}
 use lib.ListN.{length, get_or}
 use Rattle.places.proofs.Loops.{mapped-length, mapping-none, mapping-more}

@@ -1,3 +1,4 @@
+-- By the laws of `Moving`.
 use mathlib.Core.Path.{◌≡◌, refl}
 use native.Mathlib.Omega.{arith}
 use lib.ListN.{length}

@@ -1,3 +1,4 @@
+-- By the laws of such a loop in `Loops` of places, and by `Sets` of places.
 use mathlib.Core.Path.{◌≡◌, sym}
 use native.Mathlib.Omega.{arith}
 use lib.ListN.{length}

@@ -1,3 +1,4 @@
+-- By the laws of `Moving`.
 use mathlib.Core.Path.{refl}
 use native.Mathlib.Omega.{arith}
 use Rattle.recovery.proofs.Moving.{lowered-here, lowering-on, lowered-last}

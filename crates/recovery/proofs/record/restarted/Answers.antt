@@ -1,3 +1,4 @@
+-- By the laws of such a loop in `Loops` of places.
 use mathlib.Core.Path.{◌≡◌}
 use native.Mathlib.Omega.{arith}
 use lib.ListN.{length}

@@ -1,3 +1,4 @@
+-- By the laws of `Summing`.
 use mathlib.Core.Path.{◌≡◌}
 use lib.ListN.{length}
 use Rattle.places.proofs.Loops.{mapped-length}

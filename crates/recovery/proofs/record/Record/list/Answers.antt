@@ -1,3 +1,4 @@
+-- By the laws of such a loop in `Loops` of places, and by `Listings`.
 use mathlib.Core.Path.{◌≡◌, refl}
 use Prim.Native.Nat.{◌≤◌, ◌<◌}
 use native.Mathlib.Omega.{arith}
