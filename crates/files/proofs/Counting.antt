@@ -13,7 +13,6 @@ use Rattle.intents.specs.Intents.{no_intent, intent_of, is_free, first_taken, re
 use Rattle.intents.specs.declared.Intent.{Intent}
 use Rattle.files.specs.Counts.{standing, recounted, with_counts, moved_by}
 use Rattle.files.specs.File.{is_file, with_mark, with_mirrors, with_intents, is_listed, is_ready, standing_of, moved_head, counted_head, tallied, changed_file, raised_file, marks_file, marked_if, head_marked, head_after}
-use Rattle.files.specs.declared.counts.Standing.{Standing}
 use Rattle.files.specs.declared.file.File.{File}
 use Rattle.files.specs.declared.head.Head.{Head}
 

@@ -1,6 +1,6 @@
 -- MODEL. One file of the record, in this order: a file's fields, each changed by one function; tests; the counts; the calls on one file, with what each
 -- answers and the file afterwards; a report; restart and the end of grace; the lists.
-use Rattle.std.specs.Prelude.{ℕ, Bool, true, false, cond, not, List, [], ◌∷◌, map, length, set, replicate, ◌==◌, slice_index_or, slice_set}
+use Rattle.std.specs.Prelude.{ℕ, Bool, true, false, cond, not, List, [], ◌∷◌, map, length, ◌==◌, slice_index_or, slice_set}
 use Rattle.statuses.specs.Names.{Bytes, Status, Client, FileNumber}
 use Rattle.reports.specs.Device.{halves}
 use Rattle.places.specs.Lists.{any, chosen, fill}

@@ -1,6 +1,6 @@
 -- The first device error from C's cursor on is what the report from there begins with. In this order: what the code's tests say; the device errors from C's
 -- cursor on; that law, and that the cursor goes forward, within the bytes.
-use Prim.Native.Nat.{ℕ, zero, suc, ◌+◌, ◌-◌, ◌*◌, ◌≤◌, ◌<◌}
+use Prim.Native.Nat.{ℕ, zero, suc, ◌+◌, ◌-◌, ◌*◌, ◌≤◌}
 use mathlib.Core.Path.{◌≡◌, refl, sym, ap, ◌∙◌}
 use mathlib.Core.List.{List, [], ◌∷◌}
 use mathlib.Core.Bool.{Bool, true, false, cond}
@@ -10,7 +10,7 @@ use lib.Seq.{drop-drop}
 use lib.Dec.{ltb, eqb}
 use borrow.Author.Tests.{lt-ltb, le-ltb, eq-eqb, ne_eqb, eqb-true, eqb-false}
 use Rattle.xdr.specs.Reader.{in_turn}
-use Rattle.reports.specs.Report.{Report, Malformed, Whole, DeviceError, ioerr, status_of, without_statistics}
+use Rattle.reports.specs.Report.{Report, Malformed, Whole, ioerr, status_of, without_statistics}
 use Rattle.reports.specs.ReportSteps.{naming, error_in, errors_in, next_at, device_at, records_then, report_from, errors_from, end_of}
 use Rattle.reports.specs.StatisticsSteps.{statistics_from}
 use Rattle.reports.specs.declared.cursor.Cursor.{Cursor}

@@ -7,8 +7,7 @@ use native.Mathlib.Omega.{arith}
 use lib.ListN.{length, take, drop}
 use lib.Dec.{eqb}
 use borrow.Author.Tests.{eq-eqb, ne_eqb, eqb-true, eqb-false}
-use Rattle.reports.specs.Statistics.{Statistic}
-use Rattle.reports.specs.Report.{Report, Whole, Malformed, DeviceError, report_of, status_of, without_statistics, without_errors}
+use Rattle.reports.specs.Report.{Report, Whole, report_of, status_of, without_statistics, without_errors}
 use Rattle.reports.specs.StatisticsSteps.{counting, next_of, statistics_from}
 use Rattle.reports.specs.ReportSteps.{naming, end_of}
 use Rattle.reports.specs.declared.cursor.Cursor.{Cursor}

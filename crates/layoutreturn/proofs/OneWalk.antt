@@ -1,13 +1,11 @@
 -- One walk of the report gives the outcome that is defined, by what was decided.
-use mathlib.Core.Path.{◌≡◌, refl, sym, ap, ◌∙◌}
+use mathlib.Core.Path.{◌≡◌, refl, sym, ap}
 use mathlib.Core.Bool.{Bool, true, false, cond}
-use Prim.Native.Nat.{ℕ}
 use lib.Dec.{eqb}
 use Rattle.statuses.specs.Names.{Bytes, Status, Client, FileNumber}
 use Rattle.reports.specs.Report.{Report, report_of}
 use Rattle.wire.specs.Request.{part_of}
 use Rattle.wire.specs.Stateid.{no_stateid, stateid_in}
-use Rattle.wire.specs.declared.stateid.Stateid.{Stateid}
 use Rattle.places.specs.Places.{first, is_found}
 use Rattle.places.proofs.Sets.{true-false}
 use Rattle.mirroring.specs.Blame.{status_only, assessment_of}

@@ -12,7 +12,7 @@ use Rattle.wire.specs.Request.{part_of}
 use Rattle.wire.specs.Stateid.{no_stateid, stateid_in, raised_stateid}
 use Rattle.wire.specs.declared.stateid.Stateid.{Stateid}
 use Rattle.places.proofs.Sets.{true-false}
-use Rattle.mirroring.specs.Blame.{no_change, status_only, errors_assessed, assessment_of, tallied_of, settled_of}
+use Rattle.mirroring.specs.Blame.{status_only, errors_assessed, assessment_of, tallied_of, settled_of}
 use Rattle.mirroring.specs.Totals.{no_totals}
 use Rattle.mirroring.specs.TotalsSteps.{mirror_totals}
 use Rattle.mirroring.specs.declared.blame.Assessment.{Assessment}
@@ -20,7 +20,7 @@ use Rattle.mirroring.specs.declared.blame.Change.{Change}
 use Rattle.mirroring.specs.declared.mirrors.Mirror.{Mirror}
 use Rattle.mirroring.specs.declared.totals.Totals.{Totals}
 use Rattle.mirroring.proofs.Assessing.{status-kept}
-use Rattle.files.specs.File.{is_file, raised_file, marks_file, blames_places, head_marked, head_after}
+use Rattle.files.specs.File.{is_file, raised_file, marks_file, blames_places}
 use Rattle.files.specs.declared.file.File.{File}
 use Rattle.files.specs.declared.head.Head.{Head}
 use Rattle.files.proofs.Changing.{told-nothing, by-fields}
@@ -31,7 +31,6 @@ use Rattle.layoutreturn.specs.Settled.{refused_as, accepted_as, without_totals, 
 use Rattle.layoutreturn.specs.declared.Claim.{Claim}
 use Rattle.layoutreturn.specs.declared.Decision.TheVariants.{ReadBody, ReturnBody}
 use Rattle.layoutreturn.specs.declared.Outcome.{Outcome}
-use Rattle.layoutreturn.specs.declared.Settled.{Settled}
 use Rattle.layoutreturn.proofs.OneWalk.{outcome-assessed}
 
 -- ---- a refusal, and a return that is accepted, by the status of what was assessed

@@ -1,6 +1,6 @@
 -- MODEL. LAYOUTRETURN on one file (Rules 3.7, 3.8, 3.15), in this order: 28 and steps 1 to 4, before any file is looked at; steps 5 to 7 on a file; an ordinary
 -- return on a file; the outcome; the reply; the file afterwards.
-use Rattle.std.specs.Prelude.{Bool, true, false, cond, ℕ, eqb, ltb}
+use Rattle.std.specs.Prelude.{cond, ℕ, eqb, ltb}
 use Rattle.statuses.specs.Names.{Bytes, Status, Client, FileNumber}
 use Rattle.reports.specs.Report.{Report, report_of}
 use Rattle.wire.specs.Request.{request_of, part_of}

@@ -13,7 +13,7 @@ use Rattle.intents.specs.Intents.{is_intent}
 use Rattle.files.specs.File.{is_file}
 use Rattle.files.specs.declared.file.File.{File}
 use Rattle.files.specs.declared.head.Head.{Head}
-use Rattle.layoutreturn.specs.LayoutReturn.{handed_on_code, if_whole, by_stateid, held_on, in_edition, outcome_of, outcome_on}
+use Rattle.layoutreturn.specs.LayoutReturn.{handed_on_code, if_whole, by_stateid, held_on, in_edition, outcome_on}
 use Rattle.layoutreturn.specs.declared.Claim.{Claim}
 use Rattle.layoutreturn.specs.declared.Outcome.{Outcome}
 use Rattle.layoutreturn.specs.declared.Decision.{Decision}

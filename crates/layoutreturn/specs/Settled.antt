@@ -1,6 +1,6 @@
 -- MODEL of the C call: what an answer says but for its totals, which C is handed apart. In this order: by its fields; whether statistics count; steps 5 to 7 by what the file says
 -- of the client, and the outcome; the file afterwards. proofs/Settling.antt proves it equal to `outcome_by`.
-use Rattle.std.specs.Prelude.{Bool, true, false, not, cond, ◌&&◌, ℕ, eqb}
+use Rattle.std.specs.Prelude.{Bool, false, not, cond, ◌&&◌, ℕ, eqb}
 use Rattle.statuses.specs.Names.{Status, Client}
 use Rattle.reports.specs.Report.{Report}
 use Rattle.wire.specs.Stateid.{no_stateid, raised_stateid}

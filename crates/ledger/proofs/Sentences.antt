@@ -3,7 +3,7 @@
 use mathlib.Core.Path.{◌≡◌, refl, ap, ap₂, sym, ◌∙◌}
 use mathlib.Core.List.{List, [], ◌∷◌}
 use mathlib.Core.Bool.{Bool, true, false, cond}
-use Prim.Native.Nat.{ℕ, zero, suc, ◌+◌, ◌<◌, ◌≤◌}
+use Prim.Native.Nat.{ℕ, suc, ◌+◌, ◌<◌, ◌≤◌}
 use native.Mathlib.Omega.{arith}
 use native.Mathlib.Decide.{ℕ_discrete}
 use lib.ListN.{length}
@@ -17,7 +17,7 @@ use Rattle.mirroring.specs.Direction.{head_or, last_or, first_by}
 use Rattle.mirroring.specs.declared.source.Direction.{Direction}
 use Rattle.mirroring.specs.declared.source.Direction.TheVariants.{Lowest, Highest}
 use Rattle.ledger.specs.Ledger.{Row, Ledger, is_row, new_row, registered, row_of, numbers, sources, unblamed_from, source}
-use Rattle.ledger.specs.Lists.{Nearer, IsSource, foremost, nowhere, Sources, sources-nil, sources-cons, row_passes, IsList, OneList}
+use Rattle.ledger.specs.Lists.{Nearer, IsSource, foremost, nowhere, Sources, sources-nil, sources-cons, row_passes, OneList}
 
 -- ---- what is chosen of rising rows
 above-has-not : (n : ℕ) (ns : List ℕ) → Above n ns → has n ns ≡ false

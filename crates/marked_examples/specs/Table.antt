@@ -1,6 +1,6 @@
 -- DEFINITION. The marked examples K1 to K15 (Rules 8), as one table: what the definitions answer, and beside it what the paper prints. In this order:
 -- layout bodies; a report as bytes; histories of the record, by the record's definitions and by the ledger's; rows; the table; the claim.
-use Rattle.std.specs.Prelude.{ℕ, ◌-◌, ◌^◌, ◌≡◌, List, [], ◌∷◌, ◌++◌, map, false, replicate}
+use Rattle.std.specs.Prelude.{ℕ, ◌-◌, ◌^◌, ◌≡◌, List, [], ◌∷◌, ◌++◌, map, replicate}
 use Rattle.xdr.specs.Be.{be_bytes}
 use Rattle.extents.specs.declared.Verdict.{Verdict}
 use Rattle.extents.specs.declared.Verdict.TheVariants.{Accepted, Refused}

@@ -3,26 +3,25 @@
 use mathlib.Core.Path.{◌≡◌, refl, ap, ap₂, sym, ◌∙◌}
 use mathlib.Core.List.{List, [], ◌∷◌, ◌++◌, map}
 use mathlib.Core.Bool.{Bool, true, false, not, cond, ◌||◌}
-use Prim.Native.Nat.{ℕ, zero, suc, ◌+◌, ◌<◌, ◌≤◌}
+use Prim.Native.Nat.{ℕ, zero, suc, ◌<◌, ◌≤◌}
 use native.Mathlib.Omega.{arith}
 use native.Mathlib.Decide.{ℕ_discrete}
-use lib.ListN.{get_or, set, length, replicate, length-set, length-map, get_or-map}
+use lib.ListN.{get_or, set, length, replicate, get_or-map}
 use lib.Dec.{eqb}
 use lib.Seq.{get_or-set_same, get_or-set_other}
 use borrow.Author.Tests.{eq-eqb, ne_eqb}
 use Rattle.masks.specs.Mask as mask
 use Rattle.masks.proofs.Laws.{has-zero, has-plus, plus-node}
 use Rattle.places.specs.Lists.{any, chosen, has, with, fill}
-use Rattle.places.specs.Places.{bump, first}
+use Rattle.places.specs.Places.{first}
 use Rattle.reports.specs.Device.{Device}
 use Rattle.reports.specs.Statistics.{Statistic}
 use Rattle.mirroring.specs.Devices.{same_device, is_mirror, place_of, Proxy, no_proxy, proxy_at, is_there, is_proxy, is_copy, copy_place}
-use Rattle.mirroring.specs.Mirrors.{no_mirror, new_proxy, no_mirrors, is_device, is_good, unblamed, blamed_if, blamed_by, blamed_at, has_proxy, with_proxy, without_proxy, mirror_of, placed_mirrors}
+use Rattle.mirroring.specs.Mirrors.{no_mirror, new_proxy, no_mirrors, is_device, unblamed, blamed_if, blamed_by, blamed_at, has_proxy, with_proxy, without_proxy, mirror_of, placed_mirrors}
 use Rattle.mirroring.specs.Totals.{sum_of, proxy_sum}
 use Rattle.mirroring.specs.TotalsSteps.{sum_at}
 use Rattle.mirroring.specs.declared.mirrors.Mirror.{Mirror}
-use Rattle.places.specs.declared.Found.{Found}
-use Rattle.places.specs.declared.Found.TheVariants.{At, Nothing}
+use Rattle.places.specs.declared.Found.TheVariants.{At}
 use Rattle.places.proofs.Sets.{true-false, has-with}
 
 -- ---- how they go together

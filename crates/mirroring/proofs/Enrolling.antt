@@ -15,7 +15,7 @@ use Rattle.places.specs.Lists.{any, none, fill}
 use Rattle.places.specs.Places.{first}
 use Rattle.reports.specs.Device.{Device, halves}
 use Rattle.mirroring.specs.Devices.{same_device, devices_in, mirrors_in, is_mirror, twice, bad_mirrors}
-use Rattle.mirroring.specs.Mirrors.{no_mirror, new_mirror, mirror_of, is_at, is_device, whole_list, refused_list, placed_mirrors, enrolled_of}
+use Rattle.mirroring.specs.Mirrors.{no_mirror, new_mirror, mirror_of, is_at, whole_list, refused_list, placed_mirrors, enrolled_of}
 use Rattle.mirroring.specs.declared.mirrors.Mirror.{Mirror}
 use Rattle.mirroring.specs.declared.enrol.Enrolled.{Enrolled}
 use Rattle.places.specs.declared.Found.TheVariants.{At, Nothing}

@@ -81,6 +81,7 @@ impl Errors {
     }
 
     // One device error more.
+    #[tactic(auto, unfolding(crate::specs::Blame::changed_of))]
     fn device_error(mut self, mirrors: [Mirror; PLACES], high: u64, low: u64, status: u32) -> Errors
         ensures { change_in result ≡ changed_of mirrors (change_in self) high low status }
     {
@@ -176,6 +177,7 @@ pub fn blamed(mirrors: [Mirror; PLACES], body: &[u8]) -> Errors
 }
 
 // What the statistics records say, which are only passed where they do not count.
+#[tactic(auto, using(crate::proofs::Assessing::passed_is))]
 pub fn tally(mirrors: [Mirror; PLACES], body: &[u8], from: Cursor, counts: bool) -> Tallied
     ensures { result ≡ tallied_of mirrors counts (statistics_from body.now from) }
 {

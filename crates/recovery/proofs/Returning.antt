@@ -1,14 +1,10 @@
 -- LAYOUTRETURN at any place of the record that holds the file where one is wanted: what it answers, and the record with the file put back there, are what the
 -- definition says by what was decided, and so is the stateid of the reply. In this order: a file that is put back as it was; the law.
 use mathlib.Core.Path.{◌≡◌, refl, sym, ap, ◌∙◌}
-use mathlib.Core.List.{List}
 use Prim.Native.Nat.{ℕ}
 use lib.ListN.{length, get_or}
 use lib.Seq.{set-get_or}
-use lib.Dec.{eqb}
 use Rattle.statuses.specs.Names.{Bytes, Status, Client, FileNumber}
-use Rattle.reports.specs.Report.{report_of}
-use Rattle.wire.specs.Request.{part_of, body_of}
 use Rattle.mirroring.specs.Blame.{status_only}
 use Rattle.files.specs.File.{no_file, file_answered, raised_file}
 use Rattle.wire.specs.Stateid.{no_stateid}
@@ -18,7 +14,7 @@ use Rattle.layoutreturn.specs.declared.Decision.{Decision}
 use Rattle.layoutreturn.specs.declared.Decision.TheVariants.{Answered, HandedOn, ReadBody, ReturnBody}
 use Rattle.layoutreturn.specs.declared.Outcome.{Outcome}
 use Rattle.layoutreturn.proofs.Deciding.{body-decided, return-decided}
-use Rattle.recovery.specs.Record.{place_in, put_file, answered}
+use Rattle.recovery.specs.Record.{place_in, put_file}
 use Rattle.recovery.specs.LayoutReturn.{returning, answered_by, place_for, reported_of, ordinary_of, returned_by, layoutreturn_of, stateid_by}
 use Rattle.recovery.specs.declared.record.Record.{Record}
 use Rattle.recovery.specs.declared.returns.Returned.{Returned}

@@ -1,6 +1,6 @@
 -- MODEL. LAYOUTRETURN on the record: what it answers, the record afterwards, and the reply buffer. Nothing here need be believed: crate ledger shows that
 -- it is what the ledger says.
-use Rattle.std.specs.Prelude.{Bool, cond, ℕ, length, eqb}
+use Rattle.std.specs.Prelude.{ℕ, length, eqb}
 use Rattle.statuses.specs.Names.{Bytes, Status, Client, FileNumber}
 use Rattle.reports.specs.Report.{report_of}
 use Rattle.wire.specs.Request.{body_of}

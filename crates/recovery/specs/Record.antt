@@ -1,6 +1,6 @@
 -- MODEL. What each method answers, and the record afterwards. Nothing here need be believed: proofs/History.antt shows that it is what the ledger
 -- says. In this order: the record; calls on one file; the set-up of a stateid; register and forget; restart and the end of grace; the lists.
-use Rattle.std.specs.Prelude.{List, [], ◌∷◌, ◌++◌, map, Bool, true, false, not, cond, ℕ, zero, suc, get_or, set, take, drop, replicate, length, eqb, leb}
+use Rattle.std.specs.Prelude.{List, [], ◌∷◌, ◌++◌, map, Bool, true, false, cond, ℕ, zero, suc, get_or, set, take, drop, replicate, length, eqb, leb}
 use Rattle.statuses.specs.Names.{Bytes, Status, Client, FileNumber}
 use Rattle.places.specs.Lists.{any, chosen}
 use Rattle.places.specs.Places.{first, place_or}

@@ -58,6 +58,7 @@ fn in_use(files: [File; 64], t: Stateid) -> bool
 }
 
 // Whether an `other` may not be a new stateid's.
+#[tactic(auto, unfolding(crate::specs::Record::is_barred))]
 fn bars(files: [File; 64], other: &[u8]) -> bool
     ensures { result ≡ is_barred other.now files }
 {

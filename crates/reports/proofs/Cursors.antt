@@ -9,9 +9,8 @@ use lib.ListN.{length, drop, length-drop}
 use lib.Seq.{drop-drop, drop-length}
 use lib.Dec.{ltb, leb}
 use Rattle.xdr.specs.Be.{be_nat}
-use Rattle.xdr.specs.Reader.{Read, Got, Bad, Reader, onward, number, in_turn, counted}
+use Rattle.xdr.specs.Reader.{Got, Bad, Reader, onward, number, in_turn, counted}
 use Rattle.reports.specs.Cursors.{nowhere, cursor_at}
-use Rattle.reports.specs.declared.cursor.Cursor.{Cursor}
 
 module _ {A : Type 0} (p : Reader A) (none : p [] ≡ Bad) (s : List ℕ) where
   pub nothing-there : in_turn 1 p (drop (length s) s) ≡ Bad

@@ -5,7 +5,7 @@ use Prim.Native.Nat.{ℕ}
 use lib.ListN.{replicate}
 use Rattle.xdr.specs.Be.{be_nat}
 use Rattle.xdr.specs.Reader.{number, opaque, boolean, bounded, same_bytes, in_turn}
-use Rattle.reports.specs.Report.{Report, Whole, Malformed, device_error, ioerr, layoutreturn, joined, report_of}
+use Rattle.reports.specs.Report.{Whole, Malformed, device_error, ioerr, layoutreturn, joined, report_of}
 use Rattle.reports.specs.Statistics.{iostats, io_info, nfstime, io_latency, layoutupdate}
 
 abbrev pub blank : ℕ → List ℕ

@@ -11,10 +11,8 @@ use lib.Seq.{drop-drop}
 use lib.Dec.{ltb, eqb}
 use borrow.Author.Tests.{lt-ltb, le-ltb, eq-eqb, ne_eqb, ltb-true, ltb-false, eqb-false}
 use Rattle.xdr.specs.Be.{be_nat}
-use Rattle.xdr.specs.Reader.{Read, Got, Bad, Reader, onward, ◌>>=◌, give, in_turn, counted}
+use Rattle.xdr.specs.Reader.{Read, Got, Bad, Reader, onward, ◌>>=◌, give, in_turn}
 use Rattle.xdr.specs.Past.{past_of}
-use Rattle.xdr.specs.declared.fields.Past.{Past}
-use Rattle.reports.specs.Device.{halves}
 use Rattle.reports.specs.Statistics.{Statistic}
 use Rattle.reports.specs.Cursors.{nowhere, cursor_at}
 use Rattle.reports.specs.StatisticsSteps.{statistics_from, tally}

@@ -8,11 +8,11 @@ use mathlib.Core.Bool.{Bool, true, false, cond}
 use native.Mathlib.Omega.{arith}
 use borrow.Author.Tests.{lt-ltb, le-ltb, eq-eqb, ne_eqb, le-leb, lt-leb, ltb-false}
 use lib.ListN.{length, take, drop, length-drop}
-use lib.Seq.{drop-drop, drop-length}
+use lib.Seq.{drop-drop}
 use lib.Dec.{ltb, leb, eqb}
 use Rattle.xdr.specs.Be.{be_nat}
 use Rattle.reports.specs.Device.{Device, halves}
-use Rattle.xdr.specs.Reader.{Read, Got, Bad, Reader, onward, ◌>>=◌, give, number, boolean, bounded, in_turn, counted}
+use Rattle.xdr.specs.Reader.{Read, Got, Bad, Reader, onward, ◌>>=◌, give, boolean, bounded, in_turn, counted}
 use Rattle.xdr.specs.Past.{past_of}
 use Rattle.reports.specs.Statistics.{Statistic, io_info, nfstime, io_latency, layoutupdate, iostats}
 use Rattle.reports.specs.Report.{Report, DeviceError, ioerr, report_of, status_of, without_errors, over, outcome}

@@ -2,7 +2,7 @@
 --     next_of                     what `next` answers
 --     statistics_from             the statistics records from a cursor on; `after_next` says the same by what stands there
 --     tally                      what a caller makes of them
-use Rattle.std.specs.Prelude.{ℕ, ◌+◌, ◌-◌, List, [], ◌∷◌, cond, length, take, drop, eqb}
+use Rattle.std.specs.Prelude.{ℕ, ◌-◌, List, [], ◌∷◌, cond, length, take, drop, eqb}
 use Rattle.xdr.specs.Be.{be_nat}
 use Rattle.reports.specs.Device.{halves}
 use Rattle.xdr.specs.Reader.{Read, Got, Bad, in_turn}

@@ -1,5 +1,5 @@
 -- What the stores of a reply leave in the lent buffer.
-use Rattle.std.proofs.Common.{◌≡◌, ℕ, ◌+◌, ◌<◌, ◌≤◌, Bool, true, false, cond, eqb, ltb, List, [], ◌∷◌, ◌++◌, length, sym, refl, ap, ◌∙◌, subst, append_assoc, append-nil, le-ltb, lt-ltb, eq-eqb, ne_eqb, eqb-true}
+use Rattle.std.proofs.Common.{◌≡◌, ℕ, ◌+◌, ◌<◌, ◌≤◌, Bool, true, false, cond, eqb, List, ◌++◌, length, sym, refl, subst, append_assoc, append-nil, le-ltb, lt-ltb, eq-eqb, ne_eqb, eqb-true}
 use lib.Seq.{sets}
 use Rattle.xdr.specs.Be.{be_bytes}
 use Rattle.xdr.proofs.Be.{length-bytes, sets-append}

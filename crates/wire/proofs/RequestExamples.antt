@@ -1,12 +1,10 @@
 -- The definition's answers on a few requests, computed: the 120-byte request of paper 01, the order of steps 1 to 3, and the kinds of stateid.
-use Rattle.std.proofs.Common.{◌≡◌, ℕ, true, false, List, [], ◌∷◌, ◌++◌, map, length, refl}
+use Rattle.std.proofs.Common.{◌≡◌, ℕ, List, [], ◌∷◌, ◌++◌, map, length, refl}
 use Rattle.xdr.specs.Be.{be_nat}
 use Rattle.xdr.specs.Reader.{same_bytes, number, opaque, boolean, bounded}
 use Rattle.wire.specs.Request.{file_return, return_of, arguments, refusal_of, unless, request_of, body_of}
 use Rattle.wire.specs.Stateid.{ones, stateid_kind}
-use Rattle.wire.specs.declared.request.Kind.{Kind}
 use Rattle.wire.specs.declared.request.Kind.TheVariants.{Anonymous, Bypass, Current, Invalid, Ordinary}
-use Rattle.wire.specs.declared.request.Request.{Request}
 use Rattle.wire.specs.declared.request.Request.TheVariants.{Refused, Bulk, File}
 use Rattle.reports.proofs.ReportExamples.{blank, one}
 

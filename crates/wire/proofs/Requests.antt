@@ -1,6 +1,6 @@
 -- What the code's tests say of a request. In order: step 2; step 1 for return type 1; step 1; a form fits the bytes; steps 1 to 3;
 -- refusals are not 0; where the body lies.
-use Rattle.std.proofs.Common.{◌≡◌, ℕ, zero, suc, ◌+◌, ◌-◌, ◌*◌, ◌%◌, ◌<◌, ◌≤◌, Bool, true, false, cond, ◌&&◌, ◌||◌, eqb, ltb, leb, List, [], ◌∷◌, length, get_or, take, drop, sym, refl, ap, ◌∙◌, arith, length-drop, take_all, ltb-false, ltb-true, le-ltb, lt-ltb, eq-eqb, ne_eqb, eqb-true, le-leb}
+use Rattle.std.proofs.Common.{◌≡◌, ℕ, ◌+◌, ◌-◌, ◌<◌, ◌≤◌, Bool, true, false, cond, ◌&&◌, eqb, ltb, leb, List, [], length, get_or, take, drop, sym, ap, ◌∙◌, arith, length-drop, take_all, ltb-false, le-ltb, lt-ltb, eq-eqb, ne_eqb, le-leb}
 use borrow.Author.Tests.{lt-leb, eqb-false}
 use Rattle.xdr.specs.Be.{be_nat}
 use Rattle.xdr.specs.Reader.{same_bytes, zeros, padding, Got}
@@ -14,7 +14,7 @@ use Rattle.wire.specs.declared.request.Request.{Request}
 use Rattle.wire.specs.declared.request.Request.TheVariants.{Refused, Bulk, File}
 use Rattle.wire.specs.declared.stateid.Stateid.{Stateid}
 use Rattle.xdr.proofs.Readers.{by-test}
-use Rattle.xdr.proofs.Bytes.{false-true, first-zeros}
+use Rattle.xdr.proofs.Bytes.{first-zeros}
 use Rattle.wire.proofs.Stateids.{by-numbers}
 use Rattle.wire.proofs.RequestModel.{as-tested, body-lies}
 

@@ -1,5 +1,5 @@
 -- How far a seqid is behind the latest: the number that takes the one to the other, modulo 2^32.
-use Rattle.std.proofs.Common.{◌≡◌, ℕ, ◌+◌, ◌-◌, ◌%◌, ◌^◌, ◌<◌, arith}
+use Rattle.std.proofs.Common.{arith}
 use Rattle.wire.specs.Seqid.{behind, Behind}
 
 pub behind-is : Behind

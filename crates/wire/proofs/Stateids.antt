@@ -1,5 +1,5 @@
 -- Each stateid is of exactly one kind: `one-kind`. In this order: a stateid of a seqid and an `other`; a kind by its tests; the claim; the kind by the numbers: `by-numbers`.
-use Rattle.std.proofs.Common.{◌≡◌, ℕ, ◌+◌, ◌-◌, ◌^◌, ◌<◌, ◌≤◌, Bool, true, false, cond, eqb, ◌⊎◌, ◌↔◌, List, [], ◌∷◌, ◌++◌, length, get_or, take, drop, sym, refl, ap, ◌∙◌, inl, inr, append-nil, arith, length-drop, take-append-drop, length-take-le, get_or-drop, take_all, drop-drop, drop_at, le-ltb, eqb-true}
+use Rattle.std.proofs.Common.{◌≡◌, ℕ, ◌+◌, ◌-◌, ◌^◌, ◌<◌, ◌≤◌, Bool, true, false, cond, eqb, List, [], ◌++◌, length, get_or, take, drop, sym, refl, ap, ◌∙◌, inl, inr, append-nil, arith, length-drop, take-append-drop, length-take-le, get_or-drop, take_all, drop-drop, drop_at, le-ltb, eqb-true}
 use borrow.Author.Tests.{eqb-false}
 use Rattle.xdr.specs.Be.{be_nat, be_bytes}
 use Rattle.xdr.specs.Reader.{same_bytes, zeros}

@@ -2,7 +2,7 @@
 --     reply_with, reply_bytes           the bytes of a reply with a stateid, and with sixteen zero bytes
 --     reply_in_with, reply_in            the lent buffer afterwards
 --     reply_answer                     the answer
-use Rattle.std.specs.Prelude.{ℕ, cond, List, [], ◌++◌, length, ◌==◌, nat_lt}
+use Rattle.std.specs.Prelude.{cond, [], ◌++◌, length, ◌==◌, nat_lt}
 use Rattle.std.proofs.lemmas.List.Edits.{sets}
 use Rattle.statuses.specs.Names.{Bytes, Status}
 use Rattle.xdr.specs.Be.{be_bytes}

@@ -4,7 +4,7 @@
 --     request_of                the answer of steps 1 to 3
 --     number_of, kind_of         the same as numbers
 --     part_of, body_of           a part of a length from where a body begins; the body, as the part of the request where it lies
-use Rattle.std.specs.Prelude.{ℕ, ◌+◌, Bool, cond, ◌&&◌, List, [], ◌∷◌, length, take, drop, ◌==◌, nat_le, nat_lt}
+use Rattle.std.specs.Prelude.{ℕ, ◌+◌, cond, ◌&&◌, List, [], ◌∷◌, length, take, drop, ◌==◌, nat_le, nat_lt}
 use Rattle.statuses.specs.Names.{Bytes}
 use Rattle.xdr.specs.Reader.{Read, Got, Bad, Reader, ◌>>=◌, give, only, number, opaque, boolean, bounded}
 use Rattle.wire.specs.Stateid.{stateid_kind, kind_number}

@@ -3,7 +3,7 @@
 --     kind_in, judged_in             the stateid, layout type and iomode in their places
 --     kind_of_numbers                the kind of a stateid by its numbers, as `kind_of` tests them; proofs/Stateids.antt proves that it is `stateid_kind`
 --     request_in                    steps 1 to 3 from these
-use Rattle.std.specs.Prelude.{ℕ, ◌+◌, ◌-◌, ◌^◌, Bool, false, cond, ◌&&◌, List, length, take, drop, ◌==◌, nat_le, nat_lt}
+use Rattle.std.specs.Prelude.{ℕ, ◌+◌, ◌-◌, ◌^◌, false, cond, ◌&&◌, List, length, take, drop, ◌==◌, nat_le, nat_lt}
 use Rattle.xdr.specs.Be.{be_nat}
 use Rattle.xdr.specs.Reader.{same_bytes, zeros, padding}
 use Rattle.wire.specs.Stateid.{stateid_kind}

@@ -46,6 +46,7 @@ enum Form {
 }
 
 // Step 1 for return type 1: the body's length and limit, its bytes, its padding, and nothing more.
+#[tactic(auto, unfolding(crate::specs::RequestSteps::file_form))]
 fn file_laid_out(s: &[u8]) -> Form
     ensures { result ≡ file_form s.now }
 {

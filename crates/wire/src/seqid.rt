@@ -18,6 +18,7 @@ fn distance(latest: u32, given: u32) -> u32
 }
 
 // 0 means the latest; below 2^31 behind is older.
+#[tactic(auto, unfolding(crate::specs::Seqid::age_of))]
 pub fn age_of(latest: u32, given: u32) -> Age
     ensures { result ≡ age_of latest given }
 {

@@ -1,4 +1,4 @@
-use Prim.Native.Nat.{◌-◌}
+-- By the laws of `FirstError` and `Reports` of reports.
 use mathlib.Core.Path.{sym, ◌∙◌}
 use Rattle.reports.proofs.Reports.{goes_on}
 use Rattle.flexfiles.specs.Handed.{records_at}

@@ -1,5 +1,5 @@
+-- By the laws of such a loop in `Loops` of places.
 use mathlib.Core.Path.{◌≡◌, ap}
-use Prim.Native.Nat.{◌-◌}
 use native.Mathlib.Omega.{arith}
 use lib.ListN.{length}
 use borrow.Author.Rules.{rules}
@@ -10,7 +10,7 @@ use Rattle.intents.proofs.stateid_of.Goals as goal
 pub returns-then-is : goal.returns-then-is
 returns-then-is c =
     let long : length c.args.intents ≡ 8 = search (mapped-length, rules) in
-    ap (stateid_at _) (hit c.loop-i.invariant no_intent (omega (arith, long)) _ c.is.ensures c.if-is.true)
+    ap (stateid_at c.args.intents) (hit c.loop-i.invariant no_intent (omega (arith, long)) _ c.is.ensures c.if-is.true)
 
 pub loop-i-preserved : goal.loop-i-preserved
 loop-i-preserved c =

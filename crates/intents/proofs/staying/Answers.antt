@@ -1,5 +1,6 @@
+-- By the laws of such a loop in `Loops` of places, and by `EndOfGrace`.
 use mathlib.Core.Path.{◌∙◌}
-use Prim.Native.Nat.{◌<◌, ◌-◌}
+use Prim.Native.Nat.{◌<◌}
 use native.Mathlib.Omega.{arith}
 use Rattle.places.proofs.Loops.{mapping-none, mapping-more, mapped_at}
 use Rattle.intents.specs.Intents.{no_intent}

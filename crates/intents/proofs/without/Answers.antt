@@ -1,5 +1,5 @@
+-- By the laws of such a loop in `Loops` of places.
 use mathlib.Core.Path.{◌∙◌}
-use Prim.Native.Nat.{◌-◌}
 use Rattle.places.proofs.Loops.{pulling-next, pulled-all}
 use Rattle.intents.specs.Intents.{no_intent}
 use native.Mathlib.Omega.{arith}

@@ -1,5 +1,5 @@
+-- By the laws of `Assessing`, `Reports` of reports and `StatisticsWalk` of reports.
 use mathlib.Core.Path.{◌≡◌, sym, ◌∙◌}
-use Prim.Native.Nat.{◌-◌}
 use native.Mathlib.Omega.{arith}
 use lib.ListN.{length}
 use Rattle.reports.proofs.Reports.{goes_on, fold-begins, fold-record, fold-statistics, fold-malformed}

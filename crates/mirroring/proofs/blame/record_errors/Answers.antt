@@ -1,5 +1,5 @@
+-- By the laws of `Assessing` and `Reports` of reports.
 use mathlib.Core.Path.{sym, ◌∙◌}
-use Prim.Native.Nat.{◌-◌}
 use native.Mathlib.Omega.{arith}
 use Rattle.reports.proofs.Reports.{device-read-as, device-missing, row_more, row_done}
 use Rattle.mirroring.proofs.Assessing.{change-given}

@@ -1,6 +1,6 @@
 -- The walk is a fold over the device errors of the record, which are all there.
 use mathlib.Core.Path.{◌≡◌}
-use Prim.Native.Nat.{◌+◌, ◌*◌, ◌-◌, ◌≤◌}
+use Prim.Native.Nat.{◌+◌, ◌*◌, ◌≤◌}
 use lib.ListN.{length, drop}
 use Rattle.reports.specs.Report.{over}
 use Rattle.reports.specs.ReportSteps.{errors_in}

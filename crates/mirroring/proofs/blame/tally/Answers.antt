@@ -1,19 +1,13 @@
+-- By the laws of `Assessing` and `StatisticsWalk` of reports.
 use mathlib.Core.Path.{◌≡◌, sym, ap, ◌∙◌}
-use Prim.Native.Nat.{◌-◌}
 use native.Mathlib.Omega.{arith}
 use lib.ListN.{length}
 use Rattle.places.proofs.Loops.{mapped-length}
-use Rattle.reports.specs.StatisticsSteps.{statistics_from}
 use Rattle.reports.proofs.StatisticsWalk.{goes-forward, stated, tally-given, tally-end, tally-malformed}
 use Rattle.mirroring.specs.declared.blame.Tallied.{Tallied}
-use Rattle.mirroring.proofs.Assessing.{adding-stated, told, untold, telling, told_is, passed_is}
+use Rattle.mirroring.proofs.Assessing.{adding-stated, told, untold, telling, told_is}
 use borrow.Author.Rules.{rules}
 use Rattle.mirroring.proofs.blame.tally.Goals as goal
-
-pub returns-then-not-counts : goal.returns-then-not-counts
-returns-then-not-counts c =
-    let a = c.args in
-    rw (c.check.ensures, c.none-t.ensures, c.if-not-counts.true) (passed_is a.mirrors (statistics_from a.body.now a.from))
 
 pub loop-high-smaller : goal.loop-high-smaller
 loop-high-smaller c =

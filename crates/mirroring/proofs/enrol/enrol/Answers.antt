@@ -1,5 +1,5 @@
+-- By the laws of `Enrolling`.
 use mathlib.Core.Path.{sym, ◌∙◌}
-use Prim.Native.Nat.{◌-◌}
 use Rattle.mirroring.proofs.Enrolling.{refused-whole, enrolling-none, enrolling-twice, enrolling-more, enrolled-all}
 use Rattle.mirroring.proofs.enrol.enrol.Goals as goal
 

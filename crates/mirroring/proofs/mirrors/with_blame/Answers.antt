@@ -1,5 +1,5 @@
+-- By the laws of such a loop in `Loops` of places, and by `Flags`.
 use mathlib.Core.Path.{◌≡◌, ap, ◌∙◌}
-use Prim.Native.Nat.{◌-◌}
 use lib.ListN.{length, get_or}
 use Rattle.places.proofs.Loops.{mapped-length, mapping-none, mapping-more}
 use Rattle.mirroring.proofs.Flags.{mapped-places}

@@ -1,3 +1,4 @@
+-- By the laws of `Sourcing`.
 use mathlib.Core.Path.{◌≡◌}
 use native.Mathlib.Omega.{arith}
 use lib.ListN.{length}

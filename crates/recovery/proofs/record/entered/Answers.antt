@@ -1,4 +1,6 @@
+-- By the laws of `Moving`.
 use mathlib.Core.Path.{◌≡◌, refl}
+use native.Mathlib.Omega.{arith}
 use lib.ListN.{length}
 use borrow.Author.Rules.{rules}
 use Rattle.places.proofs.Loops.{mapped-length}
@@ -14,7 +16,7 @@ pub returns-then-y-x : goal.returns-then-y-x
 returns-then-y-x c = raised-here c.loop-i.invariant c.loop-i-test.true _ refl c.if-y-x.true
 
 pub loop-i-preserved : goal.loop-i-preserved
-loop-i-preserved c = raising-on c.loop-i.invariant c.loop-i-test.true _ refl c.if-y-x.false
+loop-i-preserved c = raising-on c.loop-i.invariant c.loop-i-test.true _ refl (omega arith)
 
 pub returns : goal.returns
 returns c = raised-last c.loop-i.invariant c.loop-i-test.false

@@ -1,5 +1,5 @@
+-- By the laws of `Moving`.
 use mathlib.Core.Path.{refl}
-use Prim.Native.Nat.{◌-◌}
 use native.Mathlib.Omega.{arith}
 use Rattle.recovery.proofs.Moving.{lowered-here, lowering-on, lowered-last}
 use Rattle.recovery.proofs.record.left_out.Goals as goal

@@ -1,4 +1,4 @@
-use Prim.Native.Nat.{◌-◌}
+-- By the laws of `Reports`.
 use mathlib.Core.Path.{sym, ◌∙◌}
 use Rattle.reports.proofs.Reports.{goes_on, past-begins, past-record, past-statistics, past-malformed}
 use native.Mathlib.Omega.{arith}

@@ -1,4 +1,4 @@
-use Prim.Native.Nat.{◌-◌}
+-- By the laws of `StatisticsWalk`.
 use Rattle.reports.specs.declared.cursor.Cursor.{Cursor}
 use Rattle.reports.proofs.StatisticsWalk.{at-end, at-spare, at-malformed, at-passed, step-forward, status-on, status-end, status-malformed}
 use native.Mathlib.Omega.{arith}

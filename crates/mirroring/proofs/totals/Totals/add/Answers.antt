@@ -1,5 +1,5 @@
+-- By the laws of `Summing`.
 use mathlib.Core.Path.{◌≡◌}
-use Prim.Native.Nat.{◌-◌}
 use lib.ListN.{length}
 use Rattle.places.proofs.Loops.{mapped-length}
 use Rattle.mirroring.proofs.Summing.{both-none, both-more, both-all, Held}

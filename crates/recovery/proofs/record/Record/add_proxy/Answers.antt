@@ -1,6 +1,5 @@
 -- By the place that `place` answers and the answer of the file there.
 use mathlib.Core.Path.{◌∙◌}
-use Prim.Native.Nat.{◌-◌}
 use Rattle.recovery.specs.Record.{add_proxy_of}
 use Rattle.recovery.proofs.record.Record.add_proxy.Goals as goal
 

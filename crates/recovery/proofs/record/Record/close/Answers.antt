@@ -1,6 +1,5 @@
 -- By the place that `place` answers and the answer of the file there.
 use mathlib.Core.Path.{◌∙◌}
-use Prim.Native.Nat.{◌-◌}
 use Rattle.recovery.specs.Record.{close_of}
 use Rattle.recovery.proofs.record.Record.close.Goals as goal
 

@@ -1,6 +1,5 @@
 -- By the place that `place` answers and the refusal of the file there.
 use mathlib.Core.Path.{◌∙◌}
-use Prim.Native.Nat.{◌-◌}
 use borrow.Author.Tests.{eq-eqb, ne_eqb}
 use Rattle.recovery.specs.Record.{forget_of}
 use Rattle.recovery.proofs.record.Record.forget.Goals as goal

@@ -1,6 +1,5 @@
 -- Each return rewrites with the tests that led there.
 use mathlib.Core.Path.{sym, ap, ◌∙◌}
-use Prim.Native.Nat.{◌-◌}
 use borrow.Author.Tests.{not-true, not-false}
 use Rattle.recovery.specs.Record.{register_of}
 use Rattle.mirroring.specs.declared.enrol.Enrolled.{Enrolled}

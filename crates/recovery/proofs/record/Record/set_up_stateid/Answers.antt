@@ -1,6 +1,5 @@
 -- By what bars the `other`, the place that `place` answers and the answer of the file there.
 use mathlib.Core.Path.{◌∙◌}
-use Prim.Native.Nat.{◌-◌}
 use Rattle.recovery.specs.Record.{set_up_of}
 use Rattle.recovery.proofs.record.Record.set_up_stateid.Goals as goal
 
