@@ -2,8 +2,8 @@
 // lies, with the promise of the method by value. A call on one file reads that file and what stands beside the files, and
 // changes both in their place, open and close one intent alone, and LAYOUTRETURN looks one up only where it is wanted; fresh, register, forget, restart and the end of grace move or change the files where they lie;
 // the two lists, and the set-up of a stateid before its own file, read each file where it lies.
-// A function that takes a reference has the form that the law of `walks` or `records` which proves it is stated for: each test is a function of values,
-// a loop is left by `break`, and a field is reached anew each time. First a file's place, then the functions by value that `recovery` and `files` lack (LAYOUTRETURN's on one file stand in `settle`),
+// Each test is a function of values, a loop is left by `break`, and a field is reached anew each time. A function that has to know how many files or intents there are
+// on a path where it reads none reads the number of the first beforehand (`_first`), which the compiler drops. First a file's place, then the functions by value that `recovery` and `files` lack (LAYOUTRETURN's on one file stand in `settle`),
 // then what changes more than one file, what changes one intent, and the calls in the paper's order.
 #![tactic(auto)]
 

@@ -144,25 +144,21 @@ fn reason(words: &str) -> &str {
     }
 }
 
-// The line of a fault: the program's name, what failed after so many bytes, and why.
-fn fault<H: Eprint + AllocGlobal>(
-    rt: &H,
-    name: &str,
-    what: &str,
-    after: usize,
-    why: Error,
-) -> io::Result<()> {
-    let words = format!(in rt.alloc(); "{why}")?;
-    let why = reason(words.as_str());
+// The line of a fault: the program's name, what failed after so many bytes, and why, in words that have room in 512 bytes.
+fn fault<H: Eprint>(rt: &H, name: &str, what: &str, after: usize, why: Error) -> io::Result<()> {
+    let mut room = [0u8; 512];
+    let mut left: &mut [u8] = &mut room;
+    write!(left, "{why}")?;
+    let n = 512usize.saturating_sub(left.len());
+    let why = match std::str::from_utf8(&room[..n]) {
+        Ok(words) => reason(words),
+        Err(_) => "unknown",
+    };
     eprintln!(rt; "{name}: after {after} bytes: {what}: {why}")
 }
 
 // The whole program of that name, for bodies of that kind. It ends with an error where not even the line of a fault can be made or written.
-pub fn run<H: Input + Print + Eprint + AllocGlobal>(
-    rt: &H,
-    kind: Kind,
-    name: &str,
-) -> io::Result<()> {
+pub fn run<H: Input + Print + Eprint>(rt: &H, kind: Kind, name: &str) -> io::Result<()> {
     let mut stdin = rt.reader();
     let mut input = [0u8; 65537];
     let got = read_all(&mut stdin, &mut input);

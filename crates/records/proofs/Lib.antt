@@ -2,7 +2,6 @@
 --     Each       each element changed
 --     Tallied    each element changed, and counted into what is carried
 --     Reached    how far the list goes from a place on, before a place that a test says
---     Raised     the elements before a free place move up one place, and one is entered
 --     Slid       each element moves down over the one before it
 --     Drawn      the same of a part of the list, of which the last place is emptied
 --     Listed     turns over the list, several times over, with two lists that are written
@@ -14,7 +13,6 @@ pub mod Each
 pub mod Headed
 pub mod Listed
 pub mod Lists
-pub mod Raised
 pub mod Reached
 pub mod Slid
 pub mod Tallied

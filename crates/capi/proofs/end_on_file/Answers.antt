@@ -1,3 +1,4 @@
+-- Rests on a place past the last, where nothing is written.
 use Rattle.std.proofs.Common.{◌≡◌, length, sym, ap, get_or, arith, rules}
 use lib.Seq.{set_out}
 use Rattle.places.proofs.Loops.{mapped-length}

@@ -1,3 +1,4 @@
+-- Rests on the place that is found by the number alone.
 use Rattle.std.proofs.Common.{sym, ◌∙◌, ap, get_or}
 use Rattle.files.specs.File.{no_file}
 use Rattle.capi.specs.Place.{is_unsure}
