@@ -21,20 +21,26 @@ returns-in_default c = c.answered-in_default.ensures ∙ rw (c.if-head.false, sy
 pub returns-then-stated : goal.returns-then-stated
 unfolding stated_file
 returns-then-stated c =
+    -- the intent's place
     let at : first (is_intent c.args.client) c.args.self.intents ≡ At c.in-At.field-0 = sym c.holding.ensures ∙ c.in-At.is in
+    -- whether it has a stateid
     let known : is_stated (stateid_at c.args.self.intents (At c.in-At.field-0)) ≡ c.stated.result = sym (c.stated.ensures ∙ ap is_stated (c.stateid_of.ensures ∙ ap (stateid_at c.args.self.intents) at)) in
     c.answered-then-stated.ensures ∙ rw (c.if-head.false, sym c.is.ensures ∙ c.if-not-is.false, at, known ∙ c.if-stated.true)
 
 pub returns-then-barred : goal.returns-then-barred
 unfolding stated_file
 returns-then-barred c =
+    -- the intent's place
     let at : first (is_intent c.args.client) c.args.self.intents ≡ At c.in-At.field-0 = sym c.holding.ensures ∙ c.in-At.is in
+    -- whether it has a stateid
     let known : is_stated (stateid_at c.args.self.intents (At c.in-At.field-0)) ≡ c.stated.result = sym (c.stated.ensures ∙ ap is_stated (c.stateid_of.ensures ∙ ap (stateid_at c.args.self.intents) at)) in
     c.answered-then-barred.ensures ∙ rw (c.if-head.false, sym c.is.ensures ∙ c.if-not-is.false, at, known ∙ c.if-stated.false, c.if-barred.true)
 
 pub returns : goal.returns
 unfolding stated_file
 returns c =
+    -- the intent's place
     let at : first (is_intent c.args.client) c.args.self.intents ≡ At c.in-At.field-0 = sym c.holding.ensures ∙ c.in-At.is in
+    -- whether it has a stateid
     let known : is_stated (stateid_at c.args.self.intents (At c.in-At.field-0)) ≡ c.stated.result = sym (c.stated.ensures ∙ ap is_stated (c.stateid_of.ensures ∙ ap (stateid_at c.args.self.intents) at)) in
     c.answered-2.ensures ∙ rw (c.if-head.false, sym c.is.ensures ∙ c.if-not-is.false, at, known ∙ c.if-stated.false, c.if-barred.false, c.with_stateid-xs.ensures)

@@ -37,12 +37,14 @@ loop-i-preserved-then-not-has c =
 pub bounds-numbers-k : goal.bounds-numbers-k
 bounds-numbers-k c =
     let long : length c.args.self.files ≡ 64 = search (mapped-length, rules) in
+    -- there is room for one more
     let room : c.loop-i.k < c.counted-n.result = omega (arith, c.counted-n.ensures, counting-room c.loop-i.invariant.1 no_file (omega (arith, long)) _ c.has.ensures c.if-not-has.false) in
     omega (arith, room, filling-length c.loop-i.invariant.2)
 
 pub bounds-sources-k : goal.bounds-sources-k
 bounds-sources-k c =
     let long : length c.args.self.files ≡ 64 = search (mapped-length, rules) in
+    -- there is room for one more
     let room : c.loop-i.k < c.counted-n.result = omega (arith, c.counted-n.ensures, counting-room c.loop-i.invariant.1 no_file (omega (arith, long)) _ c.has.ensures c.if-not-has.false) in
     omega (arith, room, filling-length c.loop-i.invariant.3)
 
