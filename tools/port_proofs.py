@@ -87,7 +87,7 @@ def steps_of(entry):
 def turned(body, entry):
     """A proof's text with flat contexts and today's names of steps."""
     steps = steps_of(entry)
-    body = re.sub(r"(?<![\w'-])c(\.before)+(?![\w-])", "c", body)
+    body = re.sub(r"(\.before)+(?![\w-])", "", body)
     alias = {"c"}
     for _ in range(4):
         for m in re.finditer(rf"({NAME}) = (\w+) in", body):
@@ -97,17 +97,40 @@ def turned(body, entry):
             if m.group(2) in alias:
                 alias.add(m.group(1))
 
+    arms = {}
+    for a in entry.get("arms", []):
+        if a:
+            for field, old, path in a[2]:
+                if path:
+                    arms[norm(old) + "." + ".".join(norm(x) for x in path)] = a[0] + "." + field
+
+    def arm(m):
+        if m.group(1) not in alias:
+            return m.group(0)
+        path = norm(m.group(2)).split(".")
+        for n in range(len(path), 1, -1):
+            k = ".".join(path[:n])
+            if k in arms:
+                return ".".join([m.group(1), arms[k]] + m.group(2).split(".")[n:])
+        return m.group(0)
+
+    body = re.sub(rf"(?<![\w.'-])([\w']+)\.({NAME}(?:\.{NAME})+)", arm, body)
+
     def proj(m):
         if m.group(1) in alias and norm(m.group(2)) in steps:
             return m.group(1) + "." + steps[norm(m.group(2))]
         return m.group(0)
 
     body = re.sub(rf"(?<![\w.'-])([\w']+)\.({NAME})", proj, body)
-    body = re.sub(r"(c\.if-[\w+-]+)\.taken(?![\w-])", r"\1.true", body)
-    body = re.sub(r"(c\.if-[\w+-]+)\.left(?![\w-])", r"\1.false", body)
+    for old, new in entry.get("args", []):
+        m = re.match(r"\.args \.(\S+)$", old)
+        if m:
+            to = new.split(".")[-1]
+            body = re.sub(rf"(?<=\.){re.escape(m.group(1))}(?![\w'-])", to, body)
     # a negated condition's step says today what the condition itself is
-    body = re.sub(r"\(not[-_](true|false) _ (c\.if-not-[\w-]+\.\w+)\)", r"\2", body)
-    return re.sub(r"not[-_](true|false) _ (c\.if-not-[\w-]+\.\w+)", r"\2", body)
+    atom = r"(?:[\w.'-]+|\([^()]*\))"
+    body = re.sub(rf"\(not[-_](true|false) {atom} ([\w']+(?:\.[\w'-]+)*\.(?:if|then|else)-not-[\w-]+\.\w+)\)", r"\2", body)
+    return re.sub(rf"not[-_](true|false) {atom} ([\w']+(?:\.[\w'-]+)*\.(?:if|then|else)-not-[\w-]+\.\w+)", r"\2", body)
 
 
 def invariants(entry, decls):
@@ -133,7 +156,7 @@ def invariants(entry, decls):
         if len(params) != len(want):
             out.append(f"-- LEFT ({len(params)} names for {len(want)}: {want}): ")
         sub = dict(zip(params, want))
-        body = re.sub(rf"(?<![\w.'₀-])({'|'.join(sorted(map(re.escape, params), key=len, reverse=True))})(?![\w'₀-]| = )", lambda k: sub[k.group(1)], body) if params else body
+        body = re.sub(rf"(?<![\w.'₀-])({'|'.join(sorted(map(re.escape, params), key=len, reverse=True))})(?![\w'₀-])(?! = )", lambda k: sub[k.group(1)], body) if params else body
         out.append(f"abbrev pub {kind}-{new} : goal.{kind}-{new}\n{kind}-{new} l = {body}")
     return out
 
@@ -185,12 +208,12 @@ def turn(crate):
         rel = os.path.relpath(folder, os.path.join(TOP, "crates", crate, "proofs"))
         needs = {norm(n[0]): n[1] for n in entry["needs"]}
         inv = invariants(entry, decls)
-        answers, helpers = {}, []
+        answers, helpers, lets = {}, [], []
         for name, t in decls:
             m = re.match(rf"^(?:abbrev |pub )*({NAME}) : tie\.Need-({NAME})([^\n]*)\n", t)
             if m:
                 old = norm(m.group(2))
-                new = needs.get(old)
+                new = needs.get(old) or needs.get(re.sub(r"^overflow-", "", old))
                 body = t[m.end():]
                 unf = ""
                 mu = re.match(r"unfolding [^\n]*\n", body)
@@ -205,8 +228,29 @@ def turn(crate):
                 answers[new or "?" + old] = (unf, b.rstrip())
             elif re.match(rf"^(?:abbrev |pub )*{NAME} : tie\.(invariant|decreases)-", t) or "tie.close" in t or "tie.spec" in t:
                 continue
+            elif name and re.match(rf"^{re.escape(name)} : \((\w+) : tie\.\S+[^()]*\) → ", t):
+                k = re.match(rf"^{re.escape(name)} : \((\w+) : tie\.\S+[^()]*\) → ([^\n]*(?:\n +→[^\n]*)*)\n((?:unfolding [^\n]*\n)?){re.escape(name)} (\w+) ?= ?", t)
+                if k and k.group(1) == k.group(4) == "c":
+                    lets.append((name, turned(k.group(2), entry), k.group(3), turned(t[k.end():], entry).strip()))
+                else:
+                    helpers.append((name, t))
             else:
                 helpers.append((name, t))
+        for g in list(answers):
+            unf, b = answers[g]
+            pre = []
+            for name, ty, u, e in reversed(lets):
+                word = rf"(?<![\w.'-]){re.escape(name)} (?:[a-z][\w']*)(?![\w.'-])"
+                if re.search(rf"(?<![\w.'-]){re.escape(name)}(?![\w'-])", b + " ".join(x[1] + x[3] for x in pre)):
+                    word = rf"\({word}\)|{word}"
+                    b = re.sub(word, name, b)
+                    pre = [(n, re.sub(word, name, y), v, re.sub(word, name, f)) for n, y, v, f in pre]
+                    pre.insert(0, (name, ty, u, e))
+            if pre:
+                words = " ".join(dict.fromkeys(w for v in [unf] + [x[2] for x in pre] for w in v.split() if w != "unfolding"))
+                unf = f"unfolding {words}\n" if words else ""
+                b = "\n" + "".join(f"    let {n} : {y} = {f} in\n" for n, y, v, f in pre) + "    " + b.strip()
+            answers[g] = (unf, b)
         work[rel] = (head, uses, helpers, answers, entry)
         keep = os.path.join(OLD, crate, rel)
         os.makedirs(keep, exist_ok=True)
@@ -223,7 +267,7 @@ def turn(crate):
     fill(crate)
 
 
-def fill(crate):
+def fill(crate, turns=0):
     """Answers each goal that the check leaves open by the old proof's line, and says what is left."""
     with open(f"/tmp/work-{crate}.json") as f:
         work = json.load(f)
@@ -245,13 +289,8 @@ def fill(crate):
             continue
         out, miss = [], []
         for g in goals:
-            if g not in answers and "?" + norm(g) in answers:
-                answers[g] = answers["?" + norm(g)]
             if g in answers:
                 unf, b = answers[g]
-                arm = re.search(r"-in-(\w+)$", g)
-                if arm:
-                    b = re.sub(r"\bc\.(?:enum_told-(?:in-\w+-)?1|n-1|k-1)\.given\.1", f"c.in-{arm.group(1)}.is", b)
                 out.append(f"pub {g} : goal.{g}\n{unf}{g} c ={'' if b.startswith(chr(10)) else ' '}{b}")
             else:
                 miss.append(g)
@@ -269,12 +308,15 @@ def fill(crate):
                     grown = True
         hs = [t for n, t in helpers if t in hs]
         whole = "\n\n".join(hs + [body])
-        lines = head + used(whole, uses) + [f"use Rattle.{crate}.proofs.{rel.replace('/', '.')}.Goals as goal", "", whole]
+        inv = os.path.exists(os.path.join(os.path.dirname(path), "Invariants.antt"))
+        lines = ([] if inv else head) + used(whole, uses) + [f"use Rattle.{crate}.proofs.{rel.replace('/', '.')}.Goals as goal", "", whole]
         os.makedirs(os.path.dirname(path), exist_ok=True)
         with open(path, "w") as f:
             f.write("\n".join(lines) + "\n")
         wrote += 1
     print(f"{crate}: {wrote} answers written")
+    if wrote and turns < 4:
+        return fill(crate, turns + 1)
     said = rt(crate, "check")
     with open(f"/tmp/check-{crate}.txt", "w") as f:
         f.write(said)

@@ -1,5 +1,5 @@
 // For C: the check of an RDMA layout body, its extents by place with their handles, and the writer (Ticket 5; source document 001, section 2.4), from crate
-// `layouts`. A kind is a constant in each of the two crates that export its calls, so that the compiler makes each writer for one kind alone.
+// `layouts`. A kind is a constant in each of the two crates, this one and `scsi`, that have its calls.
 // In this order: the check; the extent at a place; the writer.
 #![tactic(auto)]
 

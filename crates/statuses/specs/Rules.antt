@@ -1,5 +1,5 @@
 -- DEFINITION. A table of refusals, as the papers write them: conditions in order, each with its number; the first that applies decides. Judges cite it.
---     Rule, _⇒_     a condition and what it answers
+--     Rule, ◌⇒◌     a condition and what it answers
 --     decided       what a table answers: what `says` makes of the first rule that applies, or `other` where none does
 --     first_of       the same where a rule holds the answer itself
 --     refused       a status: the number of the first refusal that applies, or 0

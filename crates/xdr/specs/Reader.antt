@@ -1,6 +1,6 @@
 -- DEFINITION. XDR (RFC 4506; Rules 1) as a list of bytes holds it, read a field at a time in the order of a structure's fields.
 --     Read, Reader               a value and the bytes after it, or bytes that are not of the form; what reads one
---     _>>=_, give, only          one reader after another (the lines of a `do`); a value that takes no bytes; the same under a test
+--     ◌>>=◌, give, only          one reader after another (the lines of a `do`); a value that takes no bytes; the same under a test
 --     number, opaque, boolean    fields of fixed size
 --     padding, bounded           an opaque field of variable size
 --     in_turn, counted            a counted list

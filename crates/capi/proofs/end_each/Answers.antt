@@ -1,3 +1,4 @@
+-- Rests on a file changed and counted, and on all of them.
 use Rattle.std.proofs.Common.{◌≡◌, length, ◌∙◌, arith, rules}
 use Rattle.places.proofs.Loops.{mapped-length}
 use Rattle.capi.proofs.Whole.{ended-next, ended-all}

@@ -1,3 +1,4 @@
+-- Rests on a turn, by what becomes of the intent at the place, and on all eight.
 use Rattle.std.proofs.Common.{◌≡◌, ◌+◌, ◌-◌, length, ℕ, get_or, set, true, sym, ap, ◌∙◌, arith, rules}
 use Rattle.places.proofs.Loops.{mapped-length}
 use Rattle.intents.specs.Intents.{no_intent}

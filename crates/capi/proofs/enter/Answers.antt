@@ -1,3 +1,4 @@
+-- Rests on a turn, which stops or goes on, and on the first place.
 use Rattle.std.proofs.Common.{◌≡◌, length, sym, ap, ◌∙◌, arith, rules}
 use Rattle.places.proofs.Loops.{mapped-length}
 use Rattle.recovery.specs.Record.{with_files, raised}

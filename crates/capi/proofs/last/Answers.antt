@@ -1,3 +1,4 @@
+-- Rests on a turn, which stops or goes on, and on where no turn is left.
 use Rattle.std.proofs.Common.{refl, sym, ◌∙◌}
 use Rattle.capi.specs.Whole.{last_sought}
 use Rattle.capi.proofs.Whole.{last-stops, last-goes, last-over}

@@ -1,3 +1,4 @@
+-- Rests on a turn, and on all of them.
 use Rattle.std.proofs.Common.{◌≡◌, get_or, set, length, ap, ◌∙◌, arith, rules}
 use Rattle.places.proofs.Loops.{mapped-length}
 use Rattle.records.proofs.Each.{done, done-here, done-next, done-all}

@@ -1,3 +1,4 @@
+-- Rests on a turn, and on all of them.
 use Rattle.std.proofs.Common.{sym, ◌∙◌, arith}
 use Rattle.records.proofs.Slid.{slides-turn, slides-over}
 use Rattle.intents.specs.Intents.{no_intent}

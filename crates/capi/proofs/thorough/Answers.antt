@@ -1,3 +1,4 @@
+-- Rests on a turn of the search.
 use Rattle.std.proofs.Common.{◌<◌, refl, sym, ◌∙◌, arith}
 use Rattle.walks.proofs.Find.{seek-miss}
 use Rattle.files.specs.File.{no_file, is_file}

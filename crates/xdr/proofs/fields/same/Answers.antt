@@ -1,3 +1,4 @@
+-- Rests on the bytes before and after the place.
 use Prim.Native.Nat.{◌-◌}
 use Rattle.xdr.proofs.Bytes.{other_length, byte-passed, all-passed}
 use native.Mathlib.Omega.{arith}
