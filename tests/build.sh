@@ -27,7 +27,7 @@ source_of() {
     {
         rt version
         for crate in $(below "$1"); do
-            grep "^$crate[ :]" crates.txt
+            grep "^${crate}[ :]" crates.txt
             find "crates/$crate" \( -name must-fail -o -name out \) -prune -o -type f -print | sort | xargs sha256sum
         done
     } | sha256sum | cut -d' ' -f1
@@ -43,8 +43,11 @@ made() {
     rm -f "crates/$name/out/$left"
     input=/dev/null
     [ ! -f "crates/$name/stdin" ] || input=stdin
-    (cd "crates/$name" && rt "$@" < "$input") >> target/build.log 2>&1 || :
-    [ -f "crates/$name/out/$left" ] || { tail -40 target/build.log; echo "build: rt $* of $name FAILED"; exit 1; }
+    if ! (cd "crates/$name" && rt "$@" < "$input") >> target/build.log 2>&1 || [ ! -f "crates/$name/out/$left" ]; then
+        tail -40 target/build.log
+        echo "build: rt $* of $name FAILED"
+        exit 1
+    fi
     cp "crates/$name/out/$left" "$file"
     echo "$source" > "$file.source"
 }
