@@ -1,7 +1,6 @@
--- An intent that ends where the intents lie: how far those after it move, and that what is done is `left_out`, as crate files has it.
-use Rattle.std.proofs.Common.{◌≡◌, ℕ, zero, suc, ◌+◌, ◌-◌, ◌<◌, ◌≤◌, Bool, true, false, ltb, List, [], ◌∷◌, ◌++◌, length, get_or, take, drop, set, sym, refl, ap, ◌∙◌, subst, append-nil, arith, length-drop, drop_of_length-le, length-take-le, take_all, drop-cons, ltb-false, ltb-true}
+-- An intent that ends where the intents lie: what is done is `left_out`, as crate files has it.
+use Rattle.std.proofs.Common.{◌≡◌, ℕ, suc, ◌+◌, ◌-◌, ◌<◌, ◌≤◌, Bool, true, false, ltb, List, [], ◌∷◌, ◌++◌, length, get_or, take, drop, set, sym, refl, ap, ◌∙◌, subst, append-nil, arith, length-drop, drop_of_length-le, length-take-le, take_all, drop-cons, ltb-false, ltb-true}
 use Rattle.records.proofs.Drawn.{draws}
-use Rattle.records.proofs.Reached.{reach}
 use Rattle.places.specs.Places.{pull, left_out}
 use Rattle.intents.specs.Intents.{no_intent}
 use Rattle.intents.specs.declared.Intent.{Intent}
@@ -11,17 +10,6 @@ use Rattle.files.specs.declared.file.File.{File}
 use Rattle.capi.specs.OneFile.{last_moved}
 use Rattle.capi.specs.Whole.{slid}
 use Rattle.capi.proofs.Whole.{set_past}
-
--- no place stays
-reached-all : (xs : List Intent) (t i : ℕ) → reach no_intent (λ x. false) xs t i ≡ i + t
-reached-all xs zero i = omega arith
-reached-all xs (suc t) i = reached-all xs t (i + 1) ∙ omega arith
-
-pub last-moved-is : (xs : List Intent) (at : ℕ) → reach no_intent (λ x. false) xs (7 - at) at ≡ last_moved at
-last-moved-is xs at = reached-all xs (7 - at) at
-
-pub last-moved-past : (at : ℕ) → at ≤ last_moved at
-last-moved-past at = omega arith
 
 -- all that follow moved, and the last place freed
 module _ {A : Type 0} (e : A) where

@@ -3,9 +3,8 @@ use Rattle.std.proofs.Common.{◌≡◌, ℕ, zero, suc, ◌+◌, ◌-◌, ◌<�
 use lib.Seq.{append_snoc, get_or_at, set-append_seam}
 use Rattle.records.proofs.Headed.{if-called}
 use Rattle.records.proofs.Drawn.{draws}
-use Rattle.records.proofs.Reached.{reach, reach-past}
 use Rattle.records.proofs.Slid.{slides}
-use Rattle.records.proofs.Each.{done, done-here, done-next, done-long, done-all}
+use Rattle.records.proofs.Each.{done, done-new, done-turn, done-long, done-all}
 use Rattle.records.proofs.Tallied.{tallied as tallies, tallied-more}
 use Rattle.std.proofs.lemmas.List.{map-append, get_or-set_same}
 use Rattle.places.specs.Places.{first, bump, place_or}
@@ -39,6 +38,12 @@ all-emptied (f ∷ fs) (suc n) e = ap (◌∷◌ blank_file) (all-emptied fs n (
 pub fresh-so : (e : Edition) (r : Record) → length r.files ≡ 64 → with_head (fresh_head e) (each_file emptied_file r) ≡ fresh_as e
 unfolding each_file
 fresh-so e r long = ap (λ fs. record { files = fs; head = fresh_head e }) (all-emptied r.files 64 long)
+
+-- ---- each file changed by g: a turn, of which r is the record and f the new file
+pub each-turn : (g : File → File) (old r : Record) (i : ℕ) (f : File) → i < length old.files → r ≡ with_files (done g i old.files) old → f ≡ g (get_or r.files i no_file) → with_files (set r.files i f) r ≡ with_files (done g (i + 1) old.files) old
+each-turn g old r i f l is made =
+    ap (λ (z : Record). with_files (set r.files i f) z) is
+    ∙ ap (λ fs. with_files fs old) (done-turn g i old.files no_file l r.files (ap (λ (z : Record). z.files) is) f made)
 
 -- ---- the end of grace: what a call answers, and the record afterwards
 abbrev Same : ℕ → Record → Answered → Type 0
@@ -76,14 +81,12 @@ module _ (old : Record) (long : length old.files ≡ 64) (i : ℕ) (below : i < 
 
   pub ended-next : (r : Record) (f : File) (h : Head) → r ≡ ended_to i old → f ≡ ended_file (get_or r.files i no_file) → h ≡ counted_head r.head (get_or (set r.files i f) i no_file) → record { files = set r.files i f; head = h } ≡ ended_to (i + 1) old
   ended-next r f h is made counts =
-      let f-is : f ≡ next = made ∙ ap (λ (z : Record). ended_file (get_or z.files i no_file)) is ∙ ap ended_file (done-here ended_file i old.files no_file within) in
-      let there : i < length (done ended_file i old.files) = omega (arith, done-long ended_file i old.files (omega (arith, within)), within) in
-      let h-is : h ≡ counted_head before next =
-      counts ∙ ap (λ (z : Record). counted_head z.head (get_or (set z.files i f) i no_file)) is
-      ∙ ap (counted_head before) (get_or-set_same (done ended_file i old.files) i f no_file there ∙ f-is) in
-      ap (λ (k : Head). record { files = set r.files i f; head = k }) (h-is ∙ one_more)
-      ∙ ap (λ fs. record { files = fs; head = tallies (λ f d. counted_head d f) (map ended_file (take (i + 1) old.files)) old.head })
-      (ap (λ (z : Record). set z.files i f) is ∙ ap (set (done ended_file i old.files) i) f-is ∙ done-next ended_file i old.files no_file within)
+      let so_far : r.files ≡ done ended_file i old.files = ap (λ (z : Record). z.files) is in
+      let there : i < length r.files = omega (arith, ap length so_far, done-long ended_file i old.files (omega (arith, within)), within) in
+      let counted : h ≡ counted_head before next =
+      counts ∙ ap (counted_head r.head) (get_or-set_same r.files i f no_file there ∙ done-new ended_file i old.files no_file within r.files so_far f made) ∙ ap (λ (z : Record). counted_head z.head next) is in
+      ap (λ (k : Head). record { files = set r.files i f; head = k }) (counted ∙ one_more)
+      ∙ ap (λ fs. record { files = fs; head = tallies (λ f d. counted_head d f) (map ended_file (take (i + 1) old.files)) old.head }) (done-turn ended_file i old.files no_file within r.files so_far f made)
 
 pub ended-all : (old : Record) → length old.files ≡ 64 → (i : ℕ) → 64 ≤ i → ended_to i old ≡ ended_each old
 ended-all old long i h =
@@ -242,10 +245,19 @@ run-pulled x (y ∷ ys) = by (is_vacant y) (run-pulled y ys)
     by true e = refl
     by false e = ap (◌∷◌ y) e
 
-pub last-is : (fs : List File) (t i : ℕ) → reach no_file is_vacant fs t i ≡ last_in fs t i
+-- what it answers is no place before the one it began at
+last-from : (fs : List File) (t i : ℕ) → i ≤ last_in fs t i
 unfolding last_in
-last-is fs zero i = refl
-last-is fs (suc t) i = ap (cond (is_vacant (get_or fs (i + 1) no_file)) i) (last-is fs t (i + 1))
+last-from fs zero i = omega arith
+last-from fs (suc t) i = by (is_vacant (get_or fs (i + 1) no_file)) (last-from fs t (i + 1))
+  where
+    by : (b : Bool) → i + 1 ≤ last_in fs t (i + 1) → i ≤ cond b i (last_in fs t (i + 1))
+    by true h = omega arith
+    by false h = omega (arith, h)
+
+pub last-past : (r : Record) (at : ℕ) → at ≤ last_sought r at
+unfolding last_sought
+last-past r at = last-from r.files (63 - at) at
 
 -- a turn: it stops before a free place, or goes on; and where no turn is left
 module _ (fs : List File) (n i : ℕ) (below : i < n) where
@@ -262,10 +274,6 @@ module _ (fs : List File) (n i : ℕ) (below : i < n) where
 pub last-over : (fs : List File) (n i : ℕ) → n ≤ i → last_in fs (n - i) i ≡ i
 unfolding last_in
 last-over fs n i h = let e : n - i ≡ 0 = omega (arith, h) in ap (λ t. last_in fs t i) e
-
-pub last-past : (r : Record) (at : ℕ) → at ≤ last_sought r at
-unfolding last_sought
-last-past r at = subst (λ (i : ℕ). at ≤ i) (last-is r.files (63 - at) at) (reach-past no_file is_vacant r.files (63 - at) at)
 
 last-run : (fs : List File) (t i : ℕ) → i + suc t ≡ length fs → last_in fs t i ≡ i + run (drop i fs)
 unfolding last_in

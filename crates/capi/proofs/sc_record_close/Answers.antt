@@ -1,8 +1,7 @@
 -- Rests on what is decided of the file at the place that is sought, and done to it where it lies.
-use Rattle.std.proofs.Common.{◌≡◌, eqb, length, sym, ap, ◌∙◌, rules}
-use borrow.Author.Tests.{eq-eqb, ne_eqb}
+use Rattle.std.proofs.Common.{◌≡◌, eqb, length, ◌∙◌, rules}
 use Rattle.places.proofs.Loops.{mapped-length}
-use Rattle.records.proofs.Headed.{if-called}
+use Rattle.records.proofs.Headed.{if-called, accepted-so, refused-so}
 use Rattle.files.specs.File.{closed_file, with_ended}
 use Rattle.recovery.specs.Record.{close_of}
 use Rattle.capi.specs.OneFile.{ended_at}
@@ -19,7 +18,7 @@ returns c =
     let s = c.closing-s.result in
     let changed : c.if-s-eq0.r ≡ if-called (eqb s.status 0) (ended_at r i s) r =
     elim c.if-s-eq0.branch [
-      | then-s-eq0 w ↦ w.r-is ∙ w.end_on_file.ensures ∙ ap (λ b. if-called b (ended_at r i s) r) (sym (eq-eqb _ _ w.if-s-eq0.true))
-      | else-s-eq0 w ↦ w.r-is ∙ ap (λ b. if-called b (ended_at r i s) r) (sym (ne_eqb _ _ w.if-s-eq0.false))
+      | then-s-eq0 w ↦ accepted-so _ _ _ _ w.if-s-eq0.true (w.r-is ∙ w.end_on_file.ensures)
+      | else-s-eq0 w ↦ refused-so _ _ _ _ w.if-s-eq0.false w.r-is
     ] in
     decided-so c.args.file (closed_file c.args.file r.head c.args.client) r long i c.position-i.ensures.0 s.status s.head (with_ended s.at s) c.closing-s.ensures c.if-s-eq0.r changed

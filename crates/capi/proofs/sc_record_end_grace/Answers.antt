@@ -1,8 +1,7 @@
 -- Rests on each file ended and counted, under the head that is decided.
-use Rattle.std.proofs.Common.{◌≡◌, length, sym, ap, ◌∙◌, rules}
-use borrow.Author.Tests.{eq-eqb, ne_eqb}
+use Rattle.std.proofs.Common.{◌≡◌, length, refl, ap, ◌∙◌, rules}
 use Rattle.places.proofs.Loops.{mapped-length}
-use Rattle.records.proofs.Headed.{if-called}
+use Rattle.records.proofs.Headed.{accepted-so, refused-so}
 use Rattle.recovery.specs.Record.{with_head}
 use Rattle.capi.specs.Whole.{ended_each}
 use Rattle.capi.specs.declared.Verdict.{Verdict}
@@ -16,7 +15,7 @@ returns-then-s-eq0 c =
     let h = with_head c.ending-s.result.head r in
     let so = ended_so r long in (
       ap (λ (v : Verdict). v.status) c.ending-s.ensures ∙ so.0,
-      c.end_each.ensures ∙ ap (λ b. if-called b (ended_each h) h) (sym (eq-eqb _ _ c.if-s-eq0.true)) ∙ ap (after-ending r) c.ending-s.ensures ∙ so.1,
+      accepted-so (ended_each h) h _ _ c.if-s-eq0.true c.end_each.ensures ∙ ap (after-ending r) c.ending-s.ensures ∙ so.1,
     )
 
 pub returns-else-s-eq0 : goal.returns-else-s-eq0
@@ -26,5 +25,5 @@ returns-else-s-eq0 c =
     let h = with_head c.ending-s.result.head r in
     let so = ended_so r long in (
       ap (λ (v : Verdict). v.status) c.ending-s.ensures ∙ so.0,
-      ap (λ b. if-called b (ended_each h) h) (sym (ne_eqb _ _ c.if-s-eq0.false)) ∙ ap (after-ending r) c.ending-s.ensures ∙ so.1,
+      refused-so (ended_each h) h _ _ c.if-s-eq0.false refl ∙ ap (after-ending r) c.ending-s.ensures ∙ so.1,
     )

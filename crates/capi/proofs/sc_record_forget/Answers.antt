@@ -1,8 +1,7 @@
 -- Rests on what is decided of the file at the place that is sought, and done to the files.
-use Rattle.std.proofs.Common.{◌≡◌, ℕ, eqb, length, get_or, sym, ap, ◌∙◌, rules}
-use borrow.Author.Tests.{eq-eqb, ne_eqb}
+use Rattle.std.proofs.Common.{◌≡◌, ℕ, eqb, length, get_or, ap, ◌∙◌, rules}
 use Rattle.places.proofs.Loops.{mapped-length}
-use Rattle.records.proofs.Headed.{if-called}
+use Rattle.records.proofs.Headed.{if-called, accepted-so, refused-so}
 use Rattle.files.specs.File.{no_file}
 use Rattle.capi.specs.declared.Verdict.{Verdict}
 use Rattle.recovery.specs.Record.{with_head}
@@ -20,8 +19,8 @@ returns c =
     let s = c.forgetting-s.result in
     let changed : c.if-s-eq0.r ≡ if-called (eqb s.status 0) (pulled_files r i s) r =
     elim c.if-s-eq0.branch [
-      | then-s-eq0 w ↦ w.r-is ∙ w.pull.ensures ∙ ap (λ b. if-called b (pulled_files r i s) r) (sym (eq-eqb _ _ w.if-s-eq0.true))
-      | else-s-eq0 w ↦ w.r-is ∙ ap (λ b. if-called b (pulled_files r i s) r) (sym (ne_eqb _ _ w.if-s-eq0.false))
+      | then-s-eq0 w ↦ accepted-so _ _ _ _ w.if-s-eq0.true (w.r-is ∙ w.pull.ensures)
+      | else-s-eq0 w ↦ refused-so _ _ _ _ w.if-s-eq0.false w.r-is
     ] in
     let so = forgotten-so c.args.file r long in (
       ap (λ (a : Verdict). a.status) c.forgetting-s.ensures ∙ ap (λ (j : ℕ). (forget_verdict c.args.file r.head (get_or r.files j no_file)).status) c.position-i.ensures.0 ∙ so.0,

@@ -1,8 +1,7 @@
 -- Rests on what `answered` makes of the file at the place that is sought, told its claim, and on what is changed there.
-use Rattle.std.proofs.Common.{◌≡◌, ℕ, eqb, false, length, get_or, sym, ap, ◌∙◌, rules}
-use borrow.Author.Tests.{eq-eqb, ne_eqb}
+use Rattle.std.proofs.Common.{◌≡◌, ℕ, eqb, false, length, get_or, ap, ◌∙◌, rules}
 use Rattle.places.proofs.Loops.{mapped-length}
-use Rattle.records.proofs.Headed.{if-called}
+use Rattle.records.proofs.Headed.{if-called, accepted-so, refused-so}
 use Rattle.reports.specs.Report.{report_of}
 use Rattle.wire.specs.Request.{part_of}
 use Rattle.files.specs.File.{no_file}
@@ -46,8 +45,8 @@ returns c =
     ap (λ (x : Settled). x.stateid) said ∙ ap (λ (j : ℕ). (outcome_in n len k q r (get_or r.files j no_file)).stateid) c.position-i.ensures.0 ∙ sought-stateid n len k q r long in
     let changed : c.if-s-eq0.r ≡ if-called (eqb s.status 0) (changed_files r i s) r =
     elim c.if-s-eq0.branch [
-      | then-s-eq0 w ↦ w.r-is ∙ w.change.ensures ∙ ap (λ b. if-called b (changed_files r i s) r) (sym (eq-eqb _ _ w.if-s-eq0.true))
-      | else-s-eq0 w ↦ w.r-is ∙ ap (λ b. if-called b (changed_files r i s) r) (sym (ne_eqb _ _ w.if-s-eq0.false))
+      | then-s-eq0 w ↦ accepted-so _ _ _ _ w.if-s-eq0.true (w.r-is ∙ w.change.ensures)
+      | else-s-eq0 w ↦ refused-so _ _ _ _ w.if-s-eq0.false w.r-is
     ] in (
       ap (λ (x : Settled). x.status) said ∙ ap (λ (a : Returned). a.status) so,
       ap (λ (z : Record). with_head s.head z) changed ∙ ap (after-change r i) said ∙ returned-so r i out stays ∙ ap (λ (a : Returned). a.after) so,
