@@ -3,6 +3,7 @@
 set -e
 cd "$(dirname "$0")/.."
 mkdir -p target/tests
+tests/exports.py
 tests/layout/run.sh
 tests/list_layout/run.sh
 tests/commit/run.sh

@@ -2,7 +2,7 @@
 """port_proofs.py CRATE..: turns each Proof.antt that walks the code by hand into Invariants.antt and Answers.antt (today's form).
 
 For each crate: `rt check --generated --old-names` says each goal's old and new name; the invariants and measures are written first, the rest is left to the check;
-what the check then leaves open is answered by the old proof's own line, with its steps under their new names. Old files are kept in /tmp/old-proofs/CRATE.
+what the check then leaves open is answered by the old proof's own line, with its steps under their new names. Old files are kept in target/old-proofs/CRATE.
 Run at the top of the repository; the crates below must be proved.
 """
 import json
@@ -13,7 +13,7 @@ import subprocess
 import sys
 
 TOP = os.getcwd()
-OLD = os.environ.get("OLD_PROOFS", "/tmp/old-proofs")
+OLD = os.path.join(TOP, "target", "old-proofs")
 NAME = r"[^\s(){}\[\],;:.«»⌜⌝\"`|]+"
 
 
@@ -27,7 +27,7 @@ def norm(s):
 
 
 def names_of(crate):
-    d = f"/tmp/names-{crate}-{os.getpid()}"
+    d = os.path.join(TOP, "target", f"names-{crate}")
     shutil.rmtree(d, ignore_errors=True)
     said = rt(crate, "check", "--generated", d, "--old-names")
     p = os.path.join(d, "names.json")
@@ -196,6 +196,7 @@ def find(crate):
 
 
 def turn(crate):
+    os.makedirs(os.path.join(TOP, "target"), exist_ok=True)
     names = names_of(crate)
     work = {}
     for folder, text in list(find(crate)):
@@ -262,14 +263,14 @@ def turn(crate):
             lines = head + used(whole, uses) + [f"use Rattle.{crate}.proofs.{rel.replace('/', '.')}.Given as goal", "", whole]
             with open(os.path.join(folder, "Invariants.antt"), "w") as f:
                 f.write("\n".join(lines) + "\n")
-    with open(f"/tmp/work-{crate}.json", "w") as f:
+    with open(os.path.join(TOP, "target", f"work-{crate}.json"), "w") as f:
         json.dump({k: [v[0], v[1], v[2], v[3]] for k, v in work.items()}, f, ensure_ascii=False, indent=1)
     fill(crate)
 
 
 def fill(crate, turns=0):
     """Answers each goal that the check leaves open by the old proof's line, and says what is left."""
-    with open(f"/tmp/work-{crate}.json") as f:
+    with open(os.path.join(TOP, "target", f"work-{crate}.json")) as f:
         work = json.load(f)
     said = rt(crate, "check")
     wrote = 0
@@ -318,7 +319,7 @@ def fill(crate, turns=0):
     if wrote and turns < 4:
         return fill(crate, turns + 1)
     said = rt(crate, "check")
-    with open(f"/tmp/check-{crate}.txt", "w") as f:
+    with open(os.path.join(TOP, "target", f"check-{crate}.txt"), "w") as f:
         f.write(said)
     print("\n".join(l[:300] for l in said.split("\n") if re.search(r"error:|^(fn|enum|struct|impl|trait) .*(not proved|no proof)|^logic=", l)))
 

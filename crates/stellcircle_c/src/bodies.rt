@@ -8,7 +8,6 @@ ghost use Rattle.layouts.specs.Layout.{GaveC, check_body, extent_in};
 ghost use Rattle.layouts.specs.declared.kinds.Kind.TheVariants.{Rdma, Scsi};
 ghost use Rattle.merging.specs.Merged.{merged};
 
-// The check: 0, or the number of the rule that refuses; through `place` how many extents there are, or the place of the refused one.
 #[unsafe(no_mangle)]
 pub extern "C" fn sc_layout_check(body: &[u8], place: &mut u64) -> u32
     ensures { (result ≡ number_of (check_body Scsi body.now)) × (place.new ≡ place_of (check_body Scsi body.now)) }
@@ -16,8 +15,6 @@ pub extern "C" fn sc_layout_check(body: &[u8], place: &mut u64) -> u32
     scsi::layout::sc_layout_check(body, place)
 }
 
-// The extent at place i of a body of which the check counted n, in constant time: 0, where in the body its device id stands, and its numbers. At or
-// past n, or past what the body has room for: 9, and zeros.
 #[unsafe(no_mangle)]
 pub extern "C" fn sc_layout_extent(
     body: &[u8],
@@ -34,7 +31,6 @@ pub extern "C" fn sc_layout_extent(
     scsi::layout::sc_layout_extent(body, n, i, device, offset, len, storage, state)
 }
 
-// The writer: 0, or the number of the rule that refuses; through `place` how many extents were written, or the place of the refused one.
 #[unsafe(no_mangle)]
 pub extern "C" fn sc_layout_write(
     devices: &[u8],
@@ -50,7 +46,6 @@ pub extern "C" fn sc_layout_write(
     scsi::layout::sc_layout_write(devices, offsets, lengths, storages, states, d, place)
 }
 
-// The merger: 0, or the number of the rule that refuses; through `place` how many extents were written, or the place of the refused one.
 #[unsafe(no_mangle)]
 pub extern "C" fn sc_layout_merge(
     devs: &[u8],
@@ -66,7 +61,6 @@ pub extern "C" fn sc_layout_merge(
     scsi::merge::sc_layout_merge(devs, offs, lens, stos, sts, d, place)
 }
 
-// The check: 0, or the number of the rule that refuses; through `place` how many extents there are, or the place of the refused one.
 #[unsafe(no_mangle)]
 pub extern "C" fn sc_rdma_layout_check(body: &[u8], place: &mut u64) -> u32
     ensures { (result ≡ number_of (check_body Rdma body.now)) × (place.new ≡ place_of (check_body Rdma body.now)) }
@@ -74,8 +68,6 @@ pub extern "C" fn sc_rdma_layout_check(body: &[u8], place: &mut u64) -> u32
     rdma::sc_rdma_layout_check(body, place)
 }
 
-// The extent at place i of a body of which the check counted n, in constant time: 0, where in the body its device id stands, its handle and its numbers. At
-// or past n, or past what the body has room for: 9, and zeros.
 #[unsafe(no_mangle)]
 pub extern "C" fn sc_rdma_layout_extent(
     body: &[u8],
@@ -93,7 +85,6 @@ pub extern "C" fn sc_rdma_layout_extent(
     rdma::sc_rdma_layout_extent(body, n, i, device, offset, handle, len, storage, state)
 }
 
-// The writer: 0, or the number of the rule that refuses; through `place` how many extents were written, or the place of the refused one.
 #[unsafe(no_mangle)]
 pub extern "C" fn sc_rdma_layout_write(
     devices: &[u8],

@@ -54,7 +54,6 @@ pub extern "C" fn sc_epochs_stop_enforcing(e: &mut Epochs, node: u32) -> u32
     epochs::sc_epochs_stop_enforcing(e, node)
 }
 
-// May reclaim, as a number: the record is only read.
 #[unsafe(no_mangle)]
 pub extern "C" fn sc_epochs_may_reclaim(e: &Epochs, node: u32) -> u32
     ensures { result ≡ reclaim_number (may_reclaim_of e.now node) }

@@ -6,7 +6,6 @@ ghost use Rattle.committing.specs.Commit.{committed};
 ghost use Rattle.committing.specs.Ranges.{ranges_of};
 ghost use Rattle.joining.specs.Merge.{MergedC, column_list};
 
-// For C: 0, or the number of the rule that refuses; through `place` how many extents were written, or the place of the refused one.
 #[unsafe(no_mangle)]
 pub extern "C" fn sc_layout_commit(
     commits: &[u8],

@@ -1,5 +1,5 @@
 // What a C server links: a static library with one export for each call of include/stellcircle.h, which calls the library's function of that name and states its
-// clauses again. No rule stands here. One file for each part of the header, in its order:
+// clauses again; what it does, that function says. No rule stands here, and tests/exports.py sees that the clauses are the same. One file for each part of the header, in its order:
 //     bodies      layout bodies, SCSI's and RDMA's
 //     commit      LAYOUTCOMMIT
 //     request     LAYOUTRETURN requests and replies

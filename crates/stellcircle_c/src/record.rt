@@ -19,7 +19,6 @@ pub extern "C" fn sc_record_fresh(r: &mut Record)
     capi::sc_record_fresh(r)
 }
 
-// The same, set up as old.
 #[unsafe(no_mangle)]
 pub extern "C" fn sc_record_fresh_old(r: &mut Record)
     ensures { r.new ≡ fresh_as Old }
@@ -62,7 +61,6 @@ pub extern "C" fn sc_record_repaired(r: &mut Record, file: u64) -> u32
     capi::sc_record_repaired(r, file)
 }
 
-// A proxy beside the mirrors (02, Ticket 7).
 #[unsafe(no_mangle)]
 pub extern "C" fn sc_record_add_proxy(r: &mut Record, file: u64, device: &[u8]) -> u32
     ensures { (result ≡ (add_proxy_of file device.now r.old).status) × (r.new ≡ (add_proxy_of file device.now r.old).after) }
@@ -77,7 +75,6 @@ pub extern "C" fn sc_record_remove_proxy(r: &mut Record, file: u64) -> u32
     capi::sc_record_remove_proxy(r, file)
 }
 
-// A client's stateid (02, Ticket 13).
 #[unsafe(no_mangle)]
 pub extern "C" fn sc_record_set_up_stateid(
     r: &mut Record,
@@ -111,9 +108,6 @@ pub extern "C" fn sc_record_restart(r: &mut Record) -> u32
     capi::sc_record_restart(r)
 }
 
-// LAYOUTRETURN, with its totals in what the caller lends: place k of a slice gets mirror k's bytes, place 4 the proxy's, bit k of a mask says whether these passed
-// 2^64 - 1.
-// All four are written on every call, with zeros unless the answer is 0.
 #[unsafe(no_mangle)]
 pub extern "C" fn sc_record_layoutreturn(
     r: &mut Record,
@@ -147,7 +141,6 @@ pub extern "C" fn sc_record_layoutreturn(
     )
 }
 
-// The two lists, by the number of a direction. There is a loop for each, so that the compiler makes the turns a part of it.
 #[unsafe(no_mangle)]
 pub extern "C" fn sc_record_resilver_by(
     r: &Record,
@@ -174,7 +167,6 @@ pub extern "C" fn sc_record_offered_by(
     capi::sc_record_offered_by(r, files, sources, count, direction)
 }
 
-// How many files wait for repair, and how many of those are offered now: the record keeps both, and no file is looked at.
 #[unsafe(no_mangle)]
 pub extern "C" fn sc_record_counts(r: &Record, waiting: &mut u64, offered: &mut u64)
     ensures { counts waiting.new offered.new ≡ counts_of r.now.head }

@@ -4,7 +4,6 @@ ghost use Rattle.std.specs.Prelude.{◌≡◌};
 ghost use Rattle.flexfiles.specs.Handed.{handed, handed_statistic};
 ghost use Rattle.reports.specs.Report.{report_of, status_of};
 
-// Step 5, as `check` answers it.
 #[unsafe(no_mangle)]
 pub extern "C" fn sc_report_check(body: &[u8]) -> u32
     ensures { result ≡ status_of (report_of body.now) }
@@ -12,8 +11,6 @@ pub extern "C" fn sc_report_check(body: &[u8]) -> u32
     flexfiles::sc_report_check(body)
 }
 
-// `first`, with the cursor as three numbers that are 0 at first. Answers 1 with the next device error: the place of the device's sixteen bytes in the body,
-// and its status. Otherwise answers the status of step 5, and the cursor stays.
 #[unsafe(no_mangle)]
 pub extern "C" fn sc_report_next(
     body: &[u8],
@@ -28,8 +25,6 @@ pub extern "C" fn sc_report_next(
     flexfiles::sc_report_next(body, at, records, devices, device, status)
 }
 
-// `statistics::next`, with the cursor as two numbers that are 0 at first. Answers 1 with the next statistics record: the place of the device's sixteen
-// bytes in the body, its bytes read and its bytes written. Otherwise answers 0 at the end of a well formed body or 10036, and the cursor stays.
 #[unsafe(no_mangle)]
 pub extern "C" fn sc_statistics_next(
     body: &[u8],
