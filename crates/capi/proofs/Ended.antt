@@ -1,50 +1,30 @@
 -- An intent that ends where the intents lie: what is done is `left_out`, as crate files has it.
-use Rattle.std.proofs.Common.{◌≡◌, ℕ, suc, ◌+◌, ◌-◌, ◌<◌, ◌≤◌, Bool, true, false, ltb, List, [], ◌∷◌, ◌++◌, length, get_or, take, drop, set, sym, refl, ap, ◌∙◌, subst, append-nil, arith, length-drop, drop_of_length-le, length-take-le, take_all, drop-cons, ltb-false, ltb-true}
-use Rattle.records.proofs.Drawn.{draws}
+use Rattle.std.proofs.Common.{◌≡◌, ℕ, suc, ◌+◌, ◌-◌, ◌<◌, ◌≤◌, List, [], ◌∷◌, ◌++◌, length, get_or, take, drop, set, sym, refl, ap, ◌∙◌, append-nil, arith, length-drop, drop_of_length-le, take_all, drop-cons}
+use Rattle.std.specs.List.{copy_within}
+use Rattle.records.proofs.Drawn.{drawn}
 use Rattle.places.specs.Places.{pull, left_out}
-use Rattle.intents.specs.Intents.{no_intent}
-use Rattle.intents.specs.declared.Intent.{Intent}
-use Rattle.files.specs.File.{with_intents, with_ended}
-use Rattle.files.specs.declared.file.Closing.{Closing}
-use Rattle.files.specs.declared.file.File.{File}
-use Rattle.capi.specs.OneFile.{last_moved}
-use Rattle.capi.specs.Whole.{slid}
-use Rattle.capi.proofs.Whole.{set_past}
 
--- all that follow moved, and the last place freed
 module _ {A : Type 0} (e : A) where
-  slid-pulled : (x : A) (ys : List A) → set (slid (x ∷ ys)) (length ys) e ≡ pull e (x ∷ ys)
-  unfolding slid pull
-  slid-pulled x [] = refl
-  slid-pulled x (y ∷ ys) = ap (◌∷◌ y) (slid-pulled y ys)
+  pulled-out : (x : A) (ys : List A) → pull e (x ∷ ys) ≡ ys ++ e ∷ []
+  unfolding pull
+  pulled-out x [] = refl
+  pulled-out x (y ∷ ys) = ap (◌∷◌ y) (pulled-out y ys)
 
-  slid-out : (xs : List A) (at n : ℕ) → length xs ≡ suc n → at ≤ n → set (take at xs ++ (slid (take (n + 1 - at) (drop at xs)) ++ drop (n + 1 - at) (drop at xs))) n e ≡ left_out e at xs
-  slid-out xs at n long l =
-      let left : length (drop at xs) ≡ length xs - at = length-drop at xs in
-      let few : length (drop at xs) ≤ n + 1 - at = omega (arith, left, long) in
-      let after : length (drop (suc at) xs) ≡ length xs - suc at = length-drop (suc at) xs in
-      let front : length (take at xs) ≡ at = length-take-le at xs (omega (arith, l, long)) in
-      let here : drop at xs ≡ get_or xs at e ∷ drop (suc at) xs = drop-cons xs at e (omega (arith, l, long)) in
-      let last : n ≡ length (take at xs) + length (drop (suc at) xs) = omega (arith, l, long, after, front) in
-      rw (take_all (n + 1 - at) (drop at xs) few, drop_of_length-le (drop at xs) few, append-nil)
-      (ap (λ (k : ℕ). set (take at xs ++ slid (drop at xs)) k e) last
-      ∙ set_past e (take at xs) (slid (drop at xs)) (length (drop (suc at) xs))
-      ∙ ap (λ (zs : List A). take at xs ++ zs) (subst (λ (zs : List A). set (slid zs) (length (drop (suc at) xs)) e ≡ pull e zs) (sym here) (slid-pulled (get_or xs at e) (drop (suc at) xs))))
+  -- all that follow moved, and the last place freed, of eight
+  pub ended_so : (xs : List A) (at n : ℕ) → length xs ≡ 8 → n ≡ 8 → at < 8 → set (copy_within xs (at + 1) n at) 7 e ≡ left_out e at xs
+  ended_so xs at n long all l =
+      let end : at + 1 + (7 - at) ≡ n = omega (arith, l, all) in
+      let last : at + (7 - at) ≡ 7 = omega (arith, l) in
+      let left : length (drop (at + 1) xs) ≡ 7 - at = length-drop (at + 1) xs ∙ omega (arith, long, l) in
+      let next : suc at ≡ at + 1 = omega arith in
+      let here : drop at xs ≡ get_or xs at e ∷ drop (at + 1) xs = drop-cons xs at e (omega (arith, l, long)) ∙ ap (λ k. get_or xs at e ∷ drop k xs) next in
+      ap (λ k. set (copy_within xs (at + 1) k at) 7 e) (sym end) ∙ ap (λ k. set (copy_within xs (at + 1) (at + 1 + (7 - at)) at) k e) (sym last)
+      ∙ drawn e e xs at (7 - at) (omega (arith, long, l))
+      ∙ ap (λ zs. take at xs ++ zs) (rw (take_all (7 - at) (drop (at + 1) xs) (omega (arith, left)), drop_of_length-le (drop (at + 1) xs) {i = 7 - at} (omega (arith, left))) (sym (ap (pull e) here ∙ pulled-out (get_or xs at e) (drop (at + 1) xs))))
 
-pub ended_so : (f : File) (at : ℕ) (s : Closing) → length f.intents ≡ 8 → with_intents (draws 8 no_intent slid f.intents at (last_moved at)) f ≡ with_ended at s f
-unfolding pull
-ended_so f at s long = by (ltb at 8) refl
-  where
-    xs : List Intent
-    xs = f.intents
-
-    by : (b : Bool) → ltb at 8 ≡ b → with_intents (draws 8 no_intent slid xs at (last_moved at)) f ≡ with_intents (left_out no_intent at xs) f
-    by true e =
-        let l : at < 8 = ltb-true at 8 e in
-        let seven : last_moved at ≡ 7 = omega (arith, l) in
-        rw seven (ap (λ zs. with_intents zs f) (slid-out no_intent xs at 7 long (omega (arith, l))))
-    by false e =
-        let l : 8 ≤ at = ltb-false at 8 e in
-        let same : last_moved at ≡ at = omega (arith, l) in
-        let k : length xs ≤ at = omega (arith, long, l) in
-        rw (same, e, take_all at xs k, drop_of_length-le xs k, append-nil)
+  -- past the last place nothing ends
+  pub none_ends : (xs : List A) (at : ℕ) → length xs ≡ 8 → 8 ≤ at → xs ≡ left_out e at xs
+  unfolding pull
+  none_ends xs at long h =
+      let k : length xs ≤ at = omega (arith, long, h) in
+      sym (rw (take_all at xs k, drop_of_length-le xs k, append-nil) refl)

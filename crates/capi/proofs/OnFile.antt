@@ -2,13 +2,11 @@
 use Rattle.std.proofs.Common.{◌≡◌, ℕ, Bool, true, false, cond, eqb, length, get_or, sym, refl, ap, ◌∙◌}
 use lib.Seq.{set-get_or}
 use Rattle.records.proofs.Headed.{if-called}
-use Rattle.files.specs.File.{no_file, file_answered}
+use Rattle.files.specs.File.{FileAnswered, no_file, file_answered}
 use Rattle.files.specs.declared.file.File.{File}
-use Rattle.files.specs.declared.file.FileAnswered.{FileAnswered}
 use Rattle.files.specs.declared.head.Head.{Head}
-use Rattle.recovery.specs.Record.{with_head, put_file, on_place}
+use Rattle.recovery.specs.Record.{Answered, with_head, put_file, on_place}
 use Rattle.recovery.specs.declared.record.Record.{Record}
-use Rattle.recovery.specs.declared.record.Answered.{Answered}
 use Rattle.capi.specs.Place.{sought_in}
 use Rattle.capi.specs.OneFile.{changed_at}
 use Rattle.capi.proofs.Places.{on-sought}
@@ -19,6 +17,10 @@ Same s r a = (s ≡ a.status) × (r ≡ a.after)
 
 same : (a b : Answered) → a ≡ b → Same a.status a.after b
 same a b e = (ap (λ (z : Answered). z.status) e, ap (λ (z : Answered). z.after) e)
+
+-- a refusal puts the file back that stands at its place
+pub unchanged : (r : Record) (i k : ℕ) → r ≡ (put_file r i (file_answered k r.head (get_or r.files i no_file))).after
+unchanged r i k = sym (ap (λ fs. record { files = fs; head = r.head }) (set-get_or r.files i no_file))
 
 module _ (n : ℕ) (q : File → FileAnswered) (r : Record) (long : length r.files ≡ 64) (i : ℕ) (there : i ≡ sought_in n r) where
   placed : put_file r i (q (get_or r.files i no_file)) ≡ on_place n q r

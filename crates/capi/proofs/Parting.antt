@@ -1,88 +1,43 @@
 -- LAYOUTRETURN parted before any file is looked up is what the definition of crate recovery says of it, in this order: the file, changed in place where the return is
 -- accepted; at the place that is sought; by the phase; where a file is wanted; where none is.
-use Rattle.std.proofs.Common.{◌≡◌, ℕ, ◌<◌, ◌≤◌, lt-ltb, le-ltb, Bool, true, false, cond, eqb, ltb, List, map, length, get_or, set, sym, refl, ap, ◌∙◌, arith, ltb-false}
-use lib.Seq.{set-get_or, set_out, set-set}
-use Rattle.std.proofs.lemmas.List.{get_or-set_same}
+use Rattle.std.proofs.Common.{◌≡◌, ℕ, Bool, true, false, cond, eqb, ltb, List, map, length, get_or, set, Result, Ok, Err, is_ok, sym, refl, ap, ◌∙◌}
+use lib.Seq.{set-get_or}
 use Rattle.places.proofs.Sets.{true-false}
 use Rattle.records.proofs.Headed.{if-called}
 use Rattle.mirroring.specs.Totals.{no_totals}
-use Rattle.wire.specs.Request.{request_of}
+use Rattle.wire.specs.Request.{Request, request_of}
 use Rattle.wire.specs.Stateid.{no_stateid}
 use Rattle.wire.specs.declared.request.Kind.{Kind}
 use Rattle.wire.specs.declared.request.Kind.TheVariants.{Anonymous, Bypass, Current, Invalid, Ordinary}
-use Rattle.wire.specs.declared.request.Request.{Request}
-use Rattle.wire.specs.declared.request.Request.TheVariants as request
+use Rattle.wire.specs.Request as request
 use Rattle.intents.specs.Intents.{is_stated, stated_if}
 use Rattle.files.specs.File.{no_file, with_intents, blamed_file, raised_file}
 use Rattle.files.specs.declared.file.File.{File}
 use Rattle.files.specs.declared.head.Head.{Head}
-use Rattle.layoutreturn.specs.LayoutReturn.{phase_of, decided, decision_of, outcome_by, file_after}
+use Rattle.layoutreturn.specs.LayoutReturn.{phase_of, decided, decision_of, outcome_by, file_after, Decision, Answered, HandedOn, ReadBody, ReturnBody}
 use Rattle.layoutreturn.specs.Settled.{without_totals, settled_file}
 use Rattle.layoutreturn.specs.declared.Outcome.{Outcome}
 use Rattle.layoutreturn.specs.declared.Settled.{Settled}
 use Rattle.layoutreturn.proofs.Settling.{file-so}
-use Rattle.layoutreturn.specs.declared.Decision.{Decision}
-use Rattle.layoutreturn.specs.declared.Decision.TheVariants.{Answered, HandedOn, ReadBody, ReturnBody}
 use Rattle.recovery.specs.Record.{with_files, with_head, place_in, file_at}
 use Rattle.recovery.specs.LayoutReturn.{returning, returned_by, layoutreturn_of, stateid_by}
 use Rattle.recovery.specs.declared.record.Record.{Record}
 use Rattle.recovery.proofs.Returning.{Placed, returned_at, returned-at, stateid-at}
 use Rattle.capi.specs.Place.{sought_in}
-use Rattle.capi.specs.LayoutReturn.{begun_of, body_read, outcome_in, returned_in, stateid_for, raised_each, changed_files}
+use Rattle.capi.specs.LayoutReturn.{begun_of, body_read, outcome_in, returned_in, stateid_for, changed_files}
 use Rattle.capi.proofs.Places.{sought-place}
 
--- ---- the file is what it is by value; where the return is refused, it stays
-abbrev pub report : File → Settled → File
-report f o = blamed_file o.marks o.blamed f
+-- ---- the file where the return is accepted: the report is said of it, and then the client's stateid is raised in it, where it is raised
+module _ (f : File) (o : Settled) (g : File) (is : g ≡ blamed_file o.marks o.blamed f) where
+  pub settled-raised : is_stated o.stateid ≡ true → with_intents (map (stated_if o.client o.stateid) g.intents) g ≡ settled_file f o
+  unfolding raised_file
+  settled-raised e = ap (λ (h : File). with_intents (map (stated_if o.client o.stateid) h.intents) h) is ∙ rw e
 
-abbrev pub raises : Settled → Bool
-raises o = is_stated o.stateid
+  pub settled-reported : is_stated o.stateid ≡ false → g ≡ settled_file f o
+  unfolding raised_file
+  settled-reported e = is ∙ rw e
 
--- the file at the place i, where there is one
-abbrev pub amended : Record → ℕ → Settled → Record
-amended r i o =
-    if-called (ltb i 64) (with_files (set r.files i (if-called (raises o) (raised_each (report (get_or r.files i no_file) o) i o) (report (get_or r.files i no_file) o))) r) r
-
-pub changed-so : (r : Record) (i : ℕ) (o : Settled) → length r.files ≡ 64 → amended r i o ≡ changed_files r i o
-unfolding raised_each changed_files raised_file
-changed-so r i o long = by (ltb i 64) refl (raises o)
-  where
-    g : File
-    g = report (get_or r.files i no_file) o
-
-    h : File
-    h = with_intents (map (stated_if o.client o.stateid) g.intents) g
-
-    by : (b : Bool) → ltb i 64 ≡ b → (z : Bool) → if-called b (with_files (set r.files i (if-called z h g)) r) r ≡ with_files (set r.files i (cond z h g)) r
-    by true e true = refl
-    by true e false = refl
-    by false e z =
-        let l : 64 ≤ i = ltb-false i 64 e in
-        sym (ap (λ fs. with_files fs r) (set_out r.files i (cond z h g) (omega (arith, long, l))))
-
--- a turn of the code: the report is said of the file, g, and then the client's stateid is raised in it, where it is raised; past the last place nothing is done
-module _ (r : Record) (i : ℕ) (o : Settled) (long : length r.files ≡ 64) where
-  module _ (below : i < 64) (g : File) (is : g ≡ report (get_or r.files i no_file) o) where
-    in_list : (z : Bool) → raises o ≡ z → with_files (set r.files i (if-called z (raised_each g i o) g)) r ≡ changed_files r i o
-    in_list z e =
-        ap (λ (f : File). with_files (set r.files i (if-called z (raised_each f i o) f)) r) is
-        ∙ ap (λ b. with_files (set r.files i (if-called b (raised_each (report (get_or r.files i no_file) o) i o) (report (get_or r.files i no_file) o))) r) (sym e)
-        ∙ ap (λ b. if-called b (with_files (set r.files i (if-called (raises o) (raised_each (report (get_or r.files i no_file) o) i o) (report (get_or r.files i no_file) o))) r) r) (sym (lt-ltb i 64 below))
-        ∙ changed-so r i o long
-
-    pub changed-raised : (h : File) → h ≡ raised_each (get_or (set r.files i g) i no_file) i o → raises o ≡ true → with_files (set (set r.files i g) i h) r ≡ changed_files r i o
-    changed-raised h made e =
-        ap (λ fs. with_files fs r) (set-set r.files i g h ∙ ap (set r.files i) (made ∙ ap (λ (f : File). raised_each f i o) (get_or-set_same r.files i g no_file (omega (arith, long, below)))))
-        ∙ in_list true e
-
-    pub changed-reported : raises o ≡ false → with_files (set r.files i g) r ≡ changed_files r i o
-    changed-reported e = in_list false e
-
-  pub changed-past : 64 ≤ i → r ≡ changed_files r i o
-  changed-past h =
-      ap (λ b. if-called b (with_files (set r.files i (if-called (raises o) (raised_each (report (get_or r.files i no_file) o) i o) (report (get_or r.files i no_file) o))) r) r) (sym (le-ltb i 64 h))
-      ∙ changed-so r i o long
-
+-- ---- where it is refused, the file stays
 abbrev pub after-change : Record → ℕ → Settled → Record
 after-change r i o = with_head o.head (if-called (eqb o.status 0) (changed_files r i o) r)
 
@@ -142,47 +97,56 @@ phased h s room = by (ltb room 24)
     by true = tt
     by false = request-phased h (request_of s)
 
+-- what is known before a file is looked up: the bytes of a body, or a status
+abbrev body_in : Result ℕ ℕ → ℕ
+body_in (Ok len) = len
+body_in (Err k) = 0
+
+abbrev status_in : Result ℕ ℕ → ℕ
+status_in (Ok len) = 0
+status_in (Err k) = k
+
 module _ (n c : ℕ) (s d : List ℕ) (r : Record) where
   -- ---- where a file is wanted
   on-file : (x : Decision) (len : ℕ) → body_read r.head len ≡ x → x ≡ decision_of r.head s (length d) → Placed n r (place_in n r) x → returned_in n len c s r ≡ layoutreturn_of n c s d r
   unfolding returned_in
   on-file x len q e p = ap (λ y. returned_at r (place_in n r) (outcome_by n r.head c s (file_at n r) y)) q ∙ returned-at n c s d r (place_in n r) x e p
 
-  wanted_by : (x : Decision) → x ≡ decision_of r.head s (length d) → Phased r.head x → (begun_of x).wanted ≡ true → returned_in n (begun_of x).len c s r ≡ layoutreturn_of n c s d r
-  wanted_by (Answered k) e q w = true-false (sym w)
-  wanted_by HandedOn e q w = true-false (sym w)
-  wanted_by (ReadBody len) e q w = on-file (ReadBody len) len q e refl
-  wanted_by (ReturnBody len) e q w = on-file (ReturnBody len) len q e refl
+  wanted_by : (x : Decision) (len : ℕ) → x ≡ decision_of r.head s (length d) → Phased r.head x → begun_of x ≡ Ok len → returned_in n len c s r ≡ layoutreturn_of n c s d r
+  wanted_by (Answered k) len e q w = true-false (sym (ap is_ok w))
+  wanted_by HandedOn len e q w = true-false (sym (ap is_ok w))
+  wanted_by (ReadBody m) len e q w = ap (λ k. returned_in n k c s r) (sym (ap body_in w)) ∙ on-file (ReadBody m) m q e refl
+  wanted_by (ReturnBody m) len e q w = ap (λ k. returned_in n k c s r) (sym (ap body_in w)) ∙ on-file (ReturnBody m) m q e refl
 
-  pub wanted-so : (begun_of (decision_of r.head s (length d))).wanted ≡ true → returned_in n (begun_of (decision_of r.head s (length d))).len c s r ≡ layoutreturn_of n c s d r
-  wanted-so = wanted_by (decision_of r.head s (length d)) refl (phased r.head s (length d))
+  pub wanted-so : (len : ℕ) → begun_of (decision_of r.head s (length d)) ≡ Ok len → returned_in n len c s r ≡ layoutreturn_of n c s d r
+  wanted-so len = wanted_by (decision_of r.head s (length d)) len refl (phased r.head s (length d))
 
   stateid-on : (x : Decision) (len : ℕ) → body_read r.head len ≡ x → x ≡ decision_of r.head s (length d) → Placed n r (place_in n r) x → stateid_for n len c s r ≡ stateid_by n c s r (decision_of r.head s (length d))
   unfolding stateid_for
   stateid-on x len q e p = ap (λ y. (outcome_by n r.head c s (file_at n r) y).stateid) q ∙ stateid-at n c s d r (place_in n r) x e p
 
-  stateid-wanted-by : (x : Decision) → x ≡ decision_of r.head s (length d) → Phased r.head x → (begun_of x).wanted ≡ true → stateid_for n (begun_of x).len c s r ≡ stateid_by n c s r (decision_of r.head s (length d))
-  stateid-wanted-by (Answered k) e q w = true-false (sym w)
-  stateid-wanted-by HandedOn e q w = true-false (sym w)
-  stateid-wanted-by (ReadBody len) e q w = stateid-on (ReadBody len) len q e refl
-  stateid-wanted-by (ReturnBody len) e q w = stateid-on (ReturnBody len) len q e refl
+  stateid-wanted-by : (x : Decision) (len : ℕ) → x ≡ decision_of r.head s (length d) → Phased r.head x → begun_of x ≡ Ok len → stateid_for n len c s r ≡ stateid_by n c s r (decision_of r.head s (length d))
+  stateid-wanted-by (Answered k) len e q w = true-false (sym (ap is_ok w))
+  stateid-wanted-by HandedOn len e q w = true-false (sym (ap is_ok w))
+  stateid-wanted-by (ReadBody m) len e q w = ap (λ k. stateid_for n k c s r) (sym (ap body_in w)) ∙ stateid-on (ReadBody m) m q e refl
+  stateid-wanted-by (ReturnBody m) len e q w = ap (λ k. stateid_for n k c s r) (sym (ap body_in w)) ∙ stateid-on (ReturnBody m) m q e refl
 
-  pub stateid-wanted : (begun_of (decision_of r.head s (length d))).wanted ≡ true → stateid_for n (begun_of (decision_of r.head s (length d))).len c s r ≡ stateid_by n c s r (decision_of r.head s (length d))
-  stateid-wanted = stateid-wanted-by (decision_of r.head s (length d)) refl (phased r.head s (length d))
+  pub stateid-wanted : (len : ℕ) → begun_of (decision_of r.head s (length d)) ≡ Ok len → stateid_for n len c s r ≡ stateid_by n c s r (decision_of r.head s (length d))
+  stateid-wanted len = stateid-wanted-by (decision_of r.head s (length d)) len refl (phased r.head s (length d))
 
   -- ---- where none is
-  unwanted-by : (x : Decision) → (begun_of x).wanted ≡ false → returning (begun_of x).status no_totals r ≡ returned_by n c s r x
-  unwanted-by (Answered k) w = refl
-  unwanted-by HandedOn w = refl
-  unwanted-by (ReadBody len) w = true-false w
-  unwanted-by (ReturnBody len) w = true-false w
+  unwanted-by : (x : Decision) (k : ℕ) → begun_of x ≡ Err k → returning k no_totals r ≡ returned_by n c s r x
+  unwanted-by (Answered j) k w = ap (λ i. returning i no_totals r) (sym (ap status_in w))
+  unwanted-by HandedOn k w = ap (λ i. returning i no_totals r) (sym (ap status_in w))
+  unwanted-by (ReadBody len) k w = true-false (ap is_ok w)
+  unwanted-by (ReturnBody len) k w = true-false (ap is_ok w)
 
-  pub unwanted-so : (begun_of (decision_of r.head s (length d))).wanted ≡ false → returning (begun_of (decision_of r.head s (length d))).status no_totals r ≡ layoutreturn_of n c s d r
+  pub unwanted-so : (k : ℕ) → begun_of (decision_of r.head s (length d)) ≡ Err k → returning k no_totals r ≡ layoutreturn_of n c s d r
   unfolding layoutreturn_of
   unwanted-so = unwanted-by (decision_of r.head s (length d))
 
-  pub stateid-unwanted : (x : Decision) → (begun_of x).wanted ≡ false → no_stateid ≡ stateid_by n c s r x
-  stateid-unwanted (Answered k) w = refl
-  stateid-unwanted HandedOn w = refl
-  stateid-unwanted (ReadBody len) w = true-false w
-  stateid-unwanted (ReturnBody len) w = true-false w
+  pub stateid-unwanted : (x : Decision) (k : ℕ) → begun_of x ≡ Err k → no_stateid ≡ stateid_by n c s r x
+  stateid-unwanted (Answered j) k w = refl
+  stateid-unwanted HandedOn k w = refl
+  stateid-unwanted (ReadBody len) k w = true-false (ap is_ok w)
+  stateid-unwanted (ReturnBody len) k w = true-false (ap is_ok w)

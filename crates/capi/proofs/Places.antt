@@ -3,18 +3,16 @@ use Rattle.std.proofs.Common.{◌≡◌, ℕ, zero, suc, ◌+◌, ◌<◌, Bool,
 use Rattle.records.proofs.Lists.{holds}
 use Rattle.walks.specs.Seek.{which, seek}
 use Rattle.places.specs.Places.{first, place_or}
-use Rattle.files.specs.File.{no_file, is_file}
+use Rattle.files.specs.File.{FileAnswered, no_file, is_file}
 use Rattle.files.specs.declared.file.File.{File}
-use Rattle.files.specs.declared.file.FileAnswered.{FileAnswered}
-use Rattle.places.specs.declared.Found.{Found}
 use Rattle.places.proofs.Loops.{Searching, searching, hit, miss, over}
-use Rattle.recovery.specs.Record.{place_in, put_file, on_place}
+use Rattle.recovery.specs.Record.{Answered, place_in, put_file, on_place}
 use Rattle.recovery.specs.declared.record.Record.{Record}
-use Rattle.recovery.specs.declared.record.Answered.{Answered}
 use Rattle.capi.specs.Place.{is_unsure, sought_in, number_in}
+use Rattle.std.specs.Prelude.{Option}
 
 -- ---- the place: a search that has come to i answers o, and n is what the places after i give
-module _ {A : Type 0} (p : A → Bool) (d : A) (l : List A) (e : ℕ) (o : Found) where
+module _ {A : Type 0} (p : A → Bool) (d : A) (l : List A) (e : ℕ) (o : Option ℕ) where
   turn : (i n : ℕ) (b : Bool) → b ≡ p (get_or l i d) → Searching p l i o → i < length l → (Searching p l (i + 1) o → n ≡ place_or e o) → which b i n ≡ place_or e o
   turn i n true t s h next = ap (place_or e) (hit s d h true t refl)
   turn i n false t s h next = next (miss s d h false t refl)

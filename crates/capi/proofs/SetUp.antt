@@ -1,32 +1,27 @@
--- The set-up of a stateid by a look at every file first is what the definition of crate recovery says of it, in this order: what is sought is a place where some
--- file passes; the set-up.
-use Rattle.std.proofs.Common.{◌≡◌, ℕ, zero, suc, ◌+◌, ◌≤◌, Bool, true, false, cond, ltb, List, length, get_or, drop, sym, ap, ◌∙◌, add-one, arith, drop_of_length-le, drop-cons, le-ltb, lt-ltb}
-use Rattle.walks.specs.Seek.{which, seek}
+-- The set-up of a stateid, where std's `any` says whether a file uses its `other`, is what the definition of crate recovery says of it.
+use Rattle.std.proofs.Common.{◌≡◌, Bool, true, false, cond, ◌||◌, ℕ, List, [], ◌∷◌, refl, ap, ◌∙◌}
+use Rattle.std.specs.List.{list_any}
 use Rattle.places.specs.Lists.{any}
 use Rattle.wire.specs.Stateid.{new_stateid, bad_other}
-use Rattle.files.specs.File.{no_file, uses_stateid, stated_file}
-use Rattle.recovery.specs.Record.{is_barred, on_place, set_up_of}
-use Rattle.recovery.specs.declared.record.Record.{Record}
-use Rattle.capi.specs.Place.{user_in}
-use Rattle.capi.specs.SetUp.{set_up_with}
+use Rattle.wire.specs.declared.stateid.Stateid.{Stateid}
+use Rattle.files.specs.File.{uses_stateid}
+use Rattle.files.specs.declared.file.File.{File}
+use Rattle.recovery.specs.Record.{is_barred}
 
--- ---- of the t places from i on
-module _ {A : Type 0} (p : A → Bool) (d : A) (l : List A) where
-  passes : (t i : ℕ) → length l ≡ i + t → ltb (seek p d l t i) (length l) ≡ any p (drop i l)
-  unfolding any
-  passes zero i h = let q : length l ≤ i = omega (arith, h) in rw (drop_of_length-le l q) (le-ltb i (length l) (omega (arith, h)))
-  passes (suc t) i h = rw (drop-cons l i d (omega (arith, h))) (by (p (get_or l i d)) (passes t (i + 1) (omega (arith, h))))
-    where
-      by : (b : Bool) → ltb (seek p d l t (i + 1)) (length l) ≡ any p (drop (i + 1) l) → ltb (which b i (seek p d l t (i + 1))) (length l) ≡ cond b true (any p (drop (suc i) l))
-      by true q = lt-ltb i (length l) (omega (arith, h))
-      by false q = q ∙ rw (add-one)
+any-so : {A : Type 0} (p : A → Bool) (l : List A) → list_any p l ≡ any p l
+unfolding any
+any-so p [] = refl
+any-so p (x ∷ l) = ap (λ b. p x || b) (any-so p l) ∙ by (p x) (any p l)
+  where
+    by : (b r : Bool) → (b || r) ≡ cond b true r
+    by true r = refl
+    by false r = refl
 
-module _ (n c : ℕ) (s : List ℕ) (r : Record) (h : length r.files ≡ 64) where
-  used-so : ltb (user_in (new_stateid s) r) 64 ≡ any (uses_stateid (new_stateid s)) r.files
-  unfolding user_in
-  used-so = ap (ltb (seek (uses_stateid (new_stateid s)) no_file r.files 64 0)) (sym h) ∙ passes (uses_stateid (new_stateid s)) no_file r.files 64 0 (omega (arith, h))
+module _ (s : List ℕ) (fs : List File) where
+  pub barred-in : bad_other s ≡ true → true ≡ is_barred s fs
+  unfolding is_barred
+  barred-in e = rw e refl
 
-  -- ---- the set-up
-  pub set-up-so : set_up_with n (user_in (new_stateid s) r) c s r ≡ set_up_of n c s r
-  unfolding set_up_with set_up_of is_barred
-  set-up-so = ap (λ (b : Bool). on_place n (stated_file n r.head c (new_stateid s) (cond (bad_other s) true b)) r) used-so
+  pub barred-by-file : (t : Stateid) → t ≡ new_stateid s → bad_other s ≡ false → list_any (uses_stateid t) fs ≡ is_barred s fs
+  unfolding is_barred
+  barred-by-file t is e = rw e (ap (λ (u : Stateid). list_any (uses_stateid u) fs) is ∙ any-so (uses_stateid (new_stateid s)) fs)

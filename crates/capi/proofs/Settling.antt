@@ -1,7 +1,11 @@
 -- What the C call makes of a file, told the claim x, is the outcome of that claim. In this order: where the claim bars; by the two halves of a walk, of which e is what the device errors change and
--- tail the statistics records; and no totals.
-use Rattle.std.proofs.Common.{◌≡◌, Bool, true, false, cond, not, eqb, List, sym, refl, ap, ◌∙◌}
-use Rattle.statuses.specs.Names.{Status, Client}
+-- tail the statistics records; the status of both; and no totals.
+use Rattle.std.proofs.Common.{◌≡◌, Bool, true, false, cond, not, eqb, List, Result, Ok, Err, sym, refl, ap, ◌∙◌}
+use Rattle.std.specs.Result.{result_and}
+use Rattle.statuses.specs.Names.{Client}
+use Rattle.statuses.specs.Names as names
+use Rattle.statuses.specs.Numbers.{number, code}
+use Rattle.statuses.specs.declared.Status.{Status}
 use Rattle.masks.specs.Mask.{set_of}
 use Rattle.reports.specs.Report.{Report}
 use Rattle.mirroring.specs.Blame.{status_only, assessment_of, tallied_of, settled_of}
@@ -13,10 +17,10 @@ use Rattle.files.specs.File.{marks_file, blames_places}
 use Rattle.files.specs.declared.file.File.{File}
 use Rattle.files.specs.declared.head.Head.{Head}
 use Rattle.layoutreturn.specs.LayoutReturn.{outcome_on}
-use Rattle.layoutreturn.specs.OneWalk.{raised_if}
+use Rattle.layoutreturn.specs.OneWalk.{raised_if, Claim}
 use Rattle.layoutreturn.specs.Settled.{refused_as, accepted_as, without_totals, counts_if, is_silent, later_of, silenced, taken_as, assessed_as, raised_as, claimed_outcome}
-use Rattle.layoutreturn.specs.declared.Claim.{Claim}
 use Rattle.layoutreturn.specs.declared.Outcome.{Outcome}
+use Rattle.layoutreturn.proofs.Refusals.{refusal}
 use Rattle.layoutreturn.proofs.Settling.{refused-so, accepted-so, form-so, taken-so, totals-so}
 
 module _ (h : Head) (c : Client) (x : Claim) (p : Report) (f : File) where
@@ -54,10 +58,10 @@ module _ (h : Head) (c : Client) (x : Claim) (p : Report) (f : File) where
     counts = counts_if e.unknown x.late silent
 
     -- the status as the code has it, and as the definition has it
-    abbrev status : Status
+    abbrev status : names.Status
     status = later_of (tallied_of ms counts tail).status x.late
 
-    abbrev defined : Status
+    abbrev defined : names.Status
     defined = later_of (settled_of ms e tail).status x.late
 
     same-status : status ≡ defined
@@ -86,6 +90,11 @@ module _ (h : Head) (c : Client) (x : Claim) (p : Report) (f : File) where
 
     pub settled-totals : (tallied_of ms counts tail).totals ≡ (claimed_outcome h c x p f).totals
     settled-totals = totals-so ms e x.late silent tail ∙ ap (λ (o : Outcome). o.totals) is-outcome
+
+-- ---- the status of steps 5 and 6, by the answers of both
+pub and-later : {A B : Type 0} (form : Result A Status) (late : Result B Status) → code (result_and form late) ≡ later_of (code form) (code late)
+and-later (Ok u) late = refl
+and-later (Err k) late = sym (ap (λ b. cond b (code late) (number k)) (refusal k))
 
 -- ---- no totals: no sum passes
 pub none_over : 0 ≡ no_totals.read.over

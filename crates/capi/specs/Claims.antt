@@ -2,8 +2,7 @@
 use Rattle.std.specs.Prelude.{ℕ, not, slice_index_or}
 use Rattle.statuses.specs.Names.{Bytes, Client, FileNumber}
 use Rattle.files.specs.File.{no_file}
-use Rattle.layoutreturn.specs.OneWalk.{claim_by}
-use Rattle.layoutreturn.specs.declared.Claim.{Claim}
+use Rattle.layoutreturn.specs.OneWalk.{claim_by, Claim}
 use Rattle.recovery.specs.declared.record.Record.{Record}
 
 abbrev pub claim_in : Record → ℕ → FileNumber → Client → Bytes → Claim

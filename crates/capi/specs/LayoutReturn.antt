@@ -1,31 +1,28 @@
 -- MODEL. LAYOUTRETURN in place, parted before any file is looked up: what is known of a request by what was decided; a request whose body, of so many bytes, is
 -- read, or an ordinary return, on its file's place; and what one that is accepted changes there. proofs/Parting.antt proves them together equal to `layoutreturn_of` and
 -- `reply_after` of crate recovery.
-use Rattle.std.specs.Prelude.{ℕ, true, false, cond, map, slice_index_or, slice_set}
+use Rattle.std.specs.Prelude.{ℕ, cond, map, slice_index_or, slice_set, Result, Ok, Err}
 use Rattle.statuses.specs.Names.{Bytes, Client, FileNumber}
 use Rattle.wire.specs.declared.stateid.Stateid.{Stateid}
 use Rattle.intents.specs.Intents.{stated_if}
 use Rattle.files.specs.File.{no_file, with_intents}
 use Rattle.files.specs.declared.file.File.{File}
 use Rattle.files.specs.declared.head.Head.{Head}
-use Rattle.layoutreturn.specs.LayoutReturn.{handed_on_code, outcome_by}
+use Rattle.layoutreturn.specs.LayoutReturn.{handed_on_code, outcome_by, Decision, Answered, HandedOn, ReadBody, ReturnBody}
 use Rattle.layoutreturn.specs.Settled.{settled_file}
-use Rattle.layoutreturn.specs.declared.Decision.{Decision}
-use Rattle.layoutreturn.specs.declared.Decision.TheVariants.{Answered, HandedOn, ReadBody, ReturnBody}
 use Rattle.layoutreturn.specs.declared.Outcome.{Outcome}
 use Rattle.layoutreturn.specs.declared.Settled.{Settled}
 use Rattle.recovery.specs.Record.{with_files, file_at, on_place}
 use Rattle.recovery.specs.LayoutReturn.{returning, answered_by}
 use Rattle.recovery.specs.declared.record.Record.{Record}
 use Rattle.recovery.specs.declared.returns.Returned.{Returned}
-use Rattle.capi.specs.declared.Begun.{Begun}
 
--- a file is wanted where the body is read, and for an ordinary return
-abbrev pub begun_of : Decision → Begun
-begun_of (Answered k) = record { wanted = false; status = k; len = 0 }
-begun_of HandedOn = record { wanted = false; status = handed_on_code; len = 0 }
-begun_of (ReadBody len) = record { wanted = true; status = 0; len = len }
-begun_of (ReturnBody len) = record { wanted = true; status = 0; len = len }
+-- a file is wanted where the body, of so many bytes, is read, and for an ordinary return; else there is a status
+abbrev pub begun_of : Decision → Result ℕ ℕ
+begun_of (Answered k) = Err k
+begun_of HandedOn = Err handed_on_code
+begun_of (ReadBody len) = Ok len
+begun_of (ReturnBody len) = Ok len
 
 -- which of the two it is, the phase says: a body is read in grace, and an ordinary return is one out of it
 abbrev pub body_read : Head → ℕ → Decision

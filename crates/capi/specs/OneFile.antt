@@ -1,9 +1,7 @@
 -- MODEL. A file that is changed where it lies, by g, at the place i of the record.
 use Rattle.std.specs.Prelude.{ℕ, ◌+◌, ◌-◌, slice_index_or, slice_set}
-use Rattle.files.specs.File.{no_file, with_begun, with_ended}
-use Rattle.files.specs.declared.file.Closing.{Closing}
+use Rattle.files.specs.File.{Closing, Opening, no_file, with_begun, with_ended}
 use Rattle.files.specs.declared.file.File.{File}
-use Rattle.files.specs.declared.file.Opening.{Opening}
 use Rattle.recovery.specs.Record.{with_files}
 use Rattle.recovery.specs.declared.record.Record.{Record}
 

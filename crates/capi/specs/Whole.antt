@@ -1,21 +1,25 @@
 -- MODEL. Calls that change more than one file, as the code in place makes them: what such a call answers, and what becomes of the files. In this order: restart,
 -- the end of grace and a fresh record; register; forget. proofs/Whole.antt proves them equal to the definitions of crate recovery.
-use Rattle.std.specs.Prelude.{ℕ, zero, suc, ◌+◌, ◌-◌, Bool, true, false, cond, not, List, [], ◌∷◌, map, nat_le, slice_index_or, slice_set}
+use Rattle.std.specs.Prelude.{ℕ, zero, suc, ◌+◌, ◌-◌, Bool, true, false, cond, not, List, [], ◌∷◌, map, nat_le, slice_index_or, slice_set, Result, Ok, Err}
 use Rattle.statuses.specs.Names.{Bytes, Status, FileNumber}
+use Rattle.statuses.specs.Numbers.{number}
+use Rattle.statuses.specs.declared.Status.{Status as Refusal}
 use Rattle.walks.specs.Seek.{seek}
-use Rattle.mirroring.specs.Mirrors.{enrolled_of}
-use Rattle.mirroring.specs.declared.enrol.Enrolled.{Enrolled}
+use Rattle.mirroring.specs.Mirrors.{enrolled_of, Enrolled}
 use Rattle.intents.specs.Intents.{no_intent, is_kept, is_lost, stayed_intent}
 use Rattle.intents.specs.declared.Intent.{Intent}
-use Rattle.files.specs.File.{no_file, blank_file, file_of, is_file, is_vacant, file_answered, forgettable, with_intents, with_mark}
+use Rattle.files.specs.File.{FileAnswered, no_file, blank_file, file_of, is_file, is_vacant, file_answered, forgettable, with_intents, with_mark}
 use Rattle.files.specs.declared.file.File.{File}
-use Rattle.files.specs.declared.file.FileAnswered.{FileAnswered}
 use Rattle.files.specs.declared.head.Head.{Head}
 use Rattle.recovery.specs.Record.{with_files, enter, without_file, ended_record}
 use Rattle.recovery.specs.declared.record.Record.{Record}
-use Rattle.capi.specs.declared.Verdict.{Verdict}
 
 -- ---- all files
+-- what is answered, and what stands beside the files afterwards
+pub record Verdict : Type 0 where
+  pub status : Status
+  pub head : Head
+
 abbrev pub verdict : Status → Head → Verdict
 verdict s h = record { status = s; head = h }
 
@@ -67,6 +71,11 @@ admitted_by n h e f =
 
 unfoldable pub admitted_of : FileNumber → Head → Bytes → File → FileAnswered
 admitted_of n h s f = cond h.grace (refused_with 10013 h) (admitted_by n h (enrolled_of s) f)
+
+-- what the code answers: the file that is to be entered, or a refusal
+abbrev pub admitted_as : Head → Result File Refusal → FileAnswered
+admitted_as h (Ok x) = file_answered 0 h x
+admitted_as h (Err s) = refused_with (number s) h
 
 abbrev pub is_vacant_place : Bool → FileNumber → FileNumber → Bool
 is_vacant_place used number key = not used

@@ -7,6 +7,8 @@ use native.Mathlib.Omega.{arith}
 use native.Mathlib.Decide.{dec_lt, ℕ_discrete}
 use borrow.Author.Tests.{lt-ltb, le-ltb, lt-leb, ltb-true, ltb-false, leb-true}
 use lib.Dec.{ltb, leb, eqb}
+use Rattle.std.specs.Prelude.{Some}
+use Rattle.std.specs.Bool.{then_some}
 use Rattle.extents.proofs.Sentences.{and_both}
 use Rattle.committing.specs.Seek.{edge_of}
 use Rattle.commits.specs.Spot.{span_of, Sought, Left, over_at, over_in, edge_in, cut_in, turn_by, turn_of}
@@ -117,14 +119,14 @@ edge-over p x h = rw (le-ltb x p.lo (leb-true p.lo x h))
 
 -- ---- which piece comes next
 module _ (i j st a b y : ℕ) where
-  pub turn-committed : (o v r again : Bool) → (r && v) ≡ true → record { upto = y; live = true; bare = false; row = j; lo = b; state = 0; again = false } ≡ turn_by i j st a b y o v r again
+  pub turn-committed : (o v r again : Bool) → (r && v) ≡ true → record { upto = y; part = Some (record { row = j; lo = b; state = 0 }); bare = false; again = false } ≡ turn_by i j st a b y o v r again
   unfolding turn_by
   turn-committed o true true again h = refl
   turn-committed o false true again h = absurd (false≢true h)
   turn-committed o v false again h = absurd (false≢true h)
 
   pub turn-other : (o v r again : Bool) → (r && v) ≡ false → (o && not again) ≡ true
-      → record { upto = y; live = true; bare = r && not (eqb st 0); row = i; lo = a; state = st; again = v } ≡ turn_by i j st a b y o v r again
+      → record { upto = y; part = Some (record { row = i; lo = a; state = st }); bare = r && not (eqb st 0); again = v } ≡ turn_by i j st a b y o v r again
   unfolding turn_by
   turn-other true true true false h g = absurd (false≢true (sym h))
   turn-other true false true false h g = refl
@@ -134,7 +136,7 @@ module _ (i j st a b y : ℕ) where
   turn-other false v r again h g = absurd (false≢true g)
 
   pub turn-invalid : (o v r again : Bool) → (r && v) ≡ false → (o && not again) ≡ false → (again ≡ true → r ≡ false)
-      → record { upto = y; live = v; bare = r; row = j; lo = b; state = 2; again = false } ≡ turn_by i j st a b y o v r again
+      → record { upto = y; part = then_some v (record { row = j; lo = b; state = 2 }); bare = r; again = false } ≡ turn_by i j st a b y o v r again
   unfolding turn_by
   turn-invalid true v r false h g l = absurd (false≢true (sym g))
   turn-invalid true v true true h g l = absurd (false≢true (sym (l refl)))
@@ -166,7 +168,7 @@ module _ (states : ℕ → ℕ) (p : Spot) where
   by y = turn_by p.other.place p.invalid.place st p.other.lo p.invalid.lo y o v r p.again
 
   pub committed-turn : (r && v) ≡ true
-      → record { upto = min (edge_in p.other x) (min p.invalid.hi p.range.hi); live = true; bare = false; row = p.invalid.place; lo = p.invalid.lo; state = 0; again = false } ≡ turn_of states p
+      → record { upto = min (edge_in p.other x) (min p.invalid.hi p.range.hi); part = Some (record { row = p.invalid.place; lo = p.invalid.lo; state = 0 }); bare = false; again = false } ≡ turn_of states p
   committed-turn h =
       let (e, f) = and_both r v h in
       turn-committed p.other.place p.invalid.place st p.other.lo p.invalid.lo (min (edge_in p.other x) (min p.invalid.hi p.range.hi)) o v r p.again h
@@ -174,10 +176,10 @@ module _ (states : ℕ → ℕ) (p : Spot) where
       ∙ ap (λ (z : ℕ). by (min (edge_in p.other x) (min (edge_in p.invalid x) z))) (edge-over p.range x e)
 
   pub other-turn : (r && v) ≡ false → (o && not p.again) ≡ true
-      → record { upto = cut_in p; live = true; bare = r && not (eqb st 0); row = p.other.place; lo = p.other.lo; state = st; again = v } ≡ turn_of states p
+      → record { upto = cut_in p; part = Some (record { row = p.other.place; lo = p.other.lo; state = st }); bare = r && not (eqb st 0); again = v } ≡ turn_of states p
   other-turn h g = turn-other p.other.place p.invalid.place st p.other.lo p.invalid.lo (cut_in p) o v r p.again h g
 
   pub invalid-turn : (r && v) ≡ false → (o && not p.again) ≡ false → (p.again ≡ true → x < p.range.lo)
-      → record { upto = cut_in p; live = v; bare = r; row = p.invalid.place; lo = p.invalid.lo; state = 2; again = false } ≡ turn_of states p
+      → record { upto = cut_in p; part = then_some v (record { row = p.invalid.place; lo = p.invalid.lo; state = 2 }); bare = r; again = false } ≡ turn_of states p
   invalid-turn h g l =
       turn-invalid p.other.place p.invalid.place st p.other.lo p.invalid.lo (cut_in p) o v r p.again h g (λ q. lt-leb p.range.lo x (l q))

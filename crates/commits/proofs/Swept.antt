@@ -26,11 +26,12 @@ use Rattle.committing.proofs.Sweep.{swept-valid}
 use Rattle.committing.proofs.Places.{length_from}
 use Rattle.committing.proofs.Seek.{seeks-one, edge-is}
 use Rattle.committing.proofs.Start.{Cand, at_above, start, cuts-length, above-length}
-use Rattle.joining.specs.Joiner.{bytes_of, Runs, no_runs, fed, wrote, fed_all, wrote_all, Ready, ReadyAll}
+use Rattle.joining.specs.Joiner.{bytes_of, no_runs, fed, wrote, fed_all, wrote_all, Ready, ReadyAll}
+use Rattle.joining.specs.declared.joiner.Runs.{Runs}
 use Rattle.joining.specs.declared.joiner.Piece.{Piece}
 use Rattle.joining.proofs.Tracks.{none-tracked}
 use Rattle.joining.proofs.Fed.{extents_of, Going, fed-count, wrote-all, feeds-all, none-held}
-use Rattle.commits.specs.Spot.{Marks, range_begin, range_end, is_kind, always, Spotted, Settled, over_at, other_here, invalid_here, range_here, next_cut, over_in, cut_in, bare_by, turn_by, turn_of, moved_to, going_on}
+use Rattle.commits.specs.Spot.{Marks, range_begin, range_end, is_kind, always, Spotted, Settled, over_at, other_here, invalid_here, range_here, next_cut, over_in, cut_in, bare_by, turn_by, live, its, turn_of, moved_to, going_on}
 use Rattle.commits.specs.Pieces.{part_of, marks_of, only_if, pieces_at, other_row, invalid_row, range_row, other_over, invalid_over, range_over, pieces_between, pieces_over}
 use Rattle.commits.specs.declared.spot.Spot.{Spot}
 use Rattle.commits.specs.declared.spot.Turn.{Turn}
@@ -73,7 +74,7 @@ module _ (f : ℕ → Extent) (i j a b x y : ℕ) (rest : List Piece) where
 
   splits : (o v r again : Bool) → (again ≡ true → (v ≡ true) × (r ≡ false))
       → cond again second (pieces_at f i j o v r x y ++ rest)
-      ≡ only_if (taken o v r again).live (part_of f (taken o v r again).row (taken o v r again).state x y) ++ cond (taken o v r again).again second rest
+      ≡ only_if (live (taken o v r again)) (part_of f (its (taken o v r again)).row (its (taken o v r again)).state x y) ++ cond (taken o v r again).again second rest
   unfolding pieces_at turn_by
   splits o true true true h = absurd (false≢true (sym (h refl).1))
   splits o true true false h = refl
@@ -116,7 +117,7 @@ module _ (f : ℕ → Extent) (i j a b x y : ℕ) (rest : List Piece) where
   upto-bare false false false again = (refl, refl)
 
   -- where its row begins
-  begins-at : (o v r again : Bool) → (o ≡ true → a ≡ (f i).offset) → (v ≡ true → b ≡ (f j).offset) → (taken o v r again).live ≡ true → (taken o v r again).lo ≡ (f (taken o v r again).row).offset
+  begins-at : (o v r again : Bool) → (o ≡ true → a ≡ (f i).offset) → (v ≡ true → b ≡ (f j).offset) → live (taken o v r again) ≡ true → (its (taken o v r again)).lo ≡ (f (its (taken o v r again)).row).offset
   unfolding turn_by
   begins-at o true true again h g l = g refl
   begins-at true true false false h g l = h refl
@@ -130,7 +131,7 @@ module _ (f : ℕ → Extent) (i j a b x y : ℕ) (rest : List Piece) where
   begins-at false false false again h g l = absurd (false≢true l)
 
   -- no piece where nothing lies
-  none-live : (o v r again : Bool) → o ≡ false → v ≡ false → (taken o v r again).live ≡ false
+  none-live : (o v r again : Bool) → o ≡ false → v ≡ false → live (taken o v r again) ≡ false
   unfolding turn_by
   none-live true v r again p q = absurd (false≢true (sym p))
   none-live false true r again p q = absurd (false≢true (sym q))
@@ -411,25 +412,25 @@ module _ (devs : List ℕ) (f : ℕ → Extent) (n : ℕ) (g : ℕ → Range) (m
           inside-then false = later.1
 
           -- a piece is there only before the last cut
-          live-goes : t.live ≡ true → going_on n m p ≡ true
+          live-goes : live t ≡ true → going_on n m p ≡ true
           live-goes z = by (going_on n m p) refl
             where
               by : (u : Bool) → going_on n m p ≡ u → u ≡ true
               by true e = refl
               by false e =
                   let (i, j, c) = all_three (ltb p.other.place n) (ltb p.invalid.place n) (ltb p.range.place m) e in
-                  absurd (false≢true (sym (none-live f (other_row k x) (invalid_row k x) a b x (next_cut k p) [] (other_over k x) (invalid_over k x) (range_over k x) p.again (sym other-is ∙ rw i) (sym invalid-is ∙ rw j)) ∙ ap (λ (u : Turn). u.live) (sym turn_by_lem) ∙ z))
+                  absurd (false≢true (sym (none-live f (other_row k x) (invalid_row k x) a b x (next_cut k p) [] (other_over k x) (invalid_over k x) (range_over k x) p.again (sym other-is ∙ rw i) (sym invalid-is ∙ rw j)) ∙ ap live (sym turn_by_lem) ∙ z))
 
-          pub row-begins : t.live ≡ true → t.lo ≡ (f t.row).offset
+          pub row-begins : live t ≡ true → (its t).lo ≡ (f (its t).row).offset
           row-begins z =
               rw turn_by_lem
               (begins-at f (other_row k x) (invalid_row k x) a b x (next_cut k p) [] (other_over k x) (invalid_over k x) (range_over k x) p.again
               (λ q. (its-edges (lo_of f) (hi_of f) n p.other s.others.edges (over-said p.other.place n (f p.other.place).offset x (other-is ∙ q)).0).0 ∙ ap (lo_of f) is-other)
               (λ q. (its-edges (lo_of f) (hi_of f) n p.invalid s.invalids.edges (over-said p.invalid.place n (f p.invalid.place).offset x (invalid-is ∙ q)).0).0 ∙ ap (lo_of f) is-invalid)
-              (ap (λ (u : Turn). u.live) (sym turn_by_lem) ∙ z))
+              (ap live (sym turn_by_lem) ∙ z))
 
           abbrev piece : Piece
-          piece = part_of f t.row t.state x t.upto
+          piece = part_of f (its t).row (its t).state x t.upto
 
           abbrev come : List Piece
           come = to_come (cond t.again x t.upto) t.again
@@ -446,18 +447,18 @@ module _ (devs : List ℕ) (f : ℕ → Extent) (n : ℕ) (g : ℕ → Range) (m
             after_is true = come-is true
             after_is false = refl
 
-            splits-here : to_come x p.again ≡ only_if t.live piece ++ come
+            splits-here : to_come x p.again ≡ only_if (live t) piece ++ come
             splits-here =
                 come-is p.again
                 ∙ splits f (other_row k x) (invalid_row k x) a b x t.upto (rest t.upto) (other_over k x) (invalid_over k x) (range_over k x) p.again w.second-left
-                ∙ rw (← turn_is) (ap (λ (l : List Piece). only_if t.live piece ++ l) (sym (after_is t.again)))
+                ∙ rw (← turn_is) (ap (λ (l : List Piece). only_if (live t) piece ++ l) (sym (after_is t.again)))
 
             -- what its piece asks
-            piece-fit : t.live ≡ true → Fit f n piece
-            piece-fit z = (rw z at (all_apart (Fit f n) (only_if t.live piece) come (rw splits-here at w.fits)).0).0
+            piece-fit : live t ≡ true → Fit f n piece
+            piece-fit z = (rw z at (all_apart (Fit f n) (only_if (live t) piece) come (rw splits-here at w.fits)).0).0
 
-            piece-feed : t.live ≡ true → Ready devs r piece
-            piece-feed z = (rw z at (feeds-append devs r (only_if t.live piece) come (rw splits-here at w.feeds)).0).0
+            piece-feed : live t ≡ true → Ready devs r piece
+            piece-feed z = (rw z at (feeds-append devs r (only_if (live t) piece) come (rw splits-here at w.feeds)).0).0
 
             moved-bares : (again : Bool) → ((bare || t.bare) || bare_from rs es (cond again x t.upto) (above (cond again x t.upto) cuts)) ≡ bare_from rs es 0 (above 0 cuts)
             unfolding bare_from
@@ -471,33 +472,33 @@ module _ (devs : List ℕ) (f : ℕ → Extent) (n : ℕ) (g : ℕ → Range) (m
                 by true e = ap (λ (z : Bool). (bare || bare_at rs es x) || z) e ∙ bare_twice bare (bare_at rs es x) (bare_from rs es t.upto (above t.upto cuts))
                 by false e = or_assoc bare (bare_at rs es x) (bare_from rs es t.upto (above t.upto cuts))
 
-            after : (r' : Runs) → r' ≡ fed_all devs r (only_if t.live piece) → (d' : List ℕ) → d' ≡ cond write (wrote_all devs r d (only_if t.live piece)) d → length d' ≡ length d
+            after : (r' : Runs) → r' ≡ fed_all devs r (only_if (live t) piece) → (d' : List ℕ) → d' ≡ cond write (wrote_all devs r d (only_if (live t) piece)) d → length d' ≡ length d
                 → Swept write d₀ (cond t.again x t.upto) t.again r' d' (bare || t.bare)
             after r' er d' ed el =
                 record {
                   inside = inside-then t.again;
                   second-left = second-then;
-                  fits = (all_apart (Fit f n) (only_if t.live piece) come (rw splits-here at w.fits)).1;
-                  feeds = rw er (feeds-append devs r (only_if t.live piece) come (rw splits-here at w.feeds)).1;
-                  runs = rw er (sym (fed-append devs r (only_if t.live piece) come) ∙ ap (fed_all devs r) (sym splits-here) ∙ w.runs);
+                  fits = (all_apart (Fit f n) (only_if (live t) piece) come (rw splits-here at w.fits)).1;
+                  feeds = rw er (feeds-append devs r (only_if (live t) piece) come (rw splits-here at w.feeds)).1;
+                  runs = rw er (sym (fed-append devs r (only_if (live t) piece) come) ∙ ap (fed_all devs r) (sym splits-here) ∙ w.runs);
                   same = el ∙ w.same;
                   bytes = rw er (by write ed w.bytes);
                   bares = moved-bares t.again;
                 }
               where
-                by : (v : Bool) → d' ≡ cond v (wrote_all devs r d (only_if t.live piece)) d
+                by : (v : Bool) → d' ≡ cond v (wrote_all devs r d (only_if (live t) piece)) d
                     → cond v (wrote_all devs r d (to_come x p.again)) d ≡ cond v (wrote_all devs no_runs d₀ (rest 0)) d₀
-                    → cond v (wrote_all devs (fed_all devs r (only_if t.live piece)) d' come) d' ≡ cond v (wrote_all devs no_runs d₀ (rest 0)) d₀
+                    → cond v (wrote_all devs (fed_all devs r (only_if (live t) piece)) d' come) d' ≡ cond v (wrote_all devs no_runs d₀ (rest 0)) d₀
                 by true u b =
-                    ap (λ (z : List ℕ). wrote_all devs (fed_all devs r (only_if t.live piece)) z come) u
-                    ∙ sym (wrote-append devs r d (only_if t.live piece) come) ∙ ap (wrote_all devs r d) (sym splits-here) ∙ b
+                    ap (λ (z : List ℕ). wrote_all devs (fed_all devs r (only_if (live t) piece)) z come) u
+                    ∙ sym (wrote-append devs r d (only_if (live t) piece) come) ∙ ap (wrote_all devs r d) (sym splits-here) ∙ b
                 by false u b = u ∙ b
 
           -- what its piece asks
-          pub piece-fits : t.live ≡ true → Fit f n piece
+          pub piece-fits : live t ≡ true → Fit f n piece
           piece-fits z = piece-fit (live-goes z) z
 
-          pub piece-feeds : t.live ≡ true → Ready devs r piece
+          pub piece-feeds : live t ≡ true → Ready devs r piece
           piece-feeds z = piece-feed (live-goes z) z
 
           same_bytes : (v : Bool) → d ≡ cond v d d
@@ -538,11 +539,11 @@ module _ (devs : List ℕ) (f : ℕ → Extent) (n : ℕ) (g : ℕ → Range) (m
             stands : {r' : Runs} {d' : List ℕ} {bare' : Bool} → bare' ≡ (bare || t.bare) → Swept write d₀ (cond t.again x t.upto) t.again r' d' (bare || t.bare) → Stands write d₀ p' r' d' bare'
             stands eb h = record { spotted = ep.spotted; swept = rw (ep.same_byte, ep.same_turn, eb) h }
 
-            pub after-piece : (bare' : Bool) → bare' ≡ (bare || t.bare) → t.live ≡ true → (r' : Runs) → r' ≡ fed devs r piece → (d' : List ℕ) → d' ≡ cond write (wrote devs r d piece) d → length d' ≡ length d → Stands write d₀ p' r' d' bare'
+            pub after-piece : (bare' : Bool) → bare' ≡ (bare || t.bare) → live t ≡ true → (r' : Runs) → r' ≡ fed devs r piece → (d' : List ℕ) → d' ≡ cond write (wrote devs r d piece) d → length d' ≡ length d → Stands write d₀ p' r' d' bare'
             unfolding fed_all wrote_all
             after-piece bare' eb z r' er d' ed el = stands eb (after (live-goes z) r' (rw z er) d' (rw z ed) el)
 
-            pub after_none : (bare' : Bool) → bare' ≡ (bare || t.bare) → t.live ≡ false → Stands write d₀ p' r d bare'
+            pub after_none : (bare' : Bool) → bare' ≡ (bare || t.bare) → live t ≡ false → Stands write d₀ p' r d bare'
             unfolding fed_all wrote_all
             after_none bare' eb z = stands eb (by (going_on n m p) refl)
               where

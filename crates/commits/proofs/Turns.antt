@@ -7,6 +7,7 @@ use mathlib.Core.Bool.{Bool, true, false, cond, ◌||◌}
 use native.Mathlib.Omega.{arith}
 use native.Mathlib.Decide.{dec_lt}
 use lib.ListN.{length}
+use Rattle.std.specs.Prelude.{Some, None}
 use lib.Seq.{sets}
 use Rattle.extents.specs.Extents.{list_from}
 use Rattle.extents.specs.declared.Extent.{Extent}
@@ -17,13 +18,15 @@ use Rattle.committing.specs.Bare.{is_bare}
 use Rattle.committing.specs.Seek.{Spread}
 use Rattle.committing.proofs.Places.{all-at, pair-at}
 use Rattle.committing.proofs.Ranges.{all-passed, ordered-apart}
-use Rattle.joining.specs.Joiner.{bytes_of, Runs, no_runs, fed, wrote, Ready}
+use Rattle.joining.specs.Joiner.{bytes_of, no_runs, fed, wrote, Ready}
+use Rattle.joining.specs.declared.joiner.Runs.{Runs}
 use Rattle.joining.specs.Merge.{row_of, column_list}
 use Rattle.joining.specs.declared.joiner.Piece.{Piece}
 use Rattle.joining.proofs.Loops.{length-wrote}
-use Rattle.commits.specs.Spot.{range_begin, range_end, always, number_in, marks_in, Tops, Spotted, Settled, turn_of, moved_to}
+use Rattle.commits.specs.Spot.{range_begin, range_end, always, number_in, marks_in, Tops, Spotted, Settled, is_part, live, its, turn_of, moved_to}
 use Rattle.commits.specs.Pieces.{Orderly, Asked, piece_of}
 use Rattle.commits.specs.declared.spot.Spot.{Spot}
+use Rattle.commits.specs.declared.spot.Part.{Part}
 use Rattle.commits.specs.declared.spot.Turn.{Turn}
 use Rattle.commits.proofs.Chosen.{sound-at}
 use Rattle.commits.proofs.Pieces.{Fit}
@@ -117,7 +120,7 @@ module _ (s : List ℕ) (m : ℕ) (devs offs lens stos sts : List ℕ) (h : Aske
 
       module _ (t : Turn) (et : t ≡ turn_of (number_in sts) p) where
         abbrev part : Piece
-        part = piece_of t.row (number_in offs t.row) (number_in stos t.row) t.state p.at t.upto
+        part = piece_of (its t).row (number_in offs (its t).row) (number_in stos (its t).row) (its t).state p.at t.upto
 
         later : (p.at < t.upto) × (t.upto < 2 ^ 64)
         later = swept.later devs f n g m (λ i. refl) valid spread whole h.few-rows h.few-ranges top w below t et
@@ -129,42 +132,53 @@ module _ (s : List ℕ) (m : ℕ) (devs offs lens stos sts : List ℕ) (h : Aske
           (tops, (w.spotted, (omega (arith, later.0), swept.range-left devs f n g m (λ i. refl) valid spread whole h.few-rows h.few-ranges top w below t et))),
         )
 
-        begins-there : t.live ≡ true → t.lo ≡ number_in offs t.row
+        begins-there : live t ≡ true → (its t).lo ≡ number_in offs (its t).row
         begins-there = swept.row-begins devs f n g m (λ i. refl) valid spread whole h.few-rows h.few-ranges top w below t et
 
-        part-fits : t.live ≡ true → Fit f n part
+        part-fits : live t ≡ true → Fit f n part
         part-fits = swept.piece-fits devs f n g m (λ i. refl) valid spread whole h.few-rows h.few-ranges top w below t et
 
-        pub piece-asks : t.live ≡ true → ((t.row < length stos) × (t.lo ≤ p.at) × (p.at ≤ t.upto)) × ((t.state ≡ 3 → ⊥) → number_in stos t.row + (p.at - t.lo) < 2 ^ 64)
-        piece-asks z =
+        its-asks : live t ≡ true → (((its t).row < length stos) × ((its t).lo ≤ p.at) × (p.at ≤ t.upto)) × (((its t).state ≡ 3 → ⊥) → number_in stos (its t).row + (p.at - (its t).lo) < 2 ^ 64)
+        its-asks z =
             let u = part-fits z in
             ((omega (arith, u.row-there, h.columns-even.all-storages), omega (arith, u.starts, begins-there z), omega (arith, later.0)), λ o. rw (begins-there z) (by u.starts u.ends u.in-storage o))
           where
-            by : (f t.row).offset ≤ p.at → p.at + (t.upto - p.at) ≤ (f t.row).offset + (f t.row).len → (t.state ≡ 3) ⊎ ((f t.row).storage + (f t.row).len < 2 ^ 64) → (t.state ≡ 3 → ⊥)
-                → (f t.row).storage + (p.at - (f t.row).offset) < 2 ^ 64
+            by : (f (its t).row).offset ≤ p.at → p.at + (t.upto - p.at) ≤ (f (its t).row).offset + (f (its t).row).len → ((its t).state ≡ 3) ⊎ ((f (its t).row).storage + (f (its t).row).len < 2 ^ 64) → ((its t).state ≡ 3 → ⊥)
+                → (f (its t).row).storage + (p.at - (f (its t).row).offset) < 2 ^ 64
             by a b (inl c) o = absurd (o c)
             by a b (inr c) o = omega (arith, later.0)
 
         -- the piece that the code makes of the turn
         abbrev Made : Piece → Type 0
-        Made u = u ≡ piece_of t.row t.lo (number_in stos t.row) t.state p.at t.upto
+        Made u = u ≡ piece_of (its t).row (its t).lo (number_in stos (its t).row) (its t).state p.at t.upto
 
-        made-is : t.live ≡ true → (u : Piece) → Made u → u ≡ part
-        made-is z u eu = eu ∙ ap (λ (l : ℕ). piece_of t.row l (number_in stos t.row) t.state p.at t.upto) (begins-there z)
+        made-is : live t ≡ true → (u : Piece) → Made u → u ≡ part
+        made-is z u eu = eu ∙ ap (λ (l : ℕ). piece_of (its t).row l (number_in stos (its t).row) (its t).state p.at t.upto) (begins-there z)
 
-        pub piece-feeds : t.live ≡ true → (u : Piece) → Made u → Ready devs r u
-        piece-feeds z u eu = rw (made-is z u eu) (swept.piece-feeds devs f n g m (λ i. refl) valid spread whole h.few-rows h.few-ranges top w below t et z)
+        -- a turn with a piece
+        module _ (q : Part) (eq : t.part ≡ Some q) where
+          is-live : live t ≡ true
+          is-live = ap is_part eq
+
+          pub piece-asks : ((q.row < length stos) × (q.lo ≤ p.at) × (p.at ≤ t.upto)) × ((q.state ≡ 3 → ⊥) → number_in stos q.row + (p.at - q.lo) < 2 ^ 64)
+          piece-asks = rw eq at (its-asks is-live)
+
+          module _ (u : Piece) (eu : u ≡ piece_of q.row q.lo (number_in stos q.row) q.state p.at t.upto) where
+            u-is : u ≡ part
+            u-is = made-is is-live u (rw eq eu)
+
+            pub piece-feeds : Ready devs r u
+            piece-feeds = rw u-is (swept.piece-feeds devs f n g m (λ i. refl) valid spread whole h.few-rows h.few-ranges top w below t et is-live)
+
+            pub turns-on : (p' : Spot) → Settled (marks_in offs lens sts s m) (moved_to p t.upto t.again) p' → (r' : Runs) → r' ≡ fed devs r u → (d' : List ℕ) → d' ≡ cond write (wrote devs r d u) d
+                → Turning s m devs offs lens stos sts write d₀ p' r' d' (bare || t.bare)
+            turns-on p' ep r' er d' ed =
+                swept.after-piece devs f n g m (λ i. refl) valid spread whole h.few-rows h.few-ranges top w below t et p' ep (bare || t.bare) refl is-live r' (er ∙ ap (fed devs r) u-is) d' (ed ∙ ap (λ (v : Piece). cond write (wrote devs r d v) d) u-is)
+                (kept-length devs offs lens stos sts n r u d d' write ed)
 
         module _ (p' : Spot) (ep : Settled (marks_in offs lens sts s m) (moved_to p t.upto t.again) p') where
-          pub turns-on : (bare' : Bool) → bare' ≡ (bare || t.bare) → t.live ≡ true → (u : Piece) → Made u → (r' : Runs) → r' ≡ fed devs r u → (d' : List ℕ) → d' ≡ cond write (wrote devs r d u) d
-              → Turning s m devs offs lens stos sts write d₀ p' r' d' bare'
-          turns-on bare' eb z u eu r' er d' ed =
-              let e : u ≡ part = made-is z u eu in
-              swept.after-piece devs f n g m (λ i. refl) valid spread whole h.few-rows h.few-ranges top w below t et p' ep bare' eb z r' (er ∙ ap (fed devs r) e) d' (ed ∙ ap (λ (v : Piece). cond write (wrote devs r d v) d) e)
-              (kept-length devs offs lens stos sts n r u d d' write ed)
-
-          pub turns-over : (bare' : Bool) → bare' ≡ (bare || t.bare) → t.live ≡ false → Turning s m devs offs lens stos sts write d₀ p' r d bare'
-          turns-over = swept.after_none devs f n g m (λ i. refl) valid spread whole h.few-rows h.few-ranges top w below t et p' ep
+          pub turns-over : t.part ≡ None → Turning s m devs offs lens stos sts write d₀ p' r d (bare || t.bare)
+          turns-over z = swept.after_none devs f n g m (λ i. refl) valid spread whole h.few-rows h.few-ranges top w below t et p' ep (bare || t.bare) refl (ap is_part z)
 
           pub turns-fewer : swept.turns_left p' < swept.turns_left p
           turns-fewer = swept.fewer devs f n g m (λ i. refl) valid spread whole h.few-rows h.few-ranges top w below t et p' ep

@@ -3,8 +3,7 @@
 use Rattle.std.specs.Prelude.{ℕ, List, [], ◌∷◌, length, ltb}
 use Rattle.statuses.specs.Rules.{Rule, ◌⇒◌, decided}
 use Rattle.extents.specs.declared.Extent.{Extent}
-use Rattle.extents.specs.declared.Verdict.{Verdict}
-use Rattle.extents.specs.declared.Verdict.TheVariants.{Accepted, Refused}
+use Rattle.extents.specs.Verdict.{Verdict, Accepted, Refused}
 use Rattle.layouts.specs.declared.kinds.Kind.TheVariants.{Scsi}
 use Rattle.layouts.specs.Layout.{body_size}
 use Rattle.layouts.specs.Columns.{check_columns}
@@ -16,6 +15,10 @@ use Rattle.joining.specs.Merge.{columns_of, column_list}
 -- the first that applies, at place 0
 abbrev pub first_refusal : List (Rule ℕ) → Verdict → Verdict
 first_refusal rules other = decided (λ k. Refused k 0) rules other
+
+-- the commit list's own refusals, and then the rest
+abbrev pub own_refusal : List ℕ → ℕ → Verdict → Verdict
+own_refusal s block rest = first_refusal (malformed s ⇒ 10036 ∷ uncommittable block (ranges_of s) ⇒ 22 ∷ []) rest
 
 -- of a list of extents that passes: the commit list's bytes s, the block size, the extents, the room
 abbrev pub commit_list : List ℕ → ℕ → List Extent → ℕ → Verdict

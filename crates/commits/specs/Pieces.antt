@@ -1,9 +1,11 @@
 -- MODEL of the code: the pieces of a sweep. In this order: what a sweep takes; what it finds; a part of a row; the pieces from x up to y, from what lies over x; the three places at x; the pieces over all cuts.
-use Rattle.std.specs.Prelude.{ℕ, ◌+◌, ◌-◌, ◌*◌, ◌^◌, ◌<◌, ◌≤◌, ◌≡◌, List, [], ◌∷◌, ◌++◌, Bool, true, false, cond, ◌&&◌, eqb, length}
+use Rattle.std.specs.Prelude.{ℕ, ◌+◌, ◌-◌, ◌*◌, ◌^◌, ◌<◌, ◌≤◌, ◌≡◌, List, [], ◌∷◌, ◌++◌, Bool, true, false, cond, ◌&&◌, eqb, length, Result, Ok, Err}
 use Rattle.std.proofs.lemmas.List.Edits.{sets}
 use Rattle.extents.specs.Extents.{list_from, verdict}
 use Rattle.extents.specs.declared.Extent.{Extent}
-use Rattle.extents.specs.declared.Verdict.TheVariants.{Accepted}
+use Rattle.extents.specs.declared.Refusal.{Refusal}
+use Rattle.extents.specs.declared.Rule.TheVariants.{ReclaimBad}
+use Rattle.extents.specs.Verdict.{Accepted}
 use Rattle.layouts.specs.declared.kinds.Kind.TheVariants.{Scsi}
 use Rattle.layouts.specs.Columns.{Even}
 use Rattle.merging.specs.Meaning.{All}
@@ -14,7 +16,6 @@ use Rattle.committing.specs.Seek.{seek_at}
 use Rattle.joining.specs.Joiner.{bytes_of}
 use Rattle.joining.specs.Merge.{columns_of, column_list}
 use Rattle.joining.specs.declared.joiner.Piece.{Piece}
-use Rattle.commits.specs.declared.sweep.Found.{Found}
 use Rattle.commits.specs.Spot.{Marks, range_begin, range_end, is_kind, always, over_at}
 
 -- the ranges that a sweep takes: each has bytes and ends in 64 bits, and every pair is in order
@@ -30,6 +31,14 @@ pub record Asked (s : List ℕ) (m : ℕ) (devs offs lens stos sts : List ℕ) :
   pub columns-even : Even Scsi (columns_of devs offs lens stos sts)
   pub list-passes : verdict [] 0 (column_list devs offs lens stos sts) ≡ Accepted (length offs)
   pub ranges-orderly : Orderly (list_from (range_at s) m 0)
+
+-- what a sweep finds: how many extents there are after the commit, and whether a committed byte is under neither invalid nor read-write; and as the code says it
+pub record Found : Type 0 where
+  pub count : ℕ
+  pub bare : Bool
+
+abbrev pub found_said : Found → Result ℕ Refusal
+found_said r = cond r.bare (Err (record { rule = ReclaimBad; place = 0 })) (Ok r.count)
 
 -- what a sweep over ranges and a list finds, and the lent bytes d before it and d' after it: those of the list after the commit, behind the count, if it is asked to write
 pub record Finds (rs : List Range) (es : List Extent) (write : Bool) (d : List ℕ) (r : Found) (d' : List ℕ) : Type 0 where

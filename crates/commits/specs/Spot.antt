@@ -1,10 +1,12 @@
 -- MODEL of the code: where the sweep stands. In this order: what it reads of rows and ranges; an interval with its edges; the three at a byte; what lies over the byte, and
 -- the next cut, by rows and ranges; the same by the three intervals; which piece comes next; the next spot. proofs/Pieces.antt proves that the pieces are those of the definition's sweep.
-use Rattle.std.specs.Prelude.{ℕ, ◌+◌, ◌-◌, ◌^◌, ◌<◌, ◌≤◌, min, ◌≡◌, List, Bool, true, false, cond, not, ◌&&◌, ◌||◌, ltb, leb, eqb, length, get_or}
+use Rattle.std.specs.Prelude.{ℕ, ◌+◌, ◌-◌, ◌^◌, ◌<◌, ◌≤◌, min, ◌≡◌, List, Bool, true, false, cond, not, ◌&&◌, ◌||◌, ltb, leb, eqb, length, get_or, Option, Some, None}
+use Rattle.std.specs.Bool.{then_some}
 use Rattle.committing.specs.Ranges.{Range, range_at}
 use Rattle.committing.specs.Seek.{Seeks, edge_of}
 use Rattle.commits.specs.declared.spot.Spot.{Spot}
 use Rattle.commits.specs.declared.spot.Span.{Span}
+use Rattle.commits.specs.declared.spot.Part.{Part}
 use Rattle.commits.specs.declared.spot.Turn.{Turn}
 
 -- the states, begins and ends of `rows` rows, and the begins and ends of `ranges` ranges
@@ -46,9 +48,12 @@ is_kind states inv a = cond (eqb (states a) 2) inv (not inv)
 abbrev pub always : ℕ → Bool
 always a = true
 
--- the interval at place i of n; past the last, where no byte is
+-- past the last, where no byte is; the interval at place i of n
+abbrev pub no_span : ℕ → Span
+no_span n = record { place = n; lo = 2 ^ 64 - 1; hi = 2 ^ 64 - 1 }
+
 unfoldable pub span_of : (lo hi : ℕ → ℕ) → ℕ → ℕ → Span
-span_of lo hi n i = cond (ltb i n) (record { place = i; lo = lo i; hi = hi i }) (record { place = n; lo = 2 ^ 64 - 1; hi = 2 ^ 64 - 1 })
+span_of lo hi n i = cond (ltb i n) (record { place = i; lo = lo i; hi = hi i }) (no_span n)
 
 -- p is the first that is meant and ends after x
 pub record Sought (is : ℕ → Bool) (lo hi : ℕ → ℕ) (n x : ℕ) (p : Span) : Type 0 where
@@ -111,9 +116,24 @@ bare_by st other invalid range = range && not (invalid || other && eqb st 0)
 -- invalid, with the invalid piece after it, unless that alone is still to come; else the invalid piece
 unfoldable pub turn_by : (i j st a b y : ℕ) (other invalid range again : Bool) → Turn
 turn_by i j st a b y other invalid range again =
-    cond (range && invalid) (record { upto = y; live = true; bare = bare_by st other invalid range; row = j; lo = b; state = 0; again = false })
-    (cond (other && not again) (record { upto = y; live = true; bare = bare_by st other invalid range; row = i; lo = a; state = st; again = invalid })
-    (record { upto = y; live = invalid; bare = bare_by st other invalid range; row = j; lo = b; state = 2; again = false }))
+    cond (range && invalid) (record { upto = y; part = Some (record { row = j; lo = b; state = 0 }); bare = bare_by st other invalid range; again = false })
+    (cond (other && not again) (record { upto = y; part = Some (record { row = i; lo = a; state = st }); bare = bare_by st other invalid range; again = invalid })
+    (record { upto = y; part = then_some invalid (record { row = j; lo = b; state = 2 }); bare = bare_by st other invalid range; again = false }))
+
+-- whether it has a piece, and of what; without one, its numbers are not looked at
+abbrev pub is_part : Option Part → Bool
+is_part None = false
+is_part (Some q) = true
+
+abbrev pub part_in : Option Part → Part
+part_in None = record { row = 0; lo = 0; state = 0 }
+part_in (Some q) = q
+
+abbrev pub live : Turn → Bool
+live t = is_part t.part
+
+abbrev pub its : Turn → Part
+its t = part_in t.part
 
 -- `states` gives the state of each row
 abbrev pub turn_of : (ℕ → ℕ) → Spot → Turn

@@ -9,8 +9,7 @@ use mathlib.Core.List.{List, [], ◌∷◌, ◌++◌}
 use borrow.Author.Tests.{lt-leb, eq-eqb}
 use Rattle.masks.specs.Mask.{has, all, set_of, plus, minus, within}
 use Rattle.epochs.specs.declared.Epochs.{Epochs}
-use Rattle.epochs.specs.declared.MayReclaim.TheVariants.{Yes, No}
-use Rattle.epochs.specs.Epochs.{member, fresh, accepted, refused, judged, join_of, start_of, enforce_of, may_reclaim_of}
+use Rattle.epochs.specs.Epochs.{Yes, No, member, fresh, accepted, refused, judged, join_of, start_of, enforce_of, may_reclaim_of}
 use Rattle.epochs.specs.History.{Call, join, start, enforce, after}
 
 no-epoch-left : (e : Epochs) (node : ℕ) → node < 32 → member e node ≡ true → e.recovery ≡ 0 → e.current ≡ 2 ^ 64 - 1 → start_of e node ≡ refused 28 e

@@ -20,9 +20,7 @@ use Rattle.statuses.proofs.Rules.{Each, NoneApplies, decided-by, any-rule}
 use Rattle.masks.specs.Mask.{has, plus, minus, empty}
 use Rattle.masks.proofs.Laws.{plus-lt, minus-lt, has-zero, has-below, each-empty, plus-node, plus-keeps, plus-came, minus-was, minus-out, minus-keeps, minus-same, some-empty, empty-some, within-each, each_within}
 use Rattle.epochs.specs.declared.Epochs.{Epochs}
-use Rattle.epochs.specs.declared.Answered.{Answered}
-use Rattle.epochs.specs.declared.MayReclaim.TheVariants.{Yes, No, NoSuchNode}
-use Rattle.epochs.specs.Epochs.{member, needs, no_grace, above31, all_enforce, fresh, join_rules, leave_rules, start_rules, enforce_rules, finish_rules, stop_rules, joined, departed, new_epoch, begun, flagged, enforced, finished, stopped, accepted, refused, judged, join_of, leave_of, start_of, enforce_of, finish_of, stop_of, may_reclaim_of, reclaim_number}
+use Rattle.epochs.specs.Epochs.{Answered, Yes, No, NoSuchNode, member, needs, no_grace, above31, all_enforce, fresh, join_rules, leave_rules, start_rules, enforce_rules, finish_rules, stop_rules, joined, departed, new_epoch, begun, flagged, enforced, finished, stopped, accepted, refused, judged, join_of, leave_of, start_of, enforce_of, finish_of, stop_of, may_reclaim_of, reclaim_number}
 use Rattle.epochs.specs.History.{Call, join, leave, start, enforce, finish, stop_enforcing, may_reclaim, called, after, is_start, raises, raised, Sound, AfterAnyCalls, RefusedUnchanged}
 
 -- ---- a call is refused by one of its rules, or none applies

@@ -3,16 +3,17 @@
 --     fresh                    the record that a history begins with
 --     join_rules ..             each call's refusals in order, a condition and its number (`Rule` of the crate statuses)
 --     joined ..                the record that an accepted call leaves
---     judged, join_of ..        each call: its answer and the record afterwards
---     may_reclaim_of, reclaim_number     the call that only asks, and the number of each of its answers
+--     Answered, answered        an answer and the record afterwards, and what the code says of them
+--     judged, join_of ..        each call
+--     MayReclaim, reclaim_answer, may_reclaim_of, reclaim_number     the call that only asks, and the number of each of its answers
 -- A record's three sets of nodes are masks: `has`, `plus`, `minus`, `empty` and `within` of the crate masks say which nodes are in them.
-use Rattle.std.specs.Prelude.{ℕ, ◌+◌, ◌-◌, ◌^◌, Bool, not, cond, ◌&&◌, List, [], ◌∷◌, eqb, leb}
+use Rattle.std.specs.Prelude.{ℕ, ◌+◌, ◌-◌, ◌^◌, Bool, true, false, not, cond, ◌&&◌, List, [], ◌∷◌, eqb, leb, Result, Ok, Err}
+use Rattle.statuses.specs.Numbers.{number}
+use Rattle.statuses.specs.declared.Status.{Status}
+use Rattle.statuses.specs.declared.Status.TheVariants.{Inval}
 use Rattle.statuses.specs.Rules.{Rule, ◌⇒◌, decided}
 use Rattle.masks.specs.Mask.{has, plus, minus, empty, within}
 use Rattle.epochs.specs.declared.Epochs.{Epochs}
-use Rattle.epochs.specs.declared.Answered.{Answered}
-use Rattle.epochs.specs.declared.MayReclaim.{MayReclaim}
-use Rattle.epochs.specs.declared.MayReclaim.TheVariants.{Yes, No, NoSuchNode}
 
 -- ---- what a record says
 -- a number that is no node's
@@ -97,11 +98,21 @@ abbrev pub stopped : Epochs → ℕ → Epochs
 stopped e node = record { current = e.current; recovery = e.recovery; members = e.members; need = e.need; enforcing = minus e.enforcing node }
 
 -- ---- the calls: the first refusal that applies, which changes nothing, or else 0
+-- what a call answers, and the record afterwards
+pub record Answered : Type 0 where
+  pub status : ℕ
+  pub epochs : Epochs
+
 abbrev pub accepted : Epochs → Answered
 accepted next = record { status = 0; epochs = next }
 
 abbrev pub refused : ℕ → Epochs → Answered
 refused s e = record { status = s; epochs = e }
+
+-- what the code answers to a call on e
+abbrev pub answered : Epochs → Result Epochs Status → Answered
+answered e (Ok next) = accepted next
+answered e (Err s) = refused (number s) e
 
 unfoldable pub judged : Epochs → List (Rule ℕ) → Epochs → Answered
 judged e rules next = decided (λ s. refused s e) rules (accepted next)
@@ -123,6 +134,15 @@ finish_of e node = judged e (finish_rules e node) (finished e node)
 
 unfoldable pub stop_of : Epochs → ℕ → Answered
 stop_of e node = judged e (stop_rules e node) (stopped e node)
+
+pub data MayReclaim : Type 0 where
+  Yes No NoSuchNode : MayReclaim
+
+-- as the code answers it
+abbrev pub reclaim_answer : MayReclaim → Result Bool Status
+reclaim_answer Yes = Ok true
+reclaim_answer No = Ok false
+reclaim_answer NoSuchNode = Err Inval
 
 -- yes exactly when R isn't 0, the node, a member, has NEED, and every member enforces
 unfoldable pub may_reclaim_of : Epochs → ℕ → MayReclaim

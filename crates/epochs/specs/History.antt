@@ -8,9 +8,7 @@
 -- proofs/History.antt proves both claims.
 use Rattle.std.specs.Prelude.{ℕ, ◌+◌, ◌-◌, ◌≡◌, ◌⊎◌, ◌↔◌, Bool, true, false, cond, ◌&&◌, List, [], ◌∷◌, eqb}
 use Rattle.epochs.specs.declared.Epochs.{Epochs}
-use Rattle.epochs.specs.declared.Answered.{Answered}
-use Rattle.epochs.specs.declared.MayReclaim.TheVariants.{Yes}
-use Rattle.epochs.specs.Epochs.{member, needs, enforces, no_grace, fresh, join_of, leave_of, start_of, enforce_of, finish_of, stop_of, may_reclaim_of, reclaim_number}
+use Rattle.epochs.specs.Epochs.{Answered, Yes, member, needs, enforces, no_grace, fresh, join_of, leave_of, start_of, enforce_of, finish_of, stop_of, may_reclaim_of, reclaim_number}
 
 pub data Call : Type 0 where
   join leave start enforce finish stop_enforcing may_reclaim : (node : ℕ) → Call

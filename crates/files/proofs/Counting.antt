@@ -3,8 +3,6 @@
 use Rattle.std.proofs.Common.{◌≡◌, ℕ, suc, ◌+◌, ◌^◌, ◌<◌, Bool, true, false, cond, not, eqb, List, [], ◌∷◌, ◌++◌, map, length, get_or, set, sym, refl, ap, ◌∙◌, ap₂, arith}
 use Rattle.places.specs.Lists.{chosen}
 use Rattle.places.specs.Places.{first, bump}
-use Rattle.places.specs.declared.Found.{Found}
-use Rattle.places.specs.declared.Found.TheVariants.{At, Nothing}
 use Rattle.places.proofs.Sets.{true-false}
 use Rattle.mirroring.specs.Mirrors.{blamed_at}
 use Rattle.mirroring.specs.declared.blame.Change.{Change}
@@ -15,6 +13,7 @@ use Rattle.files.specs.Counts.{standing, recounted, with_counts, moved_by}
 use Rattle.files.specs.File.{is_file, with_mark, with_mirrors, with_intents, is_listed, is_ready, standing_of, moved_head, counted_head, tallied, changed_file, raised_file, marks_file, marked_if, head_marked, head_after}
 use Rattle.files.specs.declared.file.File.{File}
 use Rattle.files.specs.declared.head.Head.{Head}
+use Rattle.std.specs.Prelude.{Option, Some, None}
 
 -- ---- a file that stays
 pub stands : (l b : Bool) (h : Head) → moved_by (standing l b) (standing l b) h ≡ h
@@ -26,15 +25,15 @@ pub moved_same : (f : File) (h : Head) → moved_head f f h ≡ h
 moved_same f h = stands (is_listed f) (first_taken f.intents) h
 
 -- ---- a file that gets an intent at the first free place has one
-pub some-taken : (c : ℕ) (xs : List Intent) (i : ℕ) → first is_free xs ≡ At i → first_taken (set xs i (intent_of c)) ≡ true
+pub some-taken : (c : ℕ) (xs : List Intent) (i : ℕ) → first is_free xs ≡ Some i → first_taken (set xs i (intent_of c)) ≡ true
 unfolding first
 some-taken c [] i e = let z : ◌≡◌ {A = ℕ} 0 1 = cc in absurd (omega arith)
 some-taken c (x ∷ xs) i e = by x.taken refl (first is_free xs) e
   where
-    by : (b : Bool) → x.taken ≡ b → (o : Found) → cond (not b) (At 0) (bump o) ≡ At i → (get_or (set (x ∷ xs) i (intent_of c)) 0 no_intent).taken ≡ true
+    by : (b : Bool) → x.taken ≡ b → (o : Option ℕ) → cond (not b) (Some 0) (bump o) ≡ Some i → (get_or (set (x ∷ xs) i (intent_of c)) 0 no_intent).taken ≡ true
     by false t o q = let z : 0 ≡ i = cc in rw (← z)
-    by true t (At j) q = let z : suc j ≡ i = cc in rw (← z) t
-    by true t Nothing q = let z : ◌≡◌ {A = ℕ} 0 1 = cc in absurd (omega arith)
+    by true t (Some j) q = let z : suc j ≡ i = cc in rw (← z) t
+    by true t None q = let z : ◌≡◌ {A = ℕ} 0 1 = cc in absurd (omega arith)
 
 -- one whose intents change, but none that is taken or free, is where it was
 pub same_taken : (g : Intent → Intent) → ((x : Intent) → (g x).taken ≡ x.taken) → (xs : List Intent) → first_taken (map g xs) ≡ first_taken xs

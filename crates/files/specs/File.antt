@@ -1,6 +1,6 @@
 -- MODEL. One file of the record, in this order: a file's fields, each changed by one function; tests; the counts; the calls on one file, with what each
 -- answers and the file afterwards; a report; restart and the end of grace; the lists.
-use Rattle.std.specs.Prelude.{ℕ, Bool, true, false, cond, not, List, [], ◌∷◌, map, length, ◌==◌, slice_index_or, slice_set}
+use Rattle.std.specs.Prelude.{ℕ, Bool, true, false, cond, not, List, [], ◌∷◌, map, length, ◌==◌, slice_index_or, slice_set, Option, Some, None}
 use Rattle.statuses.specs.Names.{Bytes, Status, Client, FileNumber}
 use Rattle.reports.specs.Device.{halves}
 use Rattle.places.specs.Lists.{any, chosen, fill}
@@ -15,13 +15,8 @@ use Rattle.intents.specs.declared.Intent.{Intent}
 use Rattle.mirroring.specs.declared.blame.Change.{Change}
 use Rattle.files.specs.Counts.{standing, moved_by}
 use Rattle.files.specs.declared.counts.Standing.{Standing}
-use Rattle.files.specs.declared.file.Closing.{Closing}
 use Rattle.files.specs.declared.file.File.{File}
-use Rattle.files.specs.declared.file.FileAnswered.{FileAnswered}
-use Rattle.files.specs.declared.file.Opening.{Opening}
 use Rattle.files.specs.declared.head.Head.{Head}
-use Rattle.places.specs.declared.Found.{Found}
-use Rattle.places.specs.declared.Found.TheVariants.{At, Nothing}
 
 -- ---- fields
 -- what a list has past its end
@@ -76,6 +71,12 @@ tallied h [] = h
 tallied h (f ∷ fs) = tallied (counted_head h f) fs
 
 -- ---- the calls on one file, of the number n; h stands beside the files
+-- what a call answers: its status, and what stands beside the files and the file afterwards
+pub record FileAnswered : Type 0 where
+  pub status : Status
+  pub head : Head
+  pub file : File
+
 abbrev pub file_answered : Status → Head → File → FileAnswered
 file_answered s h f = record { status = s; head = h; file = f }
 
@@ -88,39 +89,41 @@ abbrev pub of_file : FileNumber → Head → File → FileAnswered → FileAnswe
 of_file n h f a = cond (is_file n f) a (file_answered 70 h f)
 
 -- a new intent goes to the first free place
-abbrev pub takes : Client → Head → File → Found → FileAnswered
-takes c h f Nothing = file_answered 28 h f
-takes c h f (At i) = becomes h f (with_intents (slice_set f.intents i (intent_of c)) f)
+abbrev pub takes : Client → Head → File → Option ℕ → FileAnswered
+takes c h f None = file_answered 28 h f
+takes c h f (Some i) = becomes h f (with_intents (slice_set f.intents i (intent_of c)) f)
 
-abbrev pub opens : Client → Head → File → Found → FileAnswered
-opens c h f (At i) = file_answered 0 h f
-opens c h f Nothing = takes c h f (first is_free f.intents)
+abbrev pub opens : Client → Head → File → Option ℕ → FileAnswered
+opens c h f (Some i) = file_answered 0 h f
+opens c h f None = takes c h f (first is_free f.intents)
 
 unfoldable pub opened_file : FileNumber → Head → Client → File → FileAnswered
 opened_file n h c f = cond h.grace (file_answered 10013 h f) (of_file n h f (opens c h f (first (is_intent c) f.intents)))
 
--- the same in two steps, for code that changes the intents where they lie: s, which is decided first, and then the file with the new intent at a place. An open that
--- finds its intent held puts it at the place 8, which there is not
+-- the same in two steps, for code that changes the intents where they lie: s, which is decided first, and then the file with the new intent at a place
+pub record Opening : Type 0 where
+  pub status : Status
+  pub head : Head
+  pub at : ℕ
+  pub client : Client
+
 abbrev pub with_begun : ℕ → Opening → File → File
 with_begun at s f = with_intents (slice_set f.intents at (intent_of s.client)) f
-
-abbrev pub unplaced : Status → Head → Client → Opening
-unplaced k h c = record { status = k; head = h; at = 8; client = c }
 
 abbrev pub opened_by : Opening → File → FileAnswered
 opened_by s f = file_answered s.status s.head (cond (s.status == 0) (with_begun s.at s f) f)
 
-abbrev pub reclaims : Client → Head → File → Found → FileAnswered
-reclaims c h f Nothing = file_answered 10034 h f
-reclaims c h f (At i) = file_answered 0 h (with_intents (map (reclaimed_if c) f.intents) f)
+abbrev pub reclaims : Client → Head → File → Option ℕ → FileAnswered
+reclaims c h f None = file_answered 10034 h f
+reclaims c h f (Some i) = file_answered 0 h (with_intents (map (reclaimed_if c) f.intents) f)
 
 unfoldable pub reclaimed_file : FileNumber → Head → Client → File → FileAnswered
 reclaimed_file n h c f = cond h.grace (of_file n h f (reclaims c h f (first (is_intent c) f.intents))) (file_answered 10033 h f)
 
 -- the intents after the one that goes are pulled down over it
-abbrev pub leaves : Head → File → Found → FileAnswered
-leaves h f Nothing = file_answered 10025 h f
-leaves h f (At i) =
+abbrev pub leaves : Head → File → Option ℕ → FileAnswered
+leaves h f None = file_answered 10025 h f
+leaves h f (Some i) =
     cond (unreclaimed_bar h.grace (slice_index_or f.intents i no_intent).reclaimed) (file_answered 10025 h f)
     (becomes h f (with_intents (left_out no_intent i f.intents) f))
 
@@ -128,6 +131,11 @@ unfoldable pub closed_file : FileNumber → Head → Client → File → FileAns
 closed_file n h c f = of_file n h f (leaves h f (first (is_intent c) f.intents))
 
 -- the same in two steps, as open: s, and then the file without the intent at a place
+pub record Closing : Type 0 where
+  pub status : Status
+  pub head : Head
+  pub at : ℕ
+
 abbrev pub with_ended : ℕ → Closing → File → File
 with_ended at s f = with_intents (left_out no_intent at f.intents) f
 
@@ -164,10 +172,10 @@ proxy_removed_file n h f =
     (file_answered 0 h (with_mirrors (without_proxy f.mirrors) f))))
 
 -- a client's stateid is set up (Rules 4.12) as t; `barred` where its `other` may not be a new one's
-abbrev pub states : Client → Stateid → Bool → Head → File → Found → FileAnswered
-states c t barred h f Nothing = file_answered 10025 h f
-states c t barred h f (At i) =
-    cond (is_stated (stateid_at f.intents (At i))) (file_answered 17 h f)
+abbrev pub states : Client → Stateid → Bool → Head → File → Option ℕ → FileAnswered
+states c t barred h f None = file_answered 10025 h f
+states c t barred h f (Some i) =
+    cond (is_stated (stateid_at f.intents (Some i))) (file_answered 17 h f)
     (cond barred (file_answered 22 h f)
     (file_answered 0 h (with_intents (map (stated_if c t) f.intents) f)))
 

@@ -1,3 +1,4 @@
 pub mod Counts
 pub mod File
 pub mod Head
+pub mod Answers

@@ -29,16 +29,11 @@ impl Standing {
 fn recount(was: bool, is: bool, n: u8) -> u8
     ensures { result ≡ recounted was is n }
 {
-    if was {
-        if is {
-            return n;
-        }
-        return std::num::wrapping_add_u8(n, u8::MAX);
+    match (was, is) {
+        (true, false) => n.wrapping_sub(1),
+        (false, true) => n.wrapping_add(1),
+        _ => n,
     }
-    if is {
-        return std::num::wrapping_add_u8(n, 1);
-    }
-    n
 }
 
 impl Head {
@@ -46,13 +41,10 @@ impl Head {
     pub(crate) fn moved(self, was: Standing, is: Standing) -> Head
         ensures { result ≡ moved_by was is self }
     {
-        let waiting = recount(was.listed, is.listed, self.waiting);
-        let offered = recount(was.offered, is.offered, self.offered);
         Head {
-            waiting,
-            offered,
-            grace: self.grace,
-            old: self.old,
+            waiting: recount(was.listed, is.listed, self.waiting),
+            offered: recount(was.offered, is.offered, self.offered),
+            ..self
         }
     }
 }

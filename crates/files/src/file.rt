@@ -1,9 +1,12 @@
 // One file of the record (paper 01, "The recovery record"; 02, Tickets 7 and 13): what it holds, and the calls on one file. A call tests for itself whether this is
 // the file of the number that it is given, gets what stands beside the files, and answers the status and both afterwards. Then what a report, a
 // restart and the end of grace do to a file, and what the lists ask of one.
-ghost use Rattle.std.specs.Prelude.{◌≡◌, true, if◌then◌else◌};
+ghost use Rattle.std.specs.Prelude.{◌≡◌, true, false, MatchResult};
+ghost use Rattle.statuses.specs.Numbers.{code};
+ghost use Rattle.statuses.specs.declared.Status.TheVariants.{Stale};
 ghost use Rattle.intents.specs.Intents.{intent_of};
-ghost use Rattle.files.specs.File.{no_file, blank_file, file_of, is_file, is_vacant, file_answered, unplaced, opened_by, opened_file, reclaimed_file, closed_by, closed_file, repaired_file, forgettable, proxy_added_file, proxy_removed_file, stated_file, uses_stateid, raised_file, restarted_file, ended_file, is_listed, is_ready, source_of, blamed_file, changed_file, standing_of, counted_head, head_marked, head_after, marks_file, blames_places};
+ghost use Rattle.files.specs.File.{no_file, blank_file, file_of, is_file, is_vacant, opened_file, reclaimed_file, closed_file, repaired_file, forgettable, proxy_added_file, proxy_removed_file, stated_file, uses_stateid, raised_file, restarted_file, ended_file, is_listed, is_ready, source_of, blamed_file, changed_file, standing_of, counted_head, head_marked, head_after, marks_file, blames_places};
+ghost use Rattle.files.specs.Answers.{answered_as, opening_as, closing_as};
 
 use crate::counts::Standing;
 use crate::head::Head;
@@ -11,7 +14,7 @@ use intents::Intent;
 use mirroring::blame::Change;
 use mirroring::mirrors::{Mirror, PLACES};
 use mirroring::source::Direction;
-use places::Found;
+use statuses::Status;
 use wire::stateid::Stateid;
 
 // The wide fields stand first. A place of the record is a file's if `used`.
@@ -25,38 +28,22 @@ pub struct File {
     pub marked: bool,
 }
 
-// What a call answers, and what stands beside the files and the file afterwards.
-#[repr(C)]
+// What a call that is accepted leaves: what stands beside the files, and the file.
 #[derive(Clone, Copy)]
-pub struct FileAnswered {
-    pub status: u32,
+pub struct FileAfter {
     pub head: Head,
     pub file: File,
 }
 
-// What open decides: the status, what stands beside the files afterwards, the place of a new intent, which is 8 for none, and its client.
-#[repr(C)]
+// An intent that begins: what stands beside the files then, its place and its client.
 #[derive(Clone, Copy)]
-pub struct Opening {
-    pub status: u32,
+pub struct Opened {
     pub head: Head,
     pub at: usize,
     pub client: u64,
 }
 
-impl Opening {
-    // What is decided where no intent begins.
-    fn unplaced(status: u32, head: Head, client: u64) -> Opening
-        ensures { result ≡ unplaced status head client }
-    {
-        Opening {
-            status,
-            head,
-            at: 8,
-            client,
-        }
-    }
-
+impl Opened {
     // The new intent.
     pub fn intent(self) -> Intent
         ensures { result ≡ intent_of self.client }
@@ -65,11 +52,9 @@ impl Opening {
     }
 }
 
-// What close decides: the status, what stands beside the files afterwards, and the place of the intent that goes.
-#[repr(C)]
+// An intent that ends: what stands beside the files then, and its place.
 #[derive(Clone, Copy)]
-pub struct Closing {
-    pub status: u32,
+pub struct Closed {
     pub head: Head,
     pub at: usize,
 }
@@ -121,155 +106,121 @@ impl File {
         !self.used
     }
 
-    // What a call answers, with the file and what stands beside the files as they are.
-    fn answered(self, status: u32, head: Head) -> FileAnswered
-        ensures { result ≡ file_answered status head self }
+    // The file of the number, or 70.
+    pub fn named(self, number: u64) -> Result<(), Status>
+        ensures { MatchResult result (λ _. is_file number self ≡ true) (λ e. (is_file number self ≡ false) × (e ≡ Stale)) }
     {
-        FileAnswered {
-            status,
-            head,
-            file: self,
+        if !self.is(number) {
+            return Err(Status::Stale);
         }
+        Ok(())
     }
 
-    // Open for writing, decided: 10013 in grace; 70; held already: 0, no change; 28 if 8 are held.
-    pub fn opening(self, number: u64, head: Head, client: u64) -> Opening
-        ensures { opened_by result self ≡ opened_file number head client self }
+    // Open for writing, decided: 10013 in grace; 70; held already: none begins; 28 if 8 are held.
+    #[tactic(auto, unfolding(crate::specs::File::opened_file))]
+    pub fn opening(self, number: u64, head: Head, client: u64) -> Result<Option<Opened>, Status>
+        ensures { opening_as head self result ≡ opened_file number head client self }
     {
-        if head.grace {
-            return Opening::unplaced(statuses::GRACE, head, client);
-        }
-        if !self.is(number) {
-            return Opening::unplaced(statuses::STALE, head, client);
-        }
+        head.out_of_grace()?;
+        self.named(number)?;
         let old = self.intents;
-        if let Found::At(_) = intents::holding(old, client) {
-            return Opening::unplaced(0, head, client);
+        if intents::holding(old, client).is_some() {
+            return Ok(None);
         }
-        let Found::At(at) = intents::room(old) else {
-            return Opening::unplaced(statuses::NOSPC, head, client);
+        let Some(at) = intents::room(old) else {
+            return Err(Status::NoSpc);
         };
         let was = self.standing();
         let is = Standing::of(was.listed, true);
-        let next = head.moved(was, is);
-        Opening {
-            status: 0,
-            head: next,
+        Ok(Some(Opened {
+            head: head.moved(was, is),
             at,
             client,
-        }
+        }))
     }
 
     // Open for writing, with the file afterwards.
-    pub fn open(mut self, number: u64, head: Head, client: u64) -> FileAnswered
-        ensures { result ≡ opened_file number head client self }
+    #[tactic(auto, unfolding(crate::specs::File::opened_file))]
+    pub fn open(mut self, number: u64, head: Head, client: u64) -> Result<FileAfter, Status>
+        ensures { answered_as head self result ≡ opened_file number head client self }
     {
-        let s = self.opening(number, head, client);
-        if s.status != 0 {
-            return self.answered(s.status, s.head);
-        }
+        let Some(s) = self.opening(number, head, client)? else {
+            return Ok(FileAfter { head, file: self });
+        };
         let old = self.intents;
         let x = s.intent();
         let xs = intents::placed(old, s.at, x);
         self.intents = xs;
-        self.answered(0, s.head)
+        Ok(FileAfter {
+            head: s.head,
+            file: self,
+        })
     }
 
     // Reclaim: 10033 not in grace; 70; 10034 no intent; again: 0, no change.
-    pub fn reclaim(mut self, number: u64, head: Head, client: u64) -> FileAnswered
-        ensures { result ≡ reclaimed_file number head client self }
+    #[tactic(auto, unfolding(crate::specs::File::reclaimed_file))]
+    pub fn reclaim(mut self, number: u64, head: Head, client: u64) -> Result<FileAfter, Status>
+        ensures { answered_as head self result ≡ reclaimed_file number head client self }
     {
         if !head.grace {
-            return self.answered(statuses::NO_GRACE, head);
+            return Err(Status::NoGrace);
         }
-        if !self.is(number) {
-            return self.answered(statuses::STALE, head);
-        }
+        self.named(number)?;
         let old = self.intents;
-        let Found::At(_) = intents::holding(old, client) else {
-            return self.answered(statuses::RECLAIM_BAD, head);
-        };
+        if intents::holding(old, client).is_none() {
+            return Err(Status::ReclaimBad);
+        }
         let xs = intents::reclaimed(old, client);
         self.intents = xs;
-        self.answered(0, head)
+        Ok(FileAfter { head, file: self })
     }
 
     // Close, decided: 70; 10025 no intent, or in grace and not reclaimed.
-    pub fn closing(self, number: u64, head: Head, client: u64) -> Closing
-        ensures { closed_by result self ≡ closed_file number head client self }
+    #[tactic(auto, unfolding(crate::specs::File::closed_file))]
+    pub fn closing(self, number: u64, head: Head, client: u64) -> Result<Closed, Status>
+        ensures { closing_as head self result ≡ closed_file number head client self }
     {
-        if !self.is(number) {
-            return Closing {
-                status: statuses::STALE,
-                head,
-                at: 8,
-            };
-        }
+        self.named(number)?;
         let old = self.intents;
-        let Found::At(at) = intents::holding(old, client) else {
-            return Closing {
-                status: statuses::BAD_STATEID,
-                head,
-                at: 8,
-            };
-        };
-        let reclaimed = intents::is_reclaimed(old, at);
-        if head.grace && !reclaimed {
-            return Closing {
-                status: statuses::BAD_STATEID,
-                head,
-                at: 8,
-            };
+        let at = intents::holding(old, client).ok_or(Status::BadStateid)?;
+        if head.grace && !intents::is_reclaimed(old, at) {
+            return Err(Status::BadStateid);
         }
         let was = self.standing();
         let is = Standing::of(was.listed, intents::busy_without(old, at));
-        let next = head.moved(was, is);
-        Closing {
-            status: 0,
-            head: next,
+        Ok(Closed {
+            head: head.moved(was, is),
             at,
-        }
+        })
     }
 
     // Close, with the file afterwards.
-    pub fn close(mut self, number: u64, head: Head, client: u64) -> FileAnswered
-        ensures { result ≡ closed_file number head client self }
+    #[tactic(auto, unfolding(crate::specs::File::closed_file))]
+    pub fn close(mut self, number: u64, head: Head, client: u64) -> Result<FileAfter, Status>
+        ensures { answered_as head self result ≡ closed_file number head client self }
     {
-        let s = self.closing(number, head, client);
-        if s.status != 0 {
-            return self.answered(s.status, s.head);
-        }
+        let s = self.closing(number, head, client)?;
         let old = self.intents;
         let xs = intents::without(old, s.at);
         self.intents = xs;
-        self.answered(0, s.head)
+        Ok(FileAfter {
+            head: s.head,
+            file: self,
+        })
     }
 
-    // Repaired: 70; 22 not marked; 10008 an intent is open. Its answers are written out: through the helper the compiler copies a file that stays.
-    pub fn repaired(mut self, number: u64, head: Head) -> FileAnswered
-        ensures { result ≡ repaired_file number head self }
+    // Repaired: 70; 22 not marked; 10008 an intent is open.
+    #[tactic(auto, unfolding(crate::specs::File::repaired_file))]
+    pub fn repaired(mut self, number: u64, head: Head) -> Result<FileAfter, Status>
+        ensures { answered_as head self result ≡ repaired_file number head self }
     {
-        if !self.is(number) {
-            return FileAnswered {
-                status: statuses::STALE,
-                head,
-                file: self,
-            };
-        }
+        self.named(number)?;
         if !self.marked {
-            return FileAnswered {
-                status: statuses::INVAL,
-                head,
-                file: self,
-            };
+            return Err(Status::Inval);
         }
         let xs = self.intents;
         if intents::busy(xs) {
-            return FileAnswered {
-                status: statuses::DELAY,
-                head,
-                file: self,
-            };
+            return Err(Status::Delay);
         }
         let old = self.mirrors;
         let ms = mirroring::mirrors::cleared(old);
@@ -277,81 +228,68 @@ impl File {
         self.marked = false;
         let was = Standing::of(true, false);
         let is = Standing::of(false, false);
-        let next = head.moved(was, is);
-        FileAnswered {
-            status: 0,
-            head: next,
+        Ok(FileAfter {
+            head: head.moved(was, is),
             file: self,
-        }
+        })
     }
 
-    // Whether the file may be forgotten: 10013 in grace; 70; 10008 marked or an intent is open; or 0.
-    pub fn forget(self, number: u64, head: Head) -> u32
-        ensures { result ≡ forgettable number head self }
+    // Whether the file may be forgotten: 10013 in grace; 70; 10008 marked or an intent is open.
+    #[tactic(auto, unfolding(crate::specs::File::forgettable))]
+    pub fn forget(self, number: u64, head: Head) -> Result<(), Status>
+        ensures { code result ≡ forgettable number head self }
     {
-        if head.grace {
-            return statuses::GRACE;
-        }
-        if !self.is(number) {
-            return statuses::STALE;
-        }
-        if self.marked {
-            return statuses::DELAY;
-        }
+        head.out_of_grace()?;
+        self.named(number)?;
         let xs = self.intents;
-        if intents::busy(xs) {
-            return statuses::DELAY;
+        if self.marked || intents::busy(xs) {
+            return Err(Status::Delay);
         }
-        0
+        Ok(())
     }
 
     // Add a proxy: 10013 in grace; 70; 22 the device isn't 16 bytes, or is there already; 17 a proxy is there.
-    pub fn add_proxy(mut self, number: u64, head: Head, device: &[u8]) -> FileAnswered
-        ensures { result ≡ proxy_added_file number head device.now self }
+    #[tactic(auto, unfolding(crate::specs::File::proxy_added_file))]
+    pub fn add_proxy(mut self, number: u64, head: Head, device: &[u8]) -> Result<FileAfter, Status>
+        ensures { answered_as head self result ≡ proxy_added_file number head device.now self }
     {
-        if head.grace {
-            return self.answered(statuses::GRACE, head);
-        }
-        if !self.is(number) {
-            return self.answered(statuses::STALE, head);
-        }
+        head.out_of_grace()?;
+        self.named(number)?;
         if device.len() != 16 {
-            return self.answered(statuses::INVAL, head);
+            return Err(Status::Inval);
         }
         let high = xdr::be64(device, 0);
         let low = xdr::be64(device, 8);
         let old = self.mirrors;
         if mirroring::mirrors::stands(old, high, low) {
-            return self.answered(statuses::INVAL, head);
+            return Err(Status::Inval);
         }
         if mirroring::mirrors::has_proxy(old) {
-            return self.answered(statuses::EXIST, head);
+            return Err(Status::Exist);
         }
         let ms = mirroring::mirrors::with_proxy(old, high, low);
         self.mirrors = ms;
-        self.answered(0, head)
+        Ok(FileAfter { head, file: self })
     }
 
     // Remove the proxy: 10013 in grace; 70; 2 none. Its blame goes with it, and the file's mark stays.
-    pub fn remove_proxy(mut self, number: u64, head: Head) -> FileAnswered
-        ensures { result ≡ proxy_removed_file number head self }
+    #[tactic(auto, unfolding(crate::specs::File::proxy_removed_file))]
+    pub fn remove_proxy(mut self, number: u64, head: Head) -> Result<FileAfter, Status>
+        ensures { answered_as head self result ≡ proxy_removed_file number head self }
     {
-        if head.grace {
-            return self.answered(statuses::GRACE, head);
-        }
-        if !self.is(number) {
-            return self.answered(statuses::STALE, head);
-        }
+        head.out_of_grace()?;
+        self.named(number)?;
         let old = self.mirrors;
         if !mirroring::mirrors::has_proxy(old) {
-            return self.answered(statuses::NOENT, head);
+            return Err(Status::NoEnt);
         }
         let ms = mirroring::mirrors::without_proxy(old);
         self.mirrors = ms;
-        self.answered(0, head)
+        Ok(FileAfter { head, file: self })
     }
 
     // Set up a client's stateid: 10013 in grace; 70; 10025 no intent; 17 it has one; 22 its `other` may not be a new one's.
+    #[tactic(auto, unfolding(crate::specs::File::stated_file))]
     pub fn set_up_stateid(
         mut self,
         number: u64,
@@ -359,31 +297,28 @@ impl File {
         client: u64,
         t: Stateid,
         barred: bool,
-    ) -> FileAnswered
-        ensures { result ≡ stated_file number head client t barred self }
+    ) -> Result<FileAfter, Status>
+        ensures { answered_as head self result ≡ stated_file number head client t barred self }
     {
-        if head.grace {
-            return self.answered(statuses::GRACE, head);
-        }
-        if !self.is(number) {
-            return self.answered(statuses::STALE, head);
-        }
+        head.out_of_grace()?;
+        self.named(number)?;
         let old = self.intents;
-        let Found::At(_) = intents::holding(old, client) else {
-            return self.answered(statuses::BAD_STATEID, head);
-        };
+        if intents::holding(old, client).is_none() {
+            return Err(Status::BadStateid);
+        }
         if intents::stated(intents::stateid_of(old, client)) {
-            return self.answered(statuses::EXIST, head);
+            return Err(Status::Exist);
         }
         if barred {
-            return self.answered(statuses::INVAL, head);
+            return Err(Status::Inval);
         }
         let xs = intents::with_stateid(old, client, t);
         self.intents = xs;
-        self.answered(0, head)
+        Ok(FileAfter { head, file: self })
     }
 
     // Whether one of the file's clients has the `other` of `t`.
+    #[tactic(auto, unfolding(crate::specs::File::uses_stateid))]
     pub fn uses(self, t: Stateid) -> bool
         ensures { result ≡ uses_stateid t self }
     {
@@ -392,6 +327,7 @@ impl File {
     }
 
     // The file once a return has raised the client's stateid to `t`; none is raised where it is none.
+    #[tactic(auto, unfolding(crate::specs::File::raised_file))]
     pub fn raised(mut self, client: u64, t: Stateid) -> File
         ensures { result ≡ raised_file client t self }
     {
@@ -399,25 +335,20 @@ impl File {
             let old = self.intents;
             let xs = intents::with_stateid(old, client, t);
             self.intents = xs;
-            return self;
         }
         self
     }
 
-    // The file once it is marked, if it is, and the mirrors of a set of places are blamed. By its fields, as after a restart.
+    // The file once it is marked, if it is, and the mirrors of a set of places are blamed.
     pub fn blame(self, marks: bool, places: u32) -> File
         ensures { result ≡ blamed_file marks places self }
     {
         let old = self.mirrors;
-        let ms = mirroring::mirrors::with_blame(old, places);
-        let xs = self.intents;
-        let marked = marked_if(marks, self.marked);
+        let mirrors = mirroring::mirrors::with_blame(old, places);
         File {
-            number: self.number,
-            mirrors: ms,
-            intents: xs,
-            used: self.used,
-            marked,
+            mirrors,
+            marked: marks || self.marked,
+            ..self
         }
     }
 
@@ -432,16 +363,13 @@ impl File {
     pub fn head_marked(self, head: Head, marks: bool) -> Head
         ensures { result ≡ head_marked marks head self }
     {
-        if marks {
-            if self.listed() {
-                return head;
-            }
-            let was = self.standing();
-            let xs = self.intents;
-            let is = Standing::of(self.used, intents::busy(xs));
-            return head.moved(was, is);
+        if !marks || self.listed() {
+            return head;
         }
-        head
+        let was = self.standing();
+        let xs = self.intents;
+        let is = Standing::of(self.used, intents::busy(xs));
+        head.moved(was, is)
     }
 
     // What stands beside the files once a report has changed the file.
@@ -451,37 +379,27 @@ impl File {
         self.head_marked(head, marks(change))
     }
 
-    // The file after a restart: nobody has reclaimed. By its fields, so that the compiler copies nothing that stays.
+    // The file after a restart: nobody has reclaimed.
+    #[tactic(auto, unfolding(crate::specs::File::restarted_file))]
     pub fn restarted(self) -> File
         ensures { result ≡ restarted_file self }
     {
         let old = self.intents;
-        let xs = intents::unreclaimed(old);
-        let ms = self.mirrors;
-        File {
-            number: self.number,
-            mirrors: ms,
-            intents: xs,
-            used: self.used,
-            marked: self.marked,
-        }
+        let intents = intents::unreclaimed(old);
+        File { intents, ..self }
     }
 
-    // The file after the end of grace: marked if it has an intent that was not reclaimed; such intents are dropped. By its fields, as after a restart.
+    // The file after the end of grace: marked if it has an intent that was not reclaimed; such intents are dropped.
+    #[tactic(auto, unfolding(crate::specs::File::ended_file))]
     pub fn ended(self) -> File
         ensures { result ≡ ended_file self }
     {
         let old = self.intents;
-        let lost = intents::lost(old);
-        let xs = intents::staying(old);
-        let ms = self.mirrors;
-        let marked = marked_if(lost, self.marked);
+        let intents = intents::staying(old);
         File {
-            number: self.number,
-            mirrors: ms,
-            intents: xs,
-            used: self.used,
-            marked,
+            intents,
+            marked: intents::lost(old) || self.marked,
+            ..self
         }
     }
 
@@ -515,23 +433,19 @@ impl File {
         head.moved(Standing::of(false, false), self.standing())
     }
 
-    // The place to copy from, by the direction.
+    // The place to copy from, by the direction, or 255.
+    #[tactic(auto, unfolding(crate::specs::File::source_of))]
     pub fn source(self, direction: Direction) -> u8
         ensures { result ≡ source_of direction self }
     {
-        let ms = self.mirrors;
-        mirroring::source::source(ms, direction)
+        match mirroring::source::source(self.mirrors, direction) {
+            Some(i) => i as u8,
+            None => 255,
+        }
     }
 }
 
-// The mark of a file that is marked now, as one that has lost an intent is, or the mark that it had.
-fn marked_if(anew: bool, marked: bool) -> bool
-    ensures { result ≡ (if anew then true else marked) }
-{
-    anew || marked
-}
-
-// Whether a report marks a file.
+// Whether a report marks a file: what a file makes of a change, which is another crate's type, so no method of it.
 fn marks(change: Change) -> bool
     ensures { result ≡ marks_file change }
 {
@@ -542,11 +456,9 @@ fn marks(change: Change) -> bool
 fn blamed_by(change: Change) -> u32
     ensures { result ≡ blames_places change }
 {
-    if change.unknown {
-        return 0;
+    if change.failed && !change.unknown {
+        change.blamed
+    } else {
+        0
     }
-    if change.failed {
-        return change.blamed;
-    }
-    0
 }

@@ -1,24 +1,16 @@
 // What stands beside a record's files: how many of them are on either list (02, Ticket 8), whether it is in grace, and its edition (02, Ticket 1). A call on one
 // file is told of it. A head has no padding, which the compiler would copy with it.
-ghost use Rattle.std.specs.Prelude.{◌≡◌};
-ghost use Rattle.files.specs.Head.{is_old, fresh_head, edition_of};
+ghost use Rattle.std.specs.Prelude.{◌≡◌, true, false, MatchResult};
+ghost use Rattle.statuses.specs.declared.Status.TheVariants.{Grace};
+ghost use Rattle.files.specs.Head.{fresh_head, edition_of};
+
+use statuses::Status;
 
 // Whether a site's clients know RFC 9737. A record keeps the edition that it is set up with.
-#[derive(Clone, Copy)]
+#[derive(Clone, Copy, PartialEq, Eq)]
 pub enum Edition {
     Current,
     Old,
-}
-
-impl Edition {
-    pub(crate) fn is_old(self) -> bool
-        ensures { result ≡ is_old self }
-    {
-        match self {
-            Edition::Current => false,
-            Edition::Old => true,
-        }
-    }
 }
 
 #[repr(C)]
@@ -35,13 +27,22 @@ impl Head {
     pub fn fresh(edition: Edition) -> Head
         ensures { result ≡ fresh_head edition }
     {
-        let old = edition.is_old();
         Head {
             waiting: 0,
             offered: 0,
             grace: false,
-            old,
+            old: edition == Edition::Old,
         }
+    }
+
+    // Out of grace, or 10013.
+    pub fn out_of_grace(self) -> Result<(), Status>
+        ensures { MatchResult result (λ _. self.grace ≡ false) (λ e. (self.grace ≡ true) × (e ≡ Grace)) }
+    {
+        if self.grace {
+            return Err(Status::Grace);
+        }
+        Ok(())
     }
 
     pub fn edition(self) -> Edition

@@ -14,16 +14,13 @@ use Rattle.reports.specs.Report.{Report, Malformed, Whole, ioerr, status_of, wit
 use Rattle.reports.specs.ReportSteps.{naming, error_in, errors_in, next_at, device_at, records_then, report_from, errors_from, end_of}
 use Rattle.reports.specs.StatisticsSteps.{statistics_from}
 use Rattle.reports.specs.declared.cursor.Cursor.{Cursor}
-use Rattle.reports.specs.declared.report.Entry.{Entry}
-use Rattle.reports.specs.declared.report.Entry.TheVariants as entry
-use Rattle.reports.specs.declared.report.Reading.{Reading}
-use Rattle.reports.specs.declared.report.Reading.TheVariants as reading
+use Rattle.reports.specs.ReportSteps.{Entry, Reading}
+use Rattle.reports.specs.ReportSteps as steps
 use Rattle.reports.proofs.ReportModel.{none_named, named-twice}
 use Rattle.reports.proofs.Reports.{goes_on, device-read-as, device-missing, errors-named, record-turn, last_turn, bad-turn}
 use Rattle.flexfiles.specs.Handed.{error_given, first_by, records_at, first_step, first_past, first_at}
 use Rattle.flexfiles.specs.declared.ErrorCursor.{ErrorCursor}
-use Rattle.flexfiles.specs.declared.Answer.{Answer}
-use Rattle.flexfiles.specs.declared.Answer.TheVariants.{Error, Done}
+use Rattle.flexfiles.specs.Handed.{Answer, Error, Done}
 
 -- ---- what the code's tests say
 module _ (s : List ℕ) (c : ErrorCursor) where
@@ -46,13 +43,13 @@ module _ (s : List ℕ) (c : ErrorCursor) where
         by zero = rw (eq-eqb c.devices 0 z, h) (g (λ _. Done 10036))
         by (suc n) = rw (eq-eqb c.devices 0 z, h) (g (first_past n s))
 
-    pub first-last : {t : Cursor} → next_at s (records_at c) ≡ entry.Statistics t → {k : ℕ} → k ≡ status_of (statistics_from s t) → Done k ≡ first_at s c
-    first-last {t} e h = ap Done h ∙ sym (ended (entry.Statistics t) (Done (status_of (statistics_from s t))) e (λ k. refl))
+    pub first-last : {t : Cursor} → next_at s (records_at c) ≡ steps.Statistics t → {k : ℕ} → k ≡ status_of (statistics_from s t) → Done k ≡ first_at s c
+    first-last {t} e h = ap Done h ∙ sym (ended (steps.Statistics t) (Done (status_of (statistics_from s t))) e (λ k. refl))
 
-    pub first-malformed : next_at s (records_at c) ≡ entry.Malformed → Done 10036 ≡ first_at s c
-    first-malformed e = sym (ended entry.Malformed (Done 10036) e (λ k. refl))
+    pub first-malformed : next_at s (records_at c) ≡ steps.Malformed → Done 10036 ≡ first_at s c
+    first-malformed e = sym (ended steps.Malformed (Done 10036) e (λ k. refl))
 
-    pub first-record : {at n : ℕ} {next : Cursor} → next_at s (records_at c) ≡ entry.Record at n next → first_at s c ≡ first_at s (record { at = at; records = next.left; devices = n })
+    pub first-record : {at n : ℕ} {next : Cursor} → next_at s (records_at c) ≡ steps.Record at n next → first_at s c ≡ first_at s (record { at = at; records = next.left; devices = n })
     unfolding first_at first_past
     first-record {at} {n} {next} e = by c.records (goes_on s (records_at c) e).fewer
       where
@@ -88,7 +85,7 @@ module _ (s : List ℕ) (c : ErrorCursor) where
   unfolding errors_on devices report_from
   at_records z = rw z
 
-  on-record : c.devices ≡ 0 → {at n : ℕ} {next : Cursor} → next_at s (records_at c) ≡ entry.Record at n next
+  on-record : c.devices ≡ 0 → {at n : ℕ} {next : Cursor} → next_at s (records_at c) ≡ steps.Record at n next
       → errors_on s c ≡ errors_on s (record { at = at; records = next.left; devices = n })
   unfolding errors_on report_from
   on-record z {at} {n} {next} e =
@@ -99,7 +96,7 @@ module _ (s : List ℕ) (c : ErrorCursor) where
       (sym (errors-named (errors_in n (drop at s)) (records_then (in_turn next.left ioerr (drop next.at s)))))
 
   module _ (z : c.devices ≡ 0 → ⊥) where
-    on-error : {h l st next : ℕ} → device_at s c.at ≡ reading.Error h l st next
+    on-error : {h l st next : ℕ} → device_at s c.at ≡ steps.Error h l st next
         → errors_on s c ≡ naming (error_in (drop c.at s) ∷ []) (errors_on s (record { at = next; records = c.records; devices = c.devices - 1 }))
     unfolding errors_on devices
     on-error {next = next} e = by c.devices refl
@@ -114,7 +111,7 @@ module _ (s : List ℕ) (c : ErrorCursor) where
             rw (le-ltb (length (drop c.at s)) 24 (rw length-drop (omega arith)), p, q)
             (errors-named (error_in (drop c.at s) ∷ []) (devices d (λ t. records_then (in_turn c.records ioerr t)) (drop next s)))
 
-    on-missing : device_at s c.at ≡ reading.Missing → errors_on s c ≡ Malformed
+    on-missing : device_at s c.at ≡ steps.Missing → errors_on s c ≡ Malformed
     unfolding errors_on devices
     on-missing e = by c.devices refl
       where
@@ -155,19 +152,19 @@ later s c d (Done k) h b = b
 
 module _ (s : List ℕ) (c : ErrorCursor) where
   come-error : (c.devices ≡ 0 → ⊥) → (r : Reading) → device_at s c.at ≡ r → Coming s c (error_given c r)
-  come-error z (reading.Error h l st next) e =
+  come-error z (steps.Error h l st next) e =
       let r = device-read-as s c.at e in
       record { walks = on-error s c z e; comes = record { further = omega arith; within = omega arith; status = r.given.status } }
-  come-error z reading.Missing e = record { walks = on-missing s c z e; comes = last-is Malformed }
+  come-error z steps.Missing e = record { walks = on-missing s c z e; comes = last-is Malformed }
 
-  module _ (k : ErrorCursor → Answer) (go : (at n : ℕ) (next : Cursor) → next_at s (records_at c) ≡ entry.Record at n next → Coming s (record { at = at; records = next.left; devices = n }) (k (record { at = at; records = next.left; devices = n }))) where
+  module _ (k : ErrorCursor → Answer) (go : (at n : ℕ) (next : Cursor) → next_at s (records_at c) ≡ steps.Record at n next → Coming s (record { at = at; records = next.left; devices = n }) (k (record { at = at; records = next.left; devices = n }))) where
     come-by : c.devices ≡ 0 → (e : Entry) → next_at s (records_at c) ≡ e → Coming s c (first_by s e k)
-    come-by z (entry.Record at n next) h =
+    come-by z (steps.Record at n next) h =
         let g = goes_on s (records_at c) h in
         let r = go at n next h in
         record { walks = on-record s c z h ∙ r.walks; comes = later s c (record { at = at; records = next.left; devices = n }) (k (record { at = at; records = next.left; devices = n })) (omega arith) r.comes }
-    come-by z (entry.Statistics t) h = record { walks = at_records s c z ∙ last_turn s (records_at c) h; comes = last-is (statistics_from s t) }
-    come-by z entry.Malformed h = record { walks = at_records s c z ∙ bad-turn s (records_at c) h; comes = last-is Malformed }
+    come-by z (steps.Statistics t) h = record { walks = at_records s c z ∙ last_turn s (records_at c) h; comes = last-is (statistics_from s t) }
+    come-by z steps.Malformed h = record { walks = at_records s c z ∙ bad-turn s (records_at c) h; comes = last-is Malformed }
 
     come-step : Coming s c (first_step s c k)
     come-step = by (eqb c.devices 0) refl

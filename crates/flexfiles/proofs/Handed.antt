@@ -14,14 +14,13 @@ use Rattle.reports.specs.StatisticsSteps.{counting, next_of, statistics_from}
 use Rattle.reports.specs.ReportSteps.{naming, error_in, end_of}
 use Rattle.reports.proofs.Reports.{begins}
 use Rattle.reports.specs.declared.cursor.Cursor.{Cursor}
-use Rattle.reports.specs.declared.statistics.Item.{Item}
-use Rattle.reports.specs.declared.statistics.Item.TheVariants as item
+use Rattle.reports.specs.StatisticsSteps.{Item}
+use Rattle.reports.specs.StatisticsSteps as item
 use Rattle.reports.proofs.StatisticsWalk as statistics
 use Rattle.reports.proofs.StatisticsWalk.{unrolled, goes-forward, stated}
 use Rattle.flexfiles.specs.Handed.{first_at, Numbers, resumed_at, numbers_of, handed, StatisticNumbers, resumed_tail, statistic_numbers, handed_statistic}
 use Rattle.flexfiles.specs.declared.ErrorCursor.{ErrorCursor}
-use Rattle.flexfiles.specs.declared.Answer.{Answer}
-use Rattle.flexfiles.specs.declared.Answer.TheVariants.{Error, Done}
+use Rattle.flexfiles.specs.Handed.{Answer, Error, Done}
 use Rattle.flexfiles.proofs.FirstError.{errors_on, at_records, first_walks, first-onward, first_ends}
 
 -- what C is handed, from the cursor that its numbers are

@@ -11,15 +11,14 @@ use Rattle.reports.specs.Report.{Report, Whole, report_of, status_of, without_st
 use Rattle.reports.specs.StatisticsSteps.{counting, next_of, statistics_from}
 use Rattle.reports.specs.ReportSteps.{naming, end_of}
 use Rattle.reports.specs.declared.cursor.Cursor.{Cursor}
-use Rattle.reports.specs.declared.statistics.Item.{Item}
-use Rattle.reports.specs.declared.statistics.Item.TheVariants as item
+use Rattle.reports.specs.StatisticsSteps.{Item}
+use Rattle.reports.specs.StatisticsSteps as item
 use Rattle.reports.proofs.Statuses.{named-status, counted-status, errors-status, statistics-status}
 use Rattle.reports.proofs.StatisticsWalk.{goes-forward}
 use Rattle.reports.proofs.Walk.{errors-whole, statistics-whole}
 use Rattle.flexfiles.specs.Handed.{first_at, Numbers, resumed_at, numbers_of, handed, StatisticNumbers, resumed_tail, statistic_numbers, handed_statistic}
 use Rattle.flexfiles.specs.declared.ErrorCursor.{ErrorCursor}
-use Rattle.flexfiles.specs.declared.Answer.{Answer}
-use Rattle.flexfiles.specs.declared.Answer.TheVariants.{Error, Done}
+use Rattle.flexfiles.specs.Handed.{Answer, Error, Done}
 use Rattle.flexfiles.specs.Walk.{Calls, ends, gives, error_call, errors_left, seen, statistic_call, statistics_left, seen_statistic, HandsOut, HandedOut}
 use Rattle.flexfiles.proofs.FirstError.{errors_on, first-onward, first_ends}
 use Rattle.flexfiles.proofs.Handed.{handed-begins, resumes, after_handed, handed-over, statistics-begin, tail-resumes, after_statistic, statistic-over}

@@ -1,28 +1,38 @@
 -- MODEL of the code: what C is handed of a report, of which crate `reports` has the steps. Walk.antt states what C's calls hand out.
---     error_given, first_at                   what comes next at a cursor of three numbers
+--     Answer, answer_of                     what comes next at a cursor of three numbers, and the code's answer as that
+--     error_given, first_at                   what it is, by what stands there
 --     Numbers, handed                       what `sc_report_next` answers and leaves in the numbers that it is lent
 --     StatisticNumbers, handed_statistic     the same for `sc_statistics_next`
-use Rattle.std.specs.Prelude.{ℕ, zero, suc, ◌+◌, ◌-◌, List, cond, eqb}
+use Rattle.std.specs.Prelude.{ℕ, zero, suc, ◌+◌, ◌-◌, List, cond, eqb, Option, Some, None, Result, Ok, Err}
 use Rattle.reports.specs.Report.{status_of}
 use Rattle.reports.specs.Cursors.{cursor_at}
 use Rattle.reports.specs.ReportSteps.{next_at, device_at, statistics_start}
 use Rattle.reports.specs.StatisticsSteps.{next_of, statistics_from}
 use Rattle.reports.specs.declared.cursor.Cursor.{Cursor}
-use Rattle.reports.specs.declared.report.Entry.{Entry}
-use Rattle.reports.specs.declared.report.Entry.TheVariants.{Record, Statistics, Malformed}
-use Rattle.reports.specs.declared.report.Reading.{Reading}
-use Rattle.reports.specs.declared.report.Reading.TheVariants as reading
-use Rattle.reports.specs.declared.statistics.Item.{Item}
-use Rattle.reports.specs.declared.statistics.Item.TheVariants as item
+use Rattle.reports.specs.ReportSteps.{Entry, Record, Statistics, Malformed, Reading}
+use Rattle.reports.specs.ReportSteps as steps
+use Rattle.reports.specs.StatisticsSteps.{Item}
+use Rattle.reports.specs.StatisticsSteps as item
+use Rattle.statuses.specs.declared.Status.{Status}
+use Rattle.statuses.specs.Numbers.{number}
 use Rattle.flexfiles.specs.declared.ErrorCursor.{ErrorCursor}
-use Rattle.flexfiles.specs.declared.Answer.{Answer}
-use Rattle.flexfiles.specs.declared.Answer.TheVariants.{Error, Done}
+use Rattle.flexfiles.specs.declared.Named.{Named}
 
 -- ---- the first device error from a cursor on
+-- a device error: the place of its device's sixteen bytes, its status, and the cursor past it; or none: the status of step 5
+pub data Answer : Type 0 where
+  Error : (device status : ℕ) (next : ErrorCursor) → Answer
+  Done : (status : ℕ) → Answer
+
+abbrev pub answer_of : Result (Option Named) Status → Answer
+answer_of (Ok (Some e)) = Error e.device e.status e.next
+answer_of (Ok None) = Done 0
+answer_of (Err status) = Done (number status)
+
 -- the one at a cursor where some are to come
 abbrev pub error_given : ErrorCursor → Reading → Answer
-error_given c (reading.Error h l st next) = Error c.at st (record { at = next; records = c.records; devices = c.devices - 1 })
-error_given c reading.Missing = Done 10036
+error_given c (steps.Error h l st next) = Error c.at st (record { at = next; records = c.records; devices = c.devices - 1 })
+error_given c steps.Missing = Done 10036
 
 -- where none is, by what stands among the records; `k` goes on with a record's device errors
 abbrev pub first_by : List ℕ → Entry → (ErrorCursor → Answer) → Answer

@@ -6,20 +6,21 @@
 ghost use Rattle.std.specs.Prelude.{◌≡◌, ◌≤◌};
 ghost use Rattle.reports.specs.Report.{report_of, status_of};
 ghost use Rattle.reports.specs.ReportSteps.{device_at};
-ghost use Rattle.flexfiles.specs.Handed.{error_given, first_at, resumed_at, handed, resumed_tail, handed_statistic};
+ghost use Rattle.flexfiles.specs.Handed.{answer_of, error_given, first_at, resumed_at, handed, resumed_tail, handed_statistic};
 
 use reports::cursor::Cursor;
-use reports::report::{Entry, Reading};
-use reports::statistics::Item;
+use reports::report::Entry;
+use statuses::Status;
 
 // Step 5, as `check` answers it.
 pub fn sc_report_check(body: &[u8]) -> u32
     ensures { result ≡ status_of (report_of body.now) }
 {
-    reports::report::check(body)
+    statuses::code(reports::report::check(body))
 }
 
 // A place among the device errors: where the next byte is, the error records still to come, and the device errors still to come of the record at hand.
+// It is flat, and no Cursor with a count beside it: these are the three numbers that C keeps, of which the claim `HandedOut` speaks.
 #[derive(Clone, Copy)]
 struct ErrorCursor {
     at: usize,
@@ -27,74 +28,64 @@ struct ErrorCursor {
     devices: u32,
 }
 
-// What comes next there.
+// A device error: the place of its device's sixteen bytes, its status, and the cursor past it.
 #[derive(Clone, Copy)]
-enum Answer {
-    // A device error: the place of its device's sixteen bytes, its status, and the cursor past it.
-    Error {
-        device: usize,
-        status: u32,
-        next: ErrorCursor,
-    },
-    // None: the status of step 5.
-    Done(u32),
+struct Named {
+    device: usize,
+    status: u32,
+    next: ErrorCursor,
 }
 
 // The device error at a place where some are to come, or 10036 where its bytes are not all there.
-fn error_at(s: &[u8], at: usize, records: u32, devices: u32) -> Answer
-    requires { 1 ≤ devices }
-    ensures { result ≡ error_given (record { at = at; records = records; devices = devices }) (device_at s.now at) }
+fn error_at(s: &[u8], c: ErrorCursor) -> Result<Option<Named>, Status>
+    requires { 1 ≤ c.devices }
+    ensures { answer_of result ≡ error_given c (device_at s.now c.at) }
 {
-    match reports::report::device(s, at) {
-        Reading::Error {
-            high: _,
-            low: _,
-            status,
-            next,
-        } => Answer::Error {
-            device: at,
-            status,
-            next: ErrorCursor {
-                at: next,
-                records,
-                devices: devices - 1,
-            },
-        },
-        Reading::Missing => Answer::Done(statuses::BADXDR),
-    }
+    let Some(e) = reports::report::device(s, c.at) else {
+        return Err(Status::BadXdr);
+    };
+    let next = ErrorCursor {
+        at: e.next,
+        records: c.records,
+        devices: c.devices - 1,
+    };
+    Ok(Some(Named {
+        device: c.at,
+        status: e.status,
+        next,
+    }))
 }
 
-// The first device error from the cursor on, past records that have none, or the status at which the report ends.
-fn first(s: &[u8], c: ErrorCursor) -> Answer
-    ensures { result ≡ first_at s.now c }
+// The first device error from the cursor on, past records that have none; or none where the report ends, and the status of step 5.
+fn first(s: &[u8], from: ErrorCursor) -> Result<Option<Named>, Status>
+    ensures { answer_of result ≡ first_at s.now from }
 {
-    let mut at = c.at;
-    let mut records = c.records;
-    let mut devices = c.devices;
-    while devices == 0 {
-        let from = Cursor { at, left: records };
-        match reports::report::next(s, from) {
-            Entry::Record {
-                at: begin,
-                devices: n,
-                next,
-            } => {
-                at = begin;
-                records = next.left;
-                devices = n;
+    let mut c = from;
+    // No `for`: how many records have no device errors is found by passing them.
+    while c.devices == 0 {
+        let records = Cursor {
+            at: c.at,
+            left: c.records,
+        };
+        match reports::report::next(s, records)? {
+            Entry::Record { at, devices, next } => {
+                c = ErrorCursor {
+                    at,
+                    records: next.left,
+                    devices,
+                };
             }
             Entry::Statistics(rest) => {
-                return Answer::Done(reports::statistics::check(s, rest));
-            }
-            Entry::Malformed => {
-                return Answer::Done(statuses::BADXDR);
+                reports::statistics::check(s, rest)?;
+                return Ok(None);
             }
         }
     }
-    error_at(s, at, records, devices)
+    error_at(s, c)
 }
 
 // The cursor of three numbers, of which a zero place is the start.
+#[tactic(auto, unfolding(crate::specs::Handed::resumed_at))]
 fn resumed(s: &[u8], at: usize, records: u32, devices: u32) -> ErrorCursor
     ensures { result ≡ resumed_at s.now at records devices }
 {
@@ -125,28 +116,24 @@ pub fn sc_report_next(
 ) -> u32
     ensures { handed body.now at.old records.old devices.old ≡ record { answer = result; at = at.new; records = records.new; devices = devices.new; device = device.new; status = status.new } }
 {
+    *device = 0;
+    *status = 0;
     match first(body, resumed(body, *at as usize, *records, *devices)) {
-        Answer::Error {
-            device: d,
-            status: k,
-            next: c,
-        } => {
-            *at = c.at as u64;
-            *records = c.records;
-            *devices = c.devices;
-            *device = d as u64;
-            *status = k;
+        Ok(Some(e)) => {
+            *at = e.next.at as u64;
+            *records = e.next.records;
+            *devices = e.next.devices;
+            *device = e.device as u64;
+            *status = e.status;
             1
         }
-        Answer::Done(k) => {
-            *device = 0;
-            *status = 0;
-            k
-        }
+        Ok(None) => 0,
+        Err(refused) => u32::from(refused),
     }
 }
 
-// The cursor of two numbers, of which a zero place is the start.
+// The cursor of two numbers, of which a zero place is the start. As `resumed`: what they share is one `if`, and a generic form would have to be told both ends.
+#[tactic(auto, unfolding(crate::specs::Handed::resumed_tail))]
 fn resumed_tail(s: &[u8], at: usize, left: u32) -> Cursor
     ensures { result ≡ resumed_tail s.now at left }
 {
@@ -173,21 +160,15 @@ pub fn sc_statistics_next(
     *written = 0;
     let c = resumed_tail(body, *at as usize, *left);
     match reports::statistics::next(body, c) {
-        Item::Given {
-            high: _,
-            low: _,
-            read: r,
-            written: w,
-            next,
-        } => {
-            *at = next.at as u64;
-            *left = next.left;
+        Ok(Some(y)) => {
+            *at = y.next.at as u64;
+            *left = y.next.left;
             *device = (c.at + 64) as u64;
-            *read = r;
-            *written = w;
+            *read = y.read;
+            *written = y.written;
             1
         }
-        Item::End => 0,
-        Item::Malformed => statuses::BADXDR,
+        Ok(None) => 0,
+        Err(malformed) => u32::from(Status::from(malformed)),
     }
 }

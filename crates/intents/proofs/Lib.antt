@@ -1,3 +1,1 @@
-pub mod EndOfGrace
-pub mod Anew
-pub mod Counted
+pub mod Near

@@ -1,10 +1,8 @@
 -- MODEL. A file's eight places for intents, in this order: one place; tests; stateids; all eight; changes.
-use Rattle.std.specs.Prelude.{List, Bool, true, false, not, cond, get_or, replicate, eqb}
+use Rattle.std.specs.Prelude.{ℕ, List, Bool, true, false, not, cond, get_or, replicate, eqb, Option, Some, None}
 use Rattle.statuses.specs.Names.{Client}
 use Rattle.wire.specs.Stateid.{no_stateid, has_other}
 use Rattle.wire.specs.declared.stateid.Stateid.{Stateid}
-use Rattle.places.specs.declared.Found.{Found}
-use Rattle.places.specs.declared.Found.TheVariants.{At, Nothing}
 use Rattle.intents.specs.declared.Intent.{Intent}
 
 abbrev pub no_intent : Intent
@@ -50,9 +48,9 @@ abbrev pub is_near : Stateid → Intent → Bool
 is_near t x = eqb x.stateid.high t.high
 
 -- the stateid of the place that was found
-abbrev pub stateid_at : List Intent → Found → Stateid
-stateid_at xs Nothing = no_stateid
-stateid_at xs (At i) = (get_or xs i no_intent).stateid
+abbrev pub stateid_at : List Intent → Option ℕ → Stateid
+stateid_at xs None = no_stateid
+stateid_at xs (Some i) = (get_or xs i no_intent).stateid
 
 -- ---- all eight
 -- the free places are last

@@ -2,8 +2,7 @@
 use Rattle.std.proofs.Common.{◌≡◌, ℕ, ◌+◌, ◌*◌, ◌<◌, ◌≤◌, true, false, List, [], length, refl, ap, ◌∙◌, arith, le-ltb, lt-ltb}
 use Rattle.extents.specs.Extents.{list_from, verdict}
 use Rattle.extents.specs.declared.Extent.{Extent}
-use Rattle.extents.specs.declared.Verdict.{Verdict}
-use Rattle.extents.specs.declared.Verdict.TheVariants.{Accepted, Refused}
+use Rattle.extents.specs.Verdict.{Verdict, Accepted, Refused}
 use Rattle.extents.proofs.Turns.{accepted-count}
 use Rattle.layouts.specs.declared.kinds.Kind.TheVariants.{Scsi}
 use Rattle.layouts.specs.Columns.{even, roomy}

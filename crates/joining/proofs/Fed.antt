@@ -1,7 +1,8 @@
 -- All of a list that is valid: the joiner's runs are those of `merged`. In this order: devices of 16 bytes; the runs never get fewer; where the joiner stands;
 -- one more piece, and its bytes; all pieces: how many runs, their bytes, what each piece asks; the extents of columns.
-use Rattle.std.proofs.Common.{◌≡◌, ℕ, zero, suc, ◌+◌, ◌-◌, ◌*◌, ◌%◌, ◌^◌, ◌<◌, ◌≤◌, Bool, true, false, cond, eqb, ◌⊎◌, List, [], ◌∷◌, map, length, get_or, set, refl, ap, ◌∙◌, inl, inr, arith, length-append, length-set}
+use Rattle.std.proofs.Common.{◌≡◌, ℕ, zero, suc, ◌+◌, ◌-◌, ◌*◌, ◌%◌, ◌^◌, ◌<◌, ◌≤◌, Bool, true, false, cond, eqb, ◌⊎◌, List, [], ◌∷◌, map, length, get_or, set, Option, Some, None, sym, refl, ap, ◌∙◌, inl, inr, arith, length-append, length-set}
 use lib.Seq.{sets, length-sets}
+use Rattle.std.proofs.lemmas.Bool.{true≢false}
 use Rattle.extents.specs.Extents.{list_from}
 use Rattle.extents.specs.declared.Extent.{Extent}
 use Rattle.layouts.proofs.Stores.{device-length}
@@ -10,10 +11,11 @@ use Rattle.merging.specs.Meaning.{All}
 use Rattle.merging.specs.Merged.{plain, follows, grown, place, joined}
 use Rattle.merging.proofs.Rules.{all_map, all-map₂, Valid, sounds}
 use Rattle.merging.proofs.Runs.{plain-keeps, plain-shape, plain-valid, all-place, Later, place-valid, place-later}
-use Rattle.joining.specs.Joiner.{bytes_of, piece_in, numbers_in, Runs, no_runs, place_of, zero_run, open_of, run_of, joins, next_run, next_count, fed, wrote, fed_all, wrote_all, row_piece, pieces_from, HeldRun, Held, ReadyAll}
+use Rattle.joining.specs.Joiner.{bytes_of, piece_in, numbers_in, no_runs, place_of, run_in, open_of, run_of, joins, joins_in, latest_at, next_run, next_count, fed, wrote, fed_all, wrote_all, row_piece, pieces_from, HeldRun, Held, ReadyAll}
 use Rattle.joining.specs.Merge.{row_of}
 use Rattle.joining.specs.declared.joiner.Piece.{Piece}
 use Rattle.joining.specs.declared.joiner.Run.{Run}
+use Rattle.joining.specs.declared.joiner.Runs.{Runs}
 use Rattle.joining.proofs.Places.{at}
 use Rattle.joining.proofs.Tracks.{Tracks, Stepped, longer-run, fresh-run, which, step-tracks, none-tracked, joined_end}
 use Rattle.joining.proofs.Bytes.{store_length, store-run}
@@ -124,7 +126,7 @@ wrote-all devs r runs (p ∷ ps) g d room =
     ∙ wrote-all devs (fed devs r p) (place (plain (piece_in devs p)) runs) ps (goes_on devs r runs p ps g) d room
 
 -- the open runs still have their devices, and there is at most one more
-set-either : (P : Run → Type 0) (l : List Run) (i j : ℕ) (x d : Run) → P x → P (get_or l j d) → P (get_or (set l i x) j d)
+set-either : (P : Option Run → Type 0) (l : List (Option Run)) (i j : ℕ) (x d : Option Run) → P x → P (get_or l j d) → P (get_or (set l i x) j d)
 set-either P [] i j x d p q = q
 set-either P (a ∷ l) zero zero x d p q = p
 set-either P (a ∷ l) zero (suc j) x d p q = q
@@ -135,16 +137,20 @@ module _ (devs : List ℕ) (r : Runs) (p : Piece) where
   pub next-held : There devs p → p.offset + p.len < 2 ^ 64 → Held devs r → HeldRun devs (next_run (run_of r p.state) p r.count (joins devs r p))
   next-held t f h = by (joins devs r p) refl
     where
+      ended : (u : Option Run) → joins_in devs u p ≡ true → (run_in u).end ≡ p.offset
+      ended None q = absurd (true≢false (sym q))
+      ended (Some o) q = joined_end devs o p q
+
       by : (b : Bool) → joins devs r p ≡ b → HeldRun devs (next_run (run_of r p.state) p r.count b)
       by true q =
           let had = h (place_of p.state) in
-          record { row-there = had.row-there; forward = omega (arith, had.forward, joined_end devs (run_of r p.state) p q) }
+          record { row-there = had.row-there; forward = omega (arith, had.forward, ended (latest_at r (place_of p.state)) q) }
       by false q = record { row-there = omega arith; forward = omega arith }
 
   pub fed-held : There devs p → p.offset + p.len < 2 ^ 64 → Held devs r → Held devs (fed devs r p)
   unfolding fed
   fed-held t f h k =
-      set-either (HeldRun devs) r.latest (place_of p.state) k (next_run (run_of r p.state) p r.count (joins devs r p)) zero_run (next-held t f h) (h k)
+      set-either (λ u. HeldRun devs (run_in u)) r.latest (place_of p.state) k (Some (next_run (run_of r p.state) p r.count (joins devs r p))) None (next-held t f h) (h k)
 
   pub fed-few : (fed devs r p).count ≤ r.count + 1
   unfolding fed

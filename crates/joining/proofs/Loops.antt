@@ -1,22 +1,22 @@
 -- The two passes over the rows of columns. In this order: the pieces to come; the pass that checks and counts: what holds at each turn, its turns, its end; the
 -- pass that writes: the same.
-use Rattle.std.proofs.Common.{◌≡◌, ℕ, suc, ◌+◌, ◌-◌, ◌*◌, ◌^◌, ◌<◌, ◌≤◌, Bool, true, false, cond, List, [], ◌∷◌, map, length, sym, refl, ap, ◌∙◌, arith}
+use Rattle.std.proofs.Common.{◌≡◌, Err, ℕ, suc, ◌+◌, ◌-◌, ◌*◌, ◌^◌, ◌<◌, ◌≤◌, Bool, true, false, cond, List, [], ◌∷◌, map, length, sym, refl, ap, ◌∙◌, arith}
 use lib.Seq.{sets}
 use Rattle.layouts.specs.Layout.{rows_bytes}
 use Rattle.layouts.proofs.Placed.{length-extent-put, length-length-put}
-use Rattle.extents.specs.Extents.{list_from, verdict}
+use Rattle.extents.specs.Extents.{list_from, verdict, answer}
 use Rattle.extents.specs.OnePass.{nothing, pushed, refusal_after}
 use Rattle.extents.specs.declared.Extent.{Extent}
 use Rattle.extents.specs.declared.Scan.{Scan}
-use Rattle.extents.specs.declared.Verdict.{Verdict}
-use Rattle.extents.specs.declared.Verdict.TheVariants.{Accepted, Refused}
+use Rattle.extents.specs.declared.Refusal.{Refusal}
+use Rattle.extents.specs.Verdict.{Verdict, Accepted, verdict_of, or_rest}
 use Rattle.extents.proofs.Turns as turns
-use Rattle.extents.proofs.OnePass.{accepted-end}
 use Rattle.merging.specs.Merged.{merged}
 use Rattle.merging.proofs.Rules.{Valid, passes-valid}
-use Rattle.joining.specs.Joiner.{bytes_of, piece_in, longer_run, Runs, no_runs, run_of, stored_longer, stored_start, joins, fed, wrote, fed_all, wrote_all, row_piece, pieces_from, Held, Ready, ReadyAll}
+use Rattle.joining.specs.Joiner.{bytes_of, piece_in, longer_run, no_runs, run_of, stored_longer, stored_start, joins, fed, wrote, fed_all, wrote_all, row_piece, pieces_from, Held, Ready, ReadyAll}
 use Rattle.joining.specs.Merge.{row_of, comes_to}
 use Rattle.joining.specs.declared.joiner.Piece.{Piece}
+use Rattle.joining.specs.declared.joiner.Runs.{Runs}
 use Rattle.joining.proofs.Fed.{Going, begins, fed-count, wrote-all, feeds-all, fed-held, fed-few, none-held, row_list, rows-there, length-pieces}
 
 -- ---- the pieces to come
@@ -62,21 +62,21 @@ module _ (devs offs lens stos sts : List ℕ) (n : ℕ) where
     reads = record { its-offset = refl; its-length = refl; its-storage = refl; its-state = refl }
 
     -- an extent that is refused
-    pub count-stops : i < n → (p : Piece) → p ≡ g i → (m : ℕ) → m ≡ refusal_after passed p.offset p.len p.storage p.state → (m ≡ 0 → ⊥)
-        → Refused m i ≡ comes_to (verdict [] 0 (list_from f n 0)) (length (merged (list_from f n 0)))
-    count-stops l p e m q z = ap (λ (v : Verdict). comes_to v (length (merged (list_from f n 0)))) (turns.stops k.scanning l reads m (rw e at q) z)
+    pub count-stops : i < n → (p : Piece) → p ≡ g i → (q : Refusal) → ((rest : Verdict) → or_rest (Err q) rest ≡ answer (refusal_after passed p.offset p.len p.storage p.state) i rest)
+        → verdict_of (Err q) ≡ comes_to (verdict [] 0 (list_from f n 0)) (length (merged (list_from f n 0)))
+    count-stops l p e q z = ap (λ (v : Verdict). comes_to v (length (merged (list_from f n 0)))) (turns.refuses k.scanning l reads q (rw e at z))
 
     -- any other: it can be fed
     pub count-ready : i < n → n ≤ 4096 → 16 * n ≤ length devs → (p : Piece) → p ≡ g i → p.offset + p.len < 2 ^ 64 → Ready devs r p
     count-ready l t h p e q = record { device-there = rw e (omega arith); in-file = q; few = omega (arith, k.few); held = k.held }
 
-    pub count-goes-on : i < n → 16 * n ≤ length devs → (p : Piece) → p ≡ g i → (m : ℕ) → m ≡ refusal_after passed p.offset p.len p.storage p.state → m ≡ 0
+    pub count-goes-on : i < n → 16 * n ≤ length devs → (p : Piece) → p ≡ g i → ((rest : Verdict) → rest ≡ answer (refusal_after passed p.offset p.len p.storage p.state) i rest) → p.offset + p.len < 2 ^ 64
         → (next : Scan) → next ≡ pushed passed p.offset (p.offset + p.len) p.state → (more : Runs) → more ≡ fed devs r p → Counting next more (i + 1)
     unfolding fed_all
-    count-goes-on l h p e m q z next b more c =
+    count-goes-on l h p e z q next b more c =
         record {
-          scanning = rw (b, e) (turns.goes_on k.scanning l reads m (rw e at q) z);
-          held = rw (c, e) (fed-held devs r (g i) (omega arith) (rw e at (accepted-end passed p.offset p.len p.storage p.state (sym q ∙ z))) k.held);
+          scanning = rw (b, e) (turns.passes k.scanning l reads (rw e at z));
+          held = rw (c, e) (fed-held devs r (g i) (omega arith) (rw e at q) k.held);
           few = rw c (omega (arith, k.few, fed-few devs r p));
           left = rw (c, e) (ap (fed_all devs r) (sym (pieces-next g n i l)) ∙ k.left);
         }

@@ -1,12 +1,13 @@
 -- Lists of extents by their places. In this order: what holds at each place; the run that a piece lengthens, by its place; extents of one state; the run of a
 -- state among the open ones.
-use Rattle.std.proofs.Common.{◌≡◌, ℕ, zero, suc, ◌+◌, ◌<◌, ◌≤◌, true, false, List, [], ◌∷◌, length, get_or, set, arith, get_or-set_other, get_or-set_same}
+use Rattle.std.proofs.Common.{◌≡◌, ℕ, zero, suc, ◌+◌, ◌<◌, ◌≤◌, true, false, List, [], ◌∷◌, length, get_or, set, Some, None, arith, get_or-set_other, get_or-set_same}
 use Rattle.extents.specs.declared.Extent.{Extent}
 use Rattle.layouts.specs.Layout.{no_extent}
 use Rattle.merging.specs.Meaning.{All}
 use Rattle.merging.specs.Merged.{follows, grown, place}
 use Rattle.merging.proofs.Rules.{Before, apart, read_first, invalid-first, Valid}
-use Rattle.joining.specs.Joiner.{zero_run, Runs, open_of, opening}
+use Rattle.joining.specs.Joiner.{latest_at, opening}
+use Rattle.joining.specs.declared.joiner.Runs.{Runs}
 use Rattle.joining.specs.declared.joiner.Run.{Run}
 
 -- ---- lists by place
@@ -42,8 +43,8 @@ one_state a e k (read_first p q h) = absurd (omega arith)
 one_state a e k (invalid-first p q h) = absurd (omega arith)
 
 -- ---- the run of a state among the open ones
-pub same-run : (r : Runs) (n k : ℕ) (o : Run) → length r.latest ≡ 4 → k < 4 → open_of (opening r n k o) k ≡ o
-same-run r n k o h l = get_or-set_same r.latest k o zero_run (omega arith)
+pub same-run : (r : Runs) (n k : ℕ) (o : Run) → length r.latest ≡ 4 → k < 4 → latest_at (opening r n k o) k ≡ Some o
+same-run r n k o h l = get_or-set_same r.latest k (Some o) None (omega arith)
 
-pub other-run : (r : Runs) (n k j : ℕ) (o : Run) → (j ≡ k → ⊥) → open_of (opening r n k o) j ≡ open_of r j
-other-run r n k j o h = get_or-set_other r.latest k j o zero_run h
+pub other-run : (r : Runs) (n k j : ℕ) (o : Run) → (j ≡ k → ⊥) → latest_at (opening r n k o) j ≡ latest_at r j
+other-run r n k j o h = get_or-set_other r.latest k j (Some o) None h

@@ -1,6 +1,6 @@
 -- The open runs go with the runs of `merged`: each state's is the latest of that state, and stands in its place. In this order: where the latest run of a
 -- state is; a list that changes in one state only; the code's test; one more piece, which lengthens that run or starts one; no piece yet.
-use Rattle.std.proofs.Common.{◌≡◌, ℕ, zero, suc, ◌+◌, ◌%◌, ◌^◌, ◌<◌, Bool, true, false, ◌&&◌, ◌||◌, eqb, ◌⊎◌, List, [], ◌∷◌, ◌++◌, length, set, sym, refl, ap, ◌∙◌, inl, inr, arith, length-append, length-set, get_or-set_other, get_or-set_same, eq-eqb, eqb-true}
+use Rattle.std.proofs.Common.{◌≡◌, ℕ, zero, suc, ◌+◌, ◌%◌, ◌^◌, ◌<◌, Bool, true, false, ◌&&◌, ◌||◌, eqb, ◌⊎◌, List, [], ◌∷◌, ◌++◌, length, set, Option, Some, None, sym, refl, ap, ◌∙◌, inl, inr, arith, length-append, length-set, get_or-set_other, get_or-set_same, eq-eqb, eqb-true}
 use native.Mathlib.Decide.{dec_lt, ℕ_discrete}
 use lib.ListN.{get_or-append}
 use lib.Seq.{get_or-append_seam}
@@ -11,9 +11,10 @@ use Rattle.layouts.specs.Layout.{no_extent}
 use Rattle.merging.specs.Merged.{plain, follows, grown, place}
 use Rattle.merging.proofs.Rules.{Sound, Before, Valid, sounds}
 use Rattle.merging.proofs.Runs.{Shape, plain-keeps, plain-shape, Follows, follows_said, follows-plain, Later, place-last}
-use Rattle.joining.specs.Joiner.{device_in, piece_in, started_run, longer_run, Runs, no_runs, place_of, open_of, opening, joins_run, joins, next_run, next_count, fed}
+use Rattle.joining.specs.Joiner.{device_in, piece_in, started_run, longer_run, no_runs, place_of, run_in, latest_at, open_of, opening, joins_run, joins_in, joins, next_run, next_count, fed}
 use Rattle.joining.specs.declared.joiner.Piece.{Piece}
 use Rattle.joining.specs.declared.joiner.Run.{Run}
+use Rattle.joining.specs.declared.joiner.Runs.{Runs}
 use Rattle.joining.proofs.Places.{at, all-at, at_all, valid-at, place_at, one_state, same-run, other-run}
 
 -- ---- where the latest run of a state is
@@ -25,22 +26,22 @@ pub record Found (devs : List ℕ) (runs : List Extent) (k : ℕ) (o : Run) : Ty
   pub ends : (at runs o.slot).offset + (at runs o.slot).len ≡ o.end
   pub in-storage : (k ≡ 3) ⊎ (((at runs o.slot).storage + (at runs o.slot).len ≡ o.until) × ((at runs o.slot).device ≡ device_in devs o.row))
 
-pub data Latest (devs : List ℕ) (runs : List Extent) (k : ℕ) (o : Run) : Type 0 where
-  nowhere : o.end ≡ 18446744073709551615 → ((j : ℕ) → j < length runs → (at runs j).state ≡ k → ⊥) → Latest devs runs k o
-  somewhere : Found devs runs k o → Latest devs runs k o
+pub data Latest (devs : List ℕ) (runs : List Extent) (k : ℕ) (u : Option Run) : Type 0 where
+  nowhere : u ≡ None → ((j : ℕ) → j < length runs → (at runs j).state ≡ k → ⊥) → Latest devs runs k u
+  somewhere : u ≡ Some (run_in u) → Found devs runs k (run_in u) → Latest devs runs k u
 
 -- a list that has changed only in runs of state k
 record Agrees (k : ℕ) (runs new : List Extent) : Type 0 where
   old : (j : ℕ) → ((at new j).state ≡ k → ⊥) → j < length new → (j < length runs) × (at new j ≡ at runs j)
   still : (j : ℕ) → ((at runs j).state ≡ k → ⊥) → j < length runs → (j < length new) × (at new j ≡ at runs j)
 
-carried : (devs : List ℕ) (runs new : List Extent) (k j : ℕ) (o : Run) → Agrees k runs new → (j ≡ k → ⊥) → Latest devs runs j o → Latest devs new j o
-carried devs runs new k j o a d (nowhere n h) = nowhere n (λ p l q.
+carried : (devs : List ℕ) (runs new : List Extent) (k j : ℕ) (u : Option Run) → Agrees k runs new → (j ≡ k → ⊥) → Latest devs runs j u → Latest devs new j u
+carried devs runs new k j u a d (nowhere n h) = nowhere n (λ p l q.
     let g = a.old p (λ e. d (sym q ∙ e)) l in
     h p g.0 (ap (λ (x : Extent). x.state) (sym g.1) ∙ q))
-carried devs runs new k j o a d (somewhere h) =
-    let g = a.still o.slot (λ e. d (sym h.of-state ∙ e)) h.inside in
-    somewhere (record {
+carried devs runs new k j u a d (somewhere s h) =
+    let g = a.still (run_in u).slot (λ e. d (sym h.of-state ∙ e)) h.inside in
+    somewhere s (record {
       inside = g.0;
       of-state = ap (λ (x : Extent). x.state) g.1 ∙ h.of-state;
       latest = λ p l m q.
@@ -104,7 +105,7 @@ joined_end devs o p h = eqb-true o.end p.offset (and_both (eqb o.end p.offset) _
 pub record Tracks (devs : List ℕ) (r : Runs) (runs : List Extent) : Type 0 where
   pub four : length r.latest ≡ 4
   pub counted : r.count ≡ length runs
-  pub each : (k : ℕ) → k < 4 → Latest devs runs k (open_of r k)
+  pub each : (k : ℕ) → k < 4 → Latest devs runs k (latest_at r k)
 
 module _ (devs : List ℕ) (r : Runs) (runs : List Extent) (p : Piece) (valid : Valid runs) (sound : Sound (plain (piece_in devs p))) (later : Later runs (plain (piece_in devs p))) (t : Tracks devs r runs) where
   abbrev e : Extent
@@ -168,7 +169,7 @@ module _ (devs : List ℕ) (r : Runs) (runs : List Extent) (p : Piece) (valid : 
 
   lengthened-tracks : Found devs runs k o → Follows (at runs o.slot) e → Tracks devs (opening r r.count k more) (set runs o.slot (grown (at runs o.slot) e))
   lengthened-tracks h f =
-      record { four = length-set r.latest k more ∙ t.four; counted = t.counted ∙ sym (length-set runs o.slot (grown (at runs o.slot) e)); each = λ j l. by j l (ℕ_discrete j k) }
+      record { four = length-set r.latest k (Some more) ∙ t.four; counted = t.counted ∙ sym (length-set runs o.slot (grown (at runs o.slot) e)); each = λ j l. by j l (ℕ_discrete j k) }
     where
       new : List Extent
       new = set runs o.slot (grown (at runs o.slot) e)
@@ -198,11 +199,11 @@ module _ (devs : List ℕ) (r : Runs) (runs : List Extent) (p : Piece) (valid : 
             in-storage = rw here (kept stored f.in-storage h.in-storage);
           }
 
-      by : (j : ℕ) → j < 4 → Dec (j ≡ k) → Latest devs new j (open_of (opening r r.count k more) j)
-      by j l (yes g) = rw (g, same-run r r.count k more t.four below) (somewhere found)
+      by : (j : ℕ) → j < 4 → Dec (j ≡ k) → Latest devs new j (latest_at (opening r r.count k more) j)
+      by j l (yes g) = rw (g, same-run r r.count k more t.four below) (somewhere refl found)
       by j l (no n) =
           rw (other-run r r.count k j more n)
-          (carried devs runs new k j (open_of r j) (agrees-set k runs o.slot (grown (at runs o.slot) e) h.inside h.of-state h.of-state) n (t.each j l))
+          (carried devs runs new k j (latest_at r j) (agrees-set k runs o.slot (grown (at runs o.slot) e) h.inside h.of-state h.of-state) n (t.each j l))
 
   -- a run is started
   abbrev fresh : Run
@@ -210,7 +211,7 @@ module _ (devs : List ℕ) (r : Runs) (runs : List Extent) (p : Piece) (valid : 
 
   started-tracks : Tracks devs (opening r (r.count + 1) k fresh) (runs ++ (e ∷ []))
   started-tracks =
-      record { four = length-set r.latest k fresh ∙ t.four; counted = omega (arith, t.counted, length-append runs (e ∷ [])); each = λ j l. by j l (ℕ_discrete j k) }
+      record { four = length-set r.latest k (Some fresh) ∙ t.four; counted = omega (arith, t.counted, length-append runs (e ∷ [])); each = λ j l. by j l (ℕ_discrete j k) }
     where
       new : List Extent
       new = runs ++ (e ∷ [])
@@ -234,9 +235,9 @@ module _ (devs : List ℕ) (r : Runs) (runs : List Extent) (p : Piece) (valid : 
             in-storage = rw here (kept stored);
           }
 
-      by : (j : ℕ) → j < 4 → Dec (j ≡ k) → Latest devs new j (open_of (opening r (r.count + 1) k fresh) j)
-      by j l (yes g) = rw (g, same-run r (r.count + 1) k fresh t.four below) (somewhere found)
-      by j l (no n) = rw (other-run r (r.count + 1) k j fresh n) (carried devs runs new k j (open_of r j) (agrees-more k runs e e-place) n (t.each j l))
+      by : (j : ℕ) → j < 4 → Dec (j ≡ k) → Latest devs new j (latest_at (opening r (r.count + 1) k fresh) j)
+      by j l (yes g) = rw (g, same-run r (r.count + 1) k fresh t.four below) (somewhere refl found)
+      by j l (no n) = rw (other-run r (r.count + 1) k j fresh n) (carried devs runs new k j (latest_at r j) (agrees-more k runs e e-place) n (t.each j l))
 
   -- which of the two, by the code's test
   pub data Stepped : Type 0 where
@@ -246,13 +247,16 @@ module _ (devs : List ℕ) (r : Runs) (runs : List Extent) (p : Piece) (valid : 
   pub which : Stepped
   which = by (t.each k below)
     where
-      test : Found devs runs k o → follows (at runs o.slot) e ≡ joins devs r p
+      test : Found devs runs k o → follows (at runs o.slot) e ≡ joins_run devs o p
       test h = follows-plain (at runs o.slot) (piece_in devs p) ∙ test-is devs (at runs o.slot) o p (h.of-state ∙ p-place) h.ends (case h.in-storage)
         where
           case : (k ≡ 3) ⊎ (((at runs o.slot).storage + (at runs o.slot).len ≡ o.until) × ((at runs o.slot).device ≡ device_in devs o.row))
               → (p.state ≡ 3) ⊎ (((at runs o.slot).storage + (at runs o.slot).len ≡ o.until) × ((at runs o.slot).device ≡ device_in devs o.row))
           case (inl q) = inl (sym p-place ∙ q)
           case (inr q) = inr q
+
+      tested : latest_at r k ≡ Some o → joins_run devs o p ≡ joins devs r p
+      tested s = ap (λ (u : Option Run). joins_in devs u p) (sym s)
 
       at-end : Found devs runs k o → follows (at runs o.slot) e ≡ false → place e runs ≡ runs ++ (e ∷ [])
       at-end h q = place-last e runs (at_all (λ a. follows a e ≡ false) runs (λ j l. each j l (dec_lt j o.slot) (dec_lt o.slot j)))
@@ -264,20 +268,16 @@ module _ (devs : List ℕ) (r : Runs) (runs : List Extent) (p : Piece) (valid : 
               let s : j ≡ o.slot = omega arith in
               rw s q
 
-      by-test : Found devs runs k o → (b : Bool) → joins devs r p ≡ b → Stepped
-      by-test h true q = longer-run q h (follows_said (at runs o.slot) e (test h ∙ q)) (lengthened h (test h ∙ q))
-      by-test h false q = fresh-run q (at-end h (test h ∙ q))
+      by-test : Found devs runs k o → follows (at runs o.slot) e ≡ joins devs r p → (b : Bool) → joins devs r p ≡ b → Stepped
+      by-test h t true q = longer-run q h (follows_said (at runs o.slot) e (t ∙ q)) (lengthened h (t ∙ q))
+      by-test h t false q = fresh-run q (at-end h (t ∙ q))
 
-      -- no piece begins where there is no run
-      none : o.end ≡ 18446744073709551615 → joins devs r p ≡ true → ⊥
-      none n q = omega (arith, joined_end devs o p q, sound.some, sound.in-file, shape.offsets, shape.lens)
-
-      by : Latest devs runs k o → Stepped
+      by : Latest devs runs k (latest_at r k) → Stepped
       by (nowhere n h) =
           fresh-run
-          (by_cases (joins devs r p) (none n))
+          (ap (λ (u : Option Run). joins_in devs u p) n)
           (place-last e runs (at_all (λ a. follows a e ≡ false) runs (λ j l. other-state (at runs j) (h j l))))
-      by (somewhere h) = by-test h (joins devs r p) refl
+      by (somewhere s h) = by-test h (test h ∙ tested s) (joins devs r p) refl
 
   pub step-tracks : Tracks devs (fed devs r p) (place e runs)
   unfolding fed
@@ -291,7 +291,7 @@ module _ (devs : List ℕ) (r : Runs) (runs : List Extent) (p : Piece) (valid : 
 pub none-tracked : (devs : List ℕ) → Tracks devs no_runs []
 none-tracked devs = record { four = refl; counted = refl; each = by }
   where
-    by : (k : ℕ) → k < 4 → Latest devs [] k (open_of no_runs k)
+    by : (k : ℕ) → k < 4 → Latest devs [] k (latest_at no_runs k)
     by zero l = nowhere refl (λ j h. absurd (omega arith))
     by (suc zero) l = nowhere refl (λ j h. absurd (omega arith))
     by (suc (suc zero)) l = nowhere refl (λ j h. absurd (omega arith))

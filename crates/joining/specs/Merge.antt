@@ -4,9 +4,9 @@
 use Rattle.std.specs.Prelude.{◌≡◌, ℕ, cond, List, [], map, length, nat_lt}
 use Rattle.extents.specs.Extents.{list_from, verdict, number_of, place_of}
 use Rattle.extents.specs.declared.Extent.{Extent}
-use Rattle.extents.specs.declared.Verdict.{Verdict}
-use Rattle.extents.specs.declared.Verdict.TheVariants.{Accepted, Refused}
+use Rattle.extents.specs.Verdict.{Verdict, Accepted, Refused}
 use Rattle.layouts.specs.declared.kinds.Kind.TheVariants.{Scsi}
+use Rattle.layouts.specs.declared.columns.Columns.{Columns as Lent}
 use Rattle.layouts.specs.Columns.{Columns, column_row, even, roomy, written_by}
 use Rattle.layouts.specs.Placing.{scsi}
 use Rattle.merging.specs.Merged.{merged}
@@ -20,6 +20,13 @@ row_of devs offs lens stos sts k = (column_row (columns_of devs offs lens stos s
 
 abbrev pub column_list : List ℕ → List ℕ → List ℕ → List ℕ → List ℕ → List Extent
 column_list devs offs lens stos sts = list_from (row_of devs offs lens stos sts) (length offs) 0
+
+-- the same of columns that are lent; their handles are not looked at
+abbrev pub scsi_columns : Lent → Columns
+scsi_columns c = columns_of c.devices.now c.offsets.now c.lengths.now c.storages.now c.states.now
+
+abbrev pub list_of : Lent → List Extent
+list_of c = column_list c.devices.now c.offsets.now c.lengths.now c.storages.now c.states.now
 
 -- an accepted list that comes to k extents
 abbrev pub comes_to : Verdict → ℕ → Verdict

@@ -4,16 +4,13 @@ use mathlib.Core.Bool.{Bool, true, false, cond}
 use Prim.Native.Nat.{ℕ}
 use lib.Dec.{ltb}
 use Rattle.statuses.specs.Names.{Bytes}
-use Rattle.wire.specs.Request.{request_of, part_of, body_of}
+use Rattle.wire.specs.Request.{Request, request_of, part_of, body_of}
 use Rattle.wire.specs.declared.request.Kind.{Kind}
 use Rattle.wire.specs.declared.request.Kind.TheVariants.{Anonymous, Bypass, Current, Invalid, Ordinary}
-use Rattle.wire.specs.declared.request.Request.{Request}
-use Rattle.wire.specs.declared.request.Request.TheVariants as request
+use Rattle.wire.specs.Request as request
 use Rattle.wire.proofs.Requests.{body-part}
 use Rattle.files.specs.declared.head.Head.{Head}
-use Rattle.layoutreturn.specs.LayoutReturn.{phase_of, decided, decision_of}
-use Rattle.layoutreturn.specs.declared.Decision.{Decision}
-use Rattle.layoutreturn.specs.declared.Decision.TheVariants.{Answered, HandedOn, ReadBody, ReturnBody}
+use Rattle.layoutreturn.specs.LayoutReturn.{phase_of, decided, decision_of, Decision, Answered, HandedOn, ReadBody, ReturnBody}
 
 -- the length that a decision reads, if it reads one
 abbrev Reads : Bytes → Decision → Type 0

@@ -14,11 +14,8 @@ use Rattle.intents.specs.Intents.{is_intent}
 use Rattle.files.specs.File.{is_file}
 use Rattle.files.specs.declared.file.File.{File}
 use Rattle.files.specs.declared.head.Head.{Head}
-use Rattle.layoutreturn.specs.LayoutReturn.{outcome_of, outcome_on, if_whole, by_stateid, held_on, bar_on, in_edition, report_on, return_on, raised_on, return_outcome, outcome_by}
-use Rattle.layoutreturn.specs.OneWalk.{reads_body, unread_status, anonymous_claim, ordinary_claim, assessed_by, raised_if, assessed_outcome}
-use Rattle.layoutreturn.specs.declared.Claim.{Claim}
-use Rattle.layoutreturn.specs.declared.Decision.{Decision}
-use Rattle.layoutreturn.specs.declared.Decision.TheVariants.{Answered, HandedOn, ReadBody, ReturnBody}
+use Rattle.layoutreturn.specs.LayoutReturn.{outcome_of, outcome_on, if_whole, by_stateid, held_on, bar_on, in_edition, report_on, return_on, raised_on, return_outcome, outcome_by, Decision, Answered, HandedOn, ReadBody, ReturnBody}
+use Rattle.layoutreturn.specs.OneWalk.{reads_body, unread_status, anonymous_claim, ordinary_claim, assessed_by, raised_if, assessed_outcome, Claim}
 
 -- step 6 by its status, and by what it leaves of a report: a is the file's test, b the client's
 by_tests : (q : Assessment) (a b : Bool) → cond (eqb (cond a (cond b 0 10034) 70) 0) q (status_only (cond a (cond b 0 10034) 70)) ≡ cond a (cond b q (status_only 10034)) (status_only 70)
@@ -61,9 +58,9 @@ outcome-unread n h c s f HandedOn e = refl
 outcome-unread n h c s f (ReadBody len) e = true-false e
 outcome-unread n h c s f (ReturnBody len) e = true-false e
 
-pub outcome-assessed : (n : FileNumber) (h : Head) (c : Client) (s : Bytes) (f : File) (d : Decision) → reads_body d ≡ true → assessed_outcome n h c s f d ≡ outcome_by n h c s f d
+pub outcome_assessed : (n : FileNumber) (h : Head) (c : Client) (s : Bytes) (f : File) (d : Decision) → reads_body d ≡ true → assessed_outcome n h c s f d ≡ outcome_by n h c s f d
 unfolding outcome_by
-outcome-assessed n h c s f (Answered k) e = true-false (sym e)
-outcome-assessed n h c s f HandedOn e = true-false (sym e)
-outcome-assessed n h c s f (ReadBody len) e = ap (outcome_on h c no_stateid f) (anonymous n h c (report_of (part_of len s)) f)
-outcome-assessed n h c s f (ReturnBody len) e = ordinary n h c s (report_of (part_of len s)) f
+outcome_assessed n h c s f (Answered k) e = true-false (sym e)
+outcome_assessed n h c s f HandedOn e = true-false (sym e)
+outcome_assessed n h c s f (ReadBody len) e = ap (outcome_on h c no_stateid f) (anonymous n h c (report_of (part_of len s)) f)
+outcome_assessed n h c s f (ReturnBody len) e = ordinary n h c s (report_of (part_of len s)) f

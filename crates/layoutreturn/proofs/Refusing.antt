@@ -20,9 +20,7 @@ use Rattle.files.specs.File.{is_file, changed_file, raised_file}
 use Rattle.files.specs.declared.file.File.{File}
 use Rattle.files.specs.declared.head.Head.{Head}
 use Rattle.files.proofs.Changing.{unchanged, unraised}
-use Rattle.layoutreturn.specs.LayoutReturn.{bar_on, report_on, return_on, held_on, outcome_by, file_after}
-use Rattle.layoutreturn.specs.declared.Decision.{Decision}
-use Rattle.layoutreturn.specs.declared.Decision.TheVariants.{Answered, HandedOn, ReadBody, ReturnBody}
+use Rattle.layoutreturn.specs.LayoutReturn.{bar_on, report_on, return_on, held_on, outcome_by, file_after, Decision, Answered, HandedOn, ReadBody, ReturnBody}
 
 -- ---- a report
 record Leaves (a : Assessment) : Type 0 where

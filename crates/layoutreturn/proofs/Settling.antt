@@ -25,13 +25,11 @@ use Rattle.files.specs.declared.file.File.{File}
 use Rattle.files.specs.declared.head.Head.{Head}
 use Rattle.files.proofs.Changing.{told-nothing, by-fields}
 use Rattle.files.proofs.Counting.{told-change}
-use Rattle.layoutreturn.specs.LayoutReturn.{if_whole, by_stateid, held_on, outcome_on, outcome_by, file_after}
-use Rattle.layoutreturn.specs.OneWalk.{anonymous_claim, ordinary_claim, claim_by, assessed_by, raised_if}
+use Rattle.layoutreturn.specs.LayoutReturn.{if_whole, by_stateid, held_on, outcome_on, outcome_by, file_after, ReadBody, ReturnBody}
+use Rattle.layoutreturn.specs.OneWalk.{anonymous_claim, ordinary_claim, claim_by, assessed_by, raised_if, Claim}
 use Rattle.layoutreturn.specs.Settled.{refused_as, accepted_as, without_totals, counts_if, later_of, silenced, taken_as, assessed_as, raised_as, claimed_outcome, settled_file}
-use Rattle.layoutreturn.specs.declared.Claim.{Claim}
-use Rattle.layoutreturn.specs.declared.Decision.TheVariants.{ReadBody, ReturnBody}
 use Rattle.layoutreturn.specs.declared.Outcome.{Outcome}
-use Rattle.layoutreturn.proofs.OneWalk.{outcome-assessed}
+use Rattle.layoutreturn.proofs.OneWalk.{outcome_assessed}
 
 -- ---- a refusal, and a return that is accepted, by the status of what was assessed
 unraised : (u : Stateid) (z b : Bool) → z ≡ false → cond b (cond z (raised_stateid u) no_stateid) no_stateid ≡ no_stateid
@@ -96,8 +94,8 @@ claimed-so n h c s f len = by h.grace
     with_it b a = outcome_on h c (raised_if (claim_by n c s f b).own a.status b) f a
 
     by : (g : Bool) → with_it (not g) (assessed_as h (claim_by n c s f (not g)) p f (not g)) ≡ outcome_by n h c s f (cond g (ReadBody len) (ReturnBody len))
-    by true = ap (with_it false) (as-claimed h f n c s p false) ∙ outcome-assessed n h c s f (ReadBody len) refl
-    by false = ap (with_it true) (as-claimed h f n c s p true) ∙ outcome-assessed n h c s f (ReturnBody len) refl
+    by true = ap (with_it false) (as-claimed h f n c s p false) ∙ outcome_assessed n h c s f (ReadBody len) refl
+    by false = ap (with_it true) (as-claimed h f n c s p true) ∙ outcome_assessed n h c s f (ReturnBody len) refl
 
 -- ---- by the two halves of a walk: x is what the device errors change, p the statistics records
 module _ (ms : List Mirror) (x : Change) (late : Status) (silent : Bool) where

@@ -1,9 +1,9 @@
 -- MODEL. LAYOUTRETURN on one file (Rules 3.7, 3.8, 3.15), in this order: 28 and steps 1 to 4, before any file is looked at; steps 5 to 7 on a file; an ordinary
 -- return on a file; the outcome; the reply; the file afterwards.
-use Rattle.std.specs.Prelude.{cond, ℕ, eqb, ltb}
+use Rattle.std.specs.Prelude.{cond, ℕ, eqb, ltb, Option}
 use Rattle.statuses.specs.Names.{Bytes, Status, Client, FileNumber}
 use Rattle.reports.specs.Report.{Report, report_of}
-use Rattle.wire.specs.Request.{request_of, part_of}
+use Rattle.wire.specs.Request.{Request, request_of, part_of}
 use Rattle.wire.specs.Reply.{reply_in_with}
 use Rattle.wire.specs.Seqid.{age_of}
 use Rattle.wire.specs.Stateid.{no_stateid, stateid_in, stateid_bytes, has_other, raised_stateid}
@@ -12,10 +12,8 @@ use Rattle.wire.specs.declared.seqid.Age.{Age}
 use Rattle.wire.specs.declared.seqid.Age.TheVariants.{Same, Older, Newer}
 use Rattle.wire.specs.declared.request.Kind.{Kind}
 use Rattle.wire.specs.declared.request.Kind.TheVariants.{Anonymous, Bypass, Current, Invalid, Ordinary}
-use Rattle.wire.specs.declared.request.Request.{Request}
-use Rattle.wire.specs.declared.request.Request.TheVariants as request
+use Rattle.wire.specs.Request as request
 use Rattle.places.specs.Places.{first, is_found}
-use Rattle.places.specs.declared.Found.{Found}
 use Rattle.mirroring.specs.Blame.{status_only, assessment_of}
 use Rattle.mirroring.specs.declared.blame.Assessment.{Assessment}
 use Rattle.intents.specs.Intents.{is_intent, is_stated, stateid_at}
@@ -23,14 +21,18 @@ use Rattle.files.specs.File.{is_file, changed_file, raised_file, head_after}
 use Rattle.files.specs.declared.file.File.{File}
 use Rattle.files.specs.declared.head.Head.{Head}
 use Rattle.layoutreturn.specs.declared.Outcome.{Outcome}
-use Rattle.layoutreturn.specs.declared.Decision.{Decision}
-use Rattle.layoutreturn.specs.declared.Decision.TheVariants.{Answered, HandedOn, ReadBody, ReturnBody}
 
 -- stands for "handed on" where a status is answered
 abbrev pub handed_on_code : Status
 handed_on_code = 4294967295
 
 -- ---- before any file is looked at
+-- what is known of a request then: it is answered with a status, handed on, or its body, of so many bytes, is read, by an ordinary return where the file decides so
+pub data Decision : Type 0 where
+  Answered : (status : Status) → Decision
+  HandedOn : Decision
+  ReadBody ReturnBody : (len : ℕ) → Decision
+
 -- 10013 in grace, and d out of it
 abbrev pub out_of_grace : Head → Decision → Decision
 out_of_grace h d = cond h.grace (Answered 10013) d
@@ -55,7 +57,7 @@ decision_of h s room = cond (ltb room 24) (Answered 28) (decided h (request_of s
 
 -- ---- steps 5 to 7 on the file f
 -- step 6
-abbrev pub of_client : Assessment → Found → Assessment
+abbrev pub of_client : Assessment → Option ℕ → Assessment
 of_client a o = cond (is_found o) a (status_only 10034)
 
 abbrev pub of_intent : FileNumber → Client → File → Assessment → Assessment

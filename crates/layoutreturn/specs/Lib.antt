@@ -1,3 +1,4 @@
 pub mod LayoutReturn
 pub mod OneWalk
+pub mod Answers
 pub mod Settled

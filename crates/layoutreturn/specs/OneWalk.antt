@@ -13,11 +13,8 @@ use Rattle.intents.specs.Intents.{is_intent}
 use Rattle.files.specs.File.{is_file}
 use Rattle.files.specs.declared.file.File.{File}
 use Rattle.files.specs.declared.head.Head.{Head}
-use Rattle.layoutreturn.specs.LayoutReturn.{handed_on_code, if_whole, by_stateid, held_on, in_edition, outcome_on}
-use Rattle.layoutreturn.specs.declared.Claim.{Claim}
+use Rattle.layoutreturn.specs.LayoutReturn.{handed_on_code, if_whole, by_stateid, held_on, in_edition, outcome_on, Decision, Answered, HandedOn, ReadBody, ReturnBody}
 use Rattle.layoutreturn.specs.declared.Outcome.{Outcome}
-use Rattle.layoutreturn.specs.declared.Decision.{Decision}
-use Rattle.layoutreturn.specs.declared.Decision.TheVariants.{Answered, HandedOn, ReadBody, ReturnBody}
 
 -- ---- what was decided
 abbrev pub reads_body : Decision → Bool
@@ -45,6 +42,11 @@ unread_status (ReadBody len) = 0
 unread_status (ReturnBody len) = 0
 
 -- ---- what a file says of a return's client: the statuses of steps 4 and 6, and the client's stateid
+pub record Claim : Type 0 where
+  pub barred : Status
+  pub late : Status
+  pub own : Stateid
+
 -- step 6
 abbrev pub late_on : FileNumber → Client → File → Status
 late_on n c f = cond (is_file n f) (cond (is_found (first (is_intent c) f.intents)) 0 10034) 70

@@ -12,8 +12,7 @@ use Rattle.files.specs.File.{blamed_file, raised_file, marks_file, blames_places
 use Rattle.files.specs.declared.file.File.{File}
 use Rattle.files.specs.declared.head.Head.{Head}
 use Rattle.layoutreturn.specs.LayoutReturn.{outcome_on}
-use Rattle.layoutreturn.specs.OneWalk.{raised_if}
-use Rattle.layoutreturn.specs.declared.Claim.{Claim}
+use Rattle.layoutreturn.specs.OneWalk.{raised_if, Claim}
 use Rattle.layoutreturn.specs.declared.Outcome.{Outcome}
 use Rattle.layoutreturn.specs.declared.Settled.{Settled}
 

@@ -5,10 +5,13 @@
 
 ghost use Rattle.std.specs.Prelude.{◌≡◌};
 ghost use Rattle.reports.specs.Report.{report_of};
+ghost use Rattle.mirroring.specs.Blame.{status_only};
 ghost use Rattle.intents.specs.Intents.{is_stated, stated_if};
 ghost use Rattle.files.specs.File.{blamed_file};
-ghost use Rattle.layoutreturn.specs.LayoutReturn.{out_of_grace, phase_of, decision_of, outcome_with, by_age, by_stateid, outcome_by, reply_by, file_after};
-ghost use Rattle.layoutreturn.specs.OneWalk.{reads_body, is_ordinary, length_of, unread_status, late_on, anonymous_claim, ordinary_claim, claim_by, taken_by, assessed_by, raised_if};
+ghost use Rattle.statuses.specs.Numbers.{code};
+ghost use Rattle.layoutreturn.specs.Answers.{decision_as, claim_as, body_of};
+ghost use Rattle.layoutreturn.specs.LayoutReturn.{phase_of, decision_of, outcome_with, outcome_of, by_age, by_stateid, outcome_by, reply_by, file_after};
+ghost use Rattle.layoutreturn.specs.OneWalk.{assessed_outcome, late_on, anonymous_claim, ordinary_claim, claim_by, taken_by, assessed_by, raised_if};
 ghost use Rattle.layoutreturn.specs.Settled.{refused_as, accepted_as};
 
 use files::file::File;
@@ -16,15 +19,14 @@ use files::head::Head;
 use intents::Intent;
 use mirroring::blame::{Assessment, Change};
 use mirroring::totals::Totals;
+use statuses::Status;
 use wire::request::{Kind, Request};
 use wire::seqid::Age;
 use wire::stateid::Stateid;
 
-// What is known of a request before any file is looked at.
-#[derive(Clone, Copy)]
+// What is known of a request before any file is looked at, unless it is refused.
+#[derive(Clone, Copy, PartialEq, Eq)]
 pub enum Decision {
-    // It is answered with this status, and no file is asked.
-    Answered(u32),
     // It is handed on.
     HandedOn,
     // Its body, of so many bytes, is read.
@@ -33,96 +35,38 @@ pub enum Decision {
     ReturnBody(usize),
 }
 
-// 10013 in grace, and `d` out of it.
-fn out_of_grace(head: Head, d: Decision) -> Decision
-    ensures { result ≡ out_of_grace head d }
-{
-    if head.grace {
-        return Decision::Answered(statuses::GRACE);
-    }
-    d
-}
-
 // Step 4: by the kind of stateid, the edition and the phase.
-fn phase(kind: Kind, head: Head, len: usize) -> Decision
-    ensures { result ≡ phase_of kind head len }
+fn phase(kind: Kind, head: Head, len: usize) -> Result<Decision, Status>
+    ensures { decision_as result ≡ phase_of kind head len }
 {
-    match kind {
-        Kind::Anonymous => {
-            if head.old {
-                return Decision::Answered(statuses::BAD_STATEID);
-            }
-            if head.grace {
-                return Decision::ReadBody(len);
-            }
-            Decision::Answered(statuses::NO_GRACE)
+    if kind == Kind::Anonymous {
+        if head.old {
+            return Err(Status::BadStateid);
         }
-        Kind::Bypass => out_of_grace(head, Decision::Answered(statuses::BAD_STATEID)),
-        Kind::Invalid => out_of_grace(head, Decision::Answered(statuses::BAD_STATEID)),
-        Kind::Current => out_of_grace(head, Decision::HandedOn),
-        Kind::Ordinary => out_of_grace(head, Decision::ReturnBody(len)),
+        if !head.grace {
+            return Err(Status::NoGrace);
+        }
+        return Ok(Decision::ReadBody(len));
+    }
+    head.out_of_grace()?;
+    match kind {
+        Kind::Current => Ok(Decision::HandedOn),
+        Kind::Ordinary => Ok(Decision::ReturnBody(len)),
+        Kind::Anonymous | Kind::Bypass | Kind::Invalid => Err(Status::BadStateid),
     }
 }
 
 // A reply buffer of under 24 bytes gets 28 before all else; then steps 1 to 4.
-pub fn decide(head: Head, request: &[u8], room: usize) -> Decision
-    ensures { result ≡ decision_of head request.now room }
+#[tactic(auto, unfolding(crate::specs::LayoutReturn::decision_of))]
+pub fn decide(head: Head, request: &[u8], room: usize) -> Result<Decision, Status>
+    ensures { decision_as result ≡ decision_of head request.now room }
 {
     if room < 24 {
-        return Decision::Answered(statuses::NOSPC);
+        return Err(Status::NoSpc);
     }
-    match wire::request::read(request) {
-        Request::Refused(k) => Decision::Answered(k),
-        Request::Bulk => Decision::HandedOn,
+    match wire::request::read(request)? {
+        Request::Bulk => Ok(Decision::HandedOn),
         Request::File { kind, len } => phase(kind, head, len),
-    }
-}
-
-// Whether a body is read.
-fn reads(d: Decision) -> bool
-    ensures { result ≡ reads_body d }
-{
-    match d {
-        Decision::Answered(_) => false,
-        Decision::HandedOn => false,
-        Decision::ReadBody(_) => true,
-        Decision::ReturnBody(_) => true,
-    }
-}
-
-// Whether it is the body of an ordinary return.
-fn ordinary(d: Decision) -> bool
-    ensures { result ≡ is_ordinary d }
-{
-    match d {
-        Decision::Answered(_) => false,
-        Decision::HandedOn => false,
-        Decision::ReadBody(_) => false,
-        Decision::ReturnBody(_) => true,
-    }
-}
-
-// The body's length, 0 where none is read.
-fn len_of(d: Decision) -> usize
-    ensures { result ≡ length_of d }
-{
-    match d {
-        Decision::Answered(_) => 0,
-        Decision::HandedOn => 0,
-        Decision::ReadBody(len) => len,
-        Decision::ReturnBody(len) => len,
-    }
-}
-
-// The status where no body is read, else 0.
-fn status_of(d: Decision) -> u32
-    ensures { result ≡ unread_status d }
-{
-    match d {
-        Decision::Answered(status) => status,
-        Decision::HandedOn => statuses::HANDED_ON,
-        Decision::ReadBody(_) => 0,
-        Decision::ReturnBody(_) => 0,
     }
 }
 
@@ -139,6 +83,13 @@ pub struct Outcome {
 }
 
 impl Outcome {
+    // Where no body is read.
+    fn unread(status: u32, head: Head, client: u64) -> Outcome
+        ensures { result ≡ outcome_of head client (status_only status) }
+    {
+        Outcome::of(head, client, Stateid::none(), Assessment::only(status))
+    }
+
     // As a report was assessed.
     pub(crate) fn of(head: Head, client: u64, stateid: Stateid, a: Assessment) -> Outcome
         ensures { result ≡ outcome_with head client stateid a }
@@ -157,74 +108,67 @@ impl Outcome {
 }
 
 // What the seqid's age says: 10024 older, 10025 newer.
-fn by_age(age: Age) -> u32
-    ensures { result ≡ by_age age }
+fn by_age(age: Age) -> Result<(), Status>
+    ensures { code result ≡ by_age age }
 {
     match age {
-        Age::Same => 0,
-        Age::Older => statuses::OLD_STATEID,
-        Age::Newer => statuses::BAD_STATEID,
+        Age::Same => Ok(()),
+        Age::Older => Err(Status::OldStateid),
+        Age::Newer => Err(Status::BadStateid),
     }
 }
 
 // Step 4 for the stateid `t` of a client that holds `own`.
-fn by_stateid(t: Stateid, own: Stateid) -> u32
-    ensures { result ≡ by_stateid t own }
+fn by_stateid(t: Stateid, own: Stateid) -> Result<(), Status>
+    ensures { code result ≡ by_stateid t own }
 {
-    if !intents::stated(own) {
-        return statuses::BAD_STATEID;
-    }
-    if !own.has_other(t) {
-        return statuses::BAD_STATEID;
+    if !intents::stated(own) || !own.has_other(t) {
+        return Err(Status::BadStateid);
     }
     by_age(wire::seqid::age_of(own.seqid, t.seqid))
 }
 
-// What a file says of a return's client: the status of step 4, which an ordinary return may meet; that of step 6, which an anonymous one may; and the client's
+// What a file says of a return's client: step 4, by which an ordinary return may be barred; step 6, by which an anonymous one may be late; and the client's
 // stateid there, where the return is ordinary.
 #[derive(Clone, Copy)]
 pub struct Claim {
-    pub barred: u32,
-    pub late: u32,
+    pub barred: Result<(), Status>,
+    pub late: Result<(), Status>,
     pub own: Stateid,
 }
 
 // Step 6: 70; 10034.
-fn late(f: File, number: u64, client: u64) -> u32
-    ensures { result ≡ late_on number client f }
+fn late(f: File, number: u64, client: u64) -> Result<(), Status>
+    ensures { code result ≡ late_on number client f }
 {
-    if !f.is(number) {
-        return statuses::STALE;
-    }
+    f.named(number)?;
     let xs = f.intents;
-    if intents::held(xs, client) {
-        return 0;
+    if !intents::held(xs, client) {
+        return Err(Status::ReclaimBad);
     }
-    statuses::RECLAIM_BAD
+    Ok(())
 }
 
 // Of an anonymous return.
 pub fn anonymous_claim(f: File, number: u64, client: u64) -> Claim
-    ensures { result ≡ anonymous_claim number client f }
+    ensures { claim_as result ≡ anonymous_claim number client f }
 {
-    let none = Stateid::none();
     Claim {
-        barred: 0,
+        barred: Ok(()),
         late: late(f, number, client),
-        own: none,
+        own: Stateid::none(),
     }
 }
 
 // Of an ordinary return, for which the request's stateid is read and the client's is looked up, once: 70; 10025; 10024.
 pub fn ordinary_claim(f: File, number: u64, client: u64, request: &[u8]) -> Claim
-    ensures { result ≡ ordinary_claim number client request.now f }
+    ensures { claim_as result ≡ ordinary_claim number client request.now f }
 {
-    if !f.is(number) {
-        let none = Stateid::none();
+    if let Err(status) = f.named(number) {
         return Claim {
-            barred: statuses::STALE,
-            late: 0,
-            own: none,
+            barred: Err(status),
+            late: Ok(()),
+            own: Stateid::none(),
         };
     }
     let xs = f.intents;
@@ -232,14 +176,14 @@ pub fn ordinary_claim(f: File, number: u64, client: u64, request: &[u8]) -> Clai
     let t = wire::stateid::in_request(request);
     Claim {
         barred: by_stateid(t, own),
-        late: 0,
+        late: Ok(()),
         own,
     }
 }
 
-// By the kind of return.
+// By the kind of return, a flag here and below: there is one walk for both kinds, and two types would write it twice.
 fn claimed(f: File, number: u64, client: u64, request: &[u8], returning: bool) -> Claim
-    ensures { result ≡ claim_by number client request.now f returning }
+    ensures { claim_as result ≡ claim_by number client request.now f returning }
 {
     if returning {
         return ordinary_claim(f, number, client, request);
@@ -248,8 +192,8 @@ fn claimed(f: File, number: u64, client: u64, request: &[u8], returning: bool) -
 }
 
 // What is taken of a report that was assessed: an old record reads an ordinary return's for its form alone, and an anonymous one's may meet step 6.
-fn taken(a: Assessment, head: Head, late: u32, returning: bool) -> Assessment
-    ensures { result ≡ taken_by head late a returning }
+fn taken(a: Assessment, head: Head, late: Result<(), Status>, returning: bool) -> Assessment
+    ensures { result ≡ taken_by head (code late) a returning }
 {
     if returning {
         if head.old {
@@ -260,18 +204,18 @@ fn taken(a: Assessment, head: Head, late: u32, returning: bool) -> Assessment
     if a.status != 0 {
         return a;
     }
-    if late != 0 {
-        return Assessment::only(late);
+    match late {
+        Ok(()) => a,
+        Err(status) => Assessment::only(u32::from(status)),
     }
-    a
 }
 
 // Steps 4 to 7 on the file, with one walk of the report for both kinds of return.
 fn assessed(f: File, c: Claim, head: Head, body: &[u8], returning: bool) -> Assessment
-    ensures { result ≡ assessed_by head c (report_of body.now) f returning }
+    ensures { result ≡ assessed_by head (claim_as c) (report_of body.now) f returning }
 {
-    if c.barred != 0 {
-        return Assessment::only(c.barred);
+    if let Err(status) = c.barred {
+        return Assessment::only(u32::from(status));
     }
     let ms = f.mirrors;
     let a = mirroring::blame::assess(ms, body);
@@ -291,20 +235,19 @@ fn raised_if(own: Stateid, status: u32, returning: bool) -> Stateid
     Stateid::none()
 }
 
-// The outcome of what was decided; the file is asked only where the body is read.
-fn outcome_by(d: Decision, f: File, number: u64, head: Head, client: u64, request: &[u8]) -> Outcome
-    ensures { result ≡ outcome_by number head client request.now f d }
+// The outcome of a return whose body, of `len` bytes, is read.
+fn read_outcome(
+    len: usize,
+    returning: bool,
+    f: File,
+    number: u64,
+    head: Head,
+    client: u64,
+    request: &[u8],
+) -> Outcome
+    ensures { result ≡ assessed_outcome number head client request.now f (body_of returning len) }
 {
-    if !reads(d) {
-        return Outcome::of(
-            head,
-            client,
-            Stateid::none(),
-            Assessment::only(status_of(d)),
-        );
-    }
-    let returning = ordinary(d);
-    let body = wire::body::part(request, len_of(d));
+    let body = wire::body::part(request, len);
     let c = claimed(f, number, client, request, returning);
     let a = assessed(f, c, head, body, returning);
     let change = a.change;
@@ -312,6 +255,31 @@ fn outcome_by(d: Decision, f: File, number: u64, head: Head, client: u64, reques
     let mine = c.own;
     let own = raised_if(mine, a.status, returning);
     Outcome::of(next, client, own, a)
+}
+
+// The outcome of what was decided; the file is asked only where the body is read.
+#[tactic(auto, unfolding(crate::specs::LayoutReturn::outcome_by))]
+fn outcome_by(
+    d: Result<Decision, Status>,
+    f: File,
+    number: u64,
+    head: Head,
+    client: u64,
+    request: &[u8],
+) -> Outcome
+    ensures { result ≡ outcome_by number head client request.now f (decision_as d) }
+{
+    let decision = match d {
+        Ok(decision) => decision,
+        Err(status) => {
+            return Outcome::unread(u32::from(status), head, client);
+        }
+    };
+    match decision {
+        Decision::HandedOn => Outcome::unread(statuses::HANDED_ON, head, client),
+        Decision::ReadBody(len) => read_outcome(len, false, f, number, head, client, request),
+        Decision::ReturnBody(len) => read_outcome(len, true, f, number, head, client, request),
+    }
 }
 
 // The reply of a status and a stateid: none is written where the request is handed on.
@@ -325,7 +293,7 @@ pub fn reply(status: u32, t: Stateid, lent: &mut [u8])
 
 // The outcome, with its reply.
 pub fn answer(
-    d: Decision,
+    d: Result<Decision, Status>,
     f: File,
     number: u64,
     head: Head,
@@ -333,7 +301,7 @@ pub fn answer(
     request: &[u8],
     lent: &mut [u8],
 ) -> Outcome
-    ensures { (result ≡ outcome_by number head client request.now f d) × (lent.new ≡ reply_by result.status result.stateid lent.old) }
+    ensures { (result ≡ outcome_by number head client request.now f (decision_as d)) × (lent.new ≡ reply_by result.status result.stateid lent.old) }
 {
     let o = outcome_by(d, f, number, head, client, request);
     let t = o.stateid;

@@ -1,5 +1,4 @@
--- One extent in its place. In this order: two stores that change their order; the bytes of a SCSI extent; the fields of an extent as they are stored by value;
--- what a store in a place gives.
+-- One extent in its place. In this order: a store before others; the bytes of a SCSI extent; what a store in a place gives.
 use Prim.Native.Nat.{ℕ, suc, ◌+◌, ◌*◌, ◌/◌, ◌<◌, ◌≤◌}
 use mathlib.Core.Path.{◌≡◌, refl, sym, ap, ◌∙◌}
 use mathlib.Core.List.{[], ◌∷◌, ◌++◌}
@@ -7,27 +6,21 @@ use mathlib.Core.Bool.{Bool, true, false, cond, ◌&&◌}
 use native.Mathlib.Omega.{arith}
 use borrow.Author.Tests.{lt-ltb, le-ltb}
 use lib.Dec.{ltb}
-use lib.ListN.{length, take, drop, set, replicate}
+use lib.ListN.{length, take, drop, set}
 use lib.Seq.{sets, set_comm, length-sets}
 use Rattle.statuses.specs.Names.{Bytes}
 use Rattle.xdr.specs.Be.{be_bytes}
-use Rattle.xdr.proofs.Be.{length-bytes}
 use Rattle.extents.specs.declared.Extent.{Extent}
 use Rattle.layouts.specs.declared.kinds.Kind.TheVariants.{Scsi}
-use Rattle.layouts.specs.declared.fields.Numbers.{Numbers}
+use Rattle.extents.specs.declared.Numbers.{Numbers}
 use Rattle.layouts.specs.Layout.{handle_size, body_size, held_in, row_bytes}
 use Rattle.layouts.specs.Placing.{scsi, placed, extent_put, length_put}
 use Rattle.layouts.proofs.Sizes.{held-there}
-use Rattle.layouts.proofs.Stores.{sets_then}
 
--- ---- two stores that do not meet
+-- ---- a store before others
 pub set_before : (l : Bytes) (p q : ℕ) (x : Bytes) (y : ℕ) → p < q → set (sets l q x) p y ≡ sets (set l p y) q x
 set_before l p q [] y h = refl
 set_before l p q (a ∷ x) y h = set_before (set l q a) p (suc q) x y (omega arith) ∙ ap (λ (m : Bytes). sets m (suc q) x) (set_comm l q p a y (λ e. omega arith))
-
-sets-before : (l : Bytes) (p q : ℕ) (x y : Bytes) → p + length y ≤ q → sets (sets l q x) p y ≡ sets (sets l p y) q x
-sets-before l p q x [] h = refl
-sets-before l p q x (b ∷ y) h = ap (λ (m : Bytes). sets m (suc p) y) (set_before l p q x b (omega arith)) ∙ sets-before (set l p b) (suc p) q x y (omega arith)
 
 -- ---- the bytes of a SCSI extent
 pub scsi-bytes : (e : Extent) → row_bytes Scsi (scsi e) ≡ e.device ++ (be_bytes 8 e.offset ++ (be_bytes 8 e.len ++ (be_bytes 8 e.storage ++ be_bytes 4 e.state)))
@@ -37,48 +30,6 @@ scsi-bytes e = refl
 pub scsi-size : (n : ℕ) → body_size Scsi n ≡ 4 + 44 * n
 unfolding body_size handle_size
 scsi-size n = refl
-
-zeros : (d : Bytes) (at : ℕ) → sets (sets d at (be_bytes 8 0)) (at + 8) (be_bytes 8 0) ≡ sets d at (replicate 16 0)
-unfolding be_bytes
-zeros d at = sets_then d at 8 (at + 8) (be_bytes 8 0) (be_bytes 8 0) (length-bytes 8 0) refl
-
-fields : (d : Bytes) (at : ℕ) (e : Extent) → length e.device ≡ 16
-    → sets (sets (sets (sets (sets d at e.device) (at + 16) (be_bytes 8 e.offset)) (at + 24) (be_bytes 8 e.len)) (at + 32) (be_bytes 8 e.storage)) (at + 40) (be_bytes 4 e.state)
-    ≡ sets d at (row_bytes Scsi (scsi e))
-fields d at e h =
-    let o : Bytes = be_bytes 8 e.offset in
-    let l : Bytes = be_bytes 8 e.len in
-    let s : Bytes = be_bytes 8 e.storage in
-    let t : Bytes = be_bytes 4 e.state in
-    let d1 : Bytes = sets d at e.device in
-    let d2 : Bytes = sets d1 (at + 16) o in
-    let d3 : Bytes = sets d2 (at + 24) l in
-    sets_then d3 (at + 32) 8 (at + 40) s t (length-bytes 8 e.storage) (omega arith)
-    ∙ sets_then d2 (at + 24) 8 (at + 32) l (s ++ t) (length-bytes 8 e.len) (omega arith)
-    ∙ sets_then d1 (at + 16) 8 (at + 24) o (l ++ (s ++ t)) (length-bytes 8 e.offset) (omega arith)
-    ∙ sets_then d at 16 (at + 16) e.device (o ++ (l ++ (s ++ t))) h refl
-    ∙ ap (sets d at) (sym (scsi-bytes e))
-
--- ---- the fields as they are stored by value: the offset, the device id (or zeros for it and for the storage offset), the length, the storage offset, the state
-pub by_value : (bare : Bool) (d : Bytes) (at : ℕ) (device : Bytes) (n : Numbers) → length device ≡ 16
-    → sets
-    (cond bare
-    (sets (cond bare (sets (sets (sets (sets d (at + 16) (be_bytes 8 n.offset)) at (be_bytes 8 0)) (at + 8) (be_bytes 8 0)) (at + 32) (be_bytes 8 0)) (sets (sets d (at + 16) (be_bytes 8 n.offset)) at device)) (at + 24) (be_bytes 8 n.len))
-    (sets (sets (cond bare (sets (sets (sets (sets d (at + 16) (be_bytes 8 n.offset)) at (be_bytes 8 0)) (at + 8) (be_bytes 8 0)) (at + 32) (be_bytes 8 0)) (sets (sets d (at + 16) (be_bytes 8 n.offset)) at device)) (at + 24) (be_bytes 8 n.len)) (at + 32) (be_bytes 8 n.storage)))
-    (at + 40) (be_bytes 4 n.state)
-    ≡ sets d at (row_bytes Scsi (scsi (placed device n bare)))
-by_value true d at device n h =
-    let o : Bytes = be_bytes 8 n.offset in
-    let l : Bytes = be_bytes 8 n.len in
-    let t : Bytes = be_bytes 4 n.state in
-    let z : Bytes = be_bytes 8 0 in
-    let zz : Bytes = replicate 16 0 in
-    ap (λ (m : Bytes). sets (sets (sets m (at + 32) z) (at + 24) l) (at + 40) t) (zeros (sets d (at + 16) o) at ∙ sets-before d at (at + 16) o zz (omega arith))
-    ∙ ap (λ (m : Bytes). sets m (at + 40) t) (sets-before (sets (sets d at zz) (at + 16) o) (at + 24) (at + 32) z l (omega (arith, length-bytes 8 n.len)))
-    ∙ fields d at (placed device n true) refl
-by_value false d at device n h =
-    ap (λ (m : Bytes). sets (sets (sets m (at + 24) (be_bytes 8 n.len)) (at + 32) (be_bytes 8 n.storage)) (at + 40) (be_bytes 4 n.state)) (sets-before d at (at + 16) (be_bytes 8 n.offset) device (omega arith))
-    ∙ fields d at (placed device n false) h
 
 -- ---- a store in a place
 module _ (d : Bytes) (i : ℕ) (devices : Bytes) (row : ℕ) (n : Numbers) (bare : Bool) where

@@ -9,6 +9,11 @@ use Rattle.statuses.specs.Names.{Bytes}
 use Rattle.layouts.specs.Layout.{handle_size, extent_size, body_size, held_in}
 use Rattle.layouts.specs.Columns.{handle_count}
 
+pub handle-small : (k : Kind) → handle_size k ≤ 4
+unfolding handle_size
+handle-small Scsi = omega arith
+handle-small Rdma = omega arith
+
 pub size_none : (k : Kind) → body_size k 0 ≡ 4
 unfolding handle_size body_size
 size_none Scsi = omega arith

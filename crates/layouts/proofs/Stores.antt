@@ -1,17 +1,17 @@
 -- The stores of one extent, and of all.
 use Prim.Native.Nat.{ℕ, zero, suc, ◌+◌, ◌*◌, ◌<◌, ◌≤◌}
-use mathlib.Core.Path.{◌≡◌, refl, sym, ap, ◌∙◌}
+use mathlib.Core.Path.{◌≡◌, refl, sym, ◌∙◌}
 use mathlib.Core.List.{List, [], ◌∷◌, ◌++◌, append_assoc, append-nil}
 use native.Mathlib.Omega.{arith}
 use native.Mathlib.Numerals.{add-one}
 use lib.ListN.{length, take, drop, length-append, length-drop}
-use lib.Seq.{sets, length-take-le, drop-drop, take-add}
+use lib.Seq.{sets, length-take-le}
 use Rattle.xdr.specs.Be.{be_bytes}
 use Rattle.xdr.proofs.Be.{sets-append, length-bytes}
 use Rattle.extents.specs.Extents.{list_from}
 use Rattle.extents.proofs.Turns.{one_more}
 use Rattle.layouts.specs.declared.kinds.Kind.{Kind}
-use Rattle.layouts.specs.declared.fields.Numbers.{Numbers}
+use Rattle.extents.specs.declared.Numbers.{Numbers}
 use Rattle.statuses.specs.Names.{Bytes}
 use Rattle.layouts.specs.Layout.{Row, handle_size, extent_size, body_size, numbers_of, numbers_bytes, row_bytes, rows_bytes}
 use Rattle.layouts.proofs.Sizes.{span, size-span, span_none, span_more}
@@ -21,13 +21,6 @@ pub sets_then : (l : Bytes) (i n j : ℕ) (a b : Bytes) → length a ≡ n → i
 sets_then l i n j a b h e =
     let p : i + length a ≡ j = omega arith in
     rw (sets-append l i a b, p)
-
-pub sixteen : (d : Bytes) (at : ℕ) (s : Bytes) (from : ℕ) → from + 16 ≤ length s
-    → sets (sets d at (take 8 (drop from s))) (at + 8) (take 8 (drop (from + 8) s)) ≡ sets d at (take 16 (drop from s))
-sixteen d at s from h =
-    let n : length (take 8 (drop from s)) ≡ 8 = length-take-le 8 (drop from s) (rw length-drop (omega arith)) in
-    rw (← drop-drop 8 from s) (sets_then d at 8 (at + 8) (take 8 (drop from s)) (take 8 (drop 8 (drop from s))) n refl
-    ∙ ap (sets d at) (sym (take-add 8 8 (drop from s))))
 
 -- five numbers, the handle in as many bytes as its kind gives it
 pub five-numbers : (k : Kind) (d : Bytes) (at rest : ℕ) → rest ≡ at + handle_size k → (n : Numbers) (handle : ℕ)

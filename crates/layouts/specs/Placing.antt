@@ -6,7 +6,7 @@ use Rattle.statuses.specs.Names.{Bytes}
 use Rattle.xdr.specs.Be.{be_bytes}
 use Rattle.extents.specs.declared.Extent.{Extent}
 use Rattle.layouts.specs.declared.kinds.Kind.TheVariants.{Scsi}
-use Rattle.layouts.specs.declared.fields.Numbers.{Numbers}
+use Rattle.extents.specs.declared.Numbers.{Numbers}
 use Rattle.layouts.specs.Layout.{Row, body_size, held_in, row_bytes}
 
 abbrev pub scsi : Extent → Row

@@ -4,51 +4,23 @@ ghost use Rattle.std.specs.Prelude.{◌≡◌};
 ghost use Rattle.layouts.specs.Placing.{extent_put, length_put};
 
 use crate::fields;
-use crate::fields::Numbers;
 use crate::kinds::Kind;
+use extents::Numbers;
 
 // Stores an extent in place i: its device id stands in a row of `devices`; one that is `bare` gets zeros for its device id and its storage offset.
-pub fn put_extent(
-    d: &mut [u8],
-    i: usize,
-    devices: &[u8],
-    row: usize,
-    offset: u64,
-    len: u64,
-    storage: u64,
-    state: u32,
-    bare: bool,
-)
-    ensures { d.new ≡ extent_put d.old i devices.now row (record { offset = offset; len = len; storage = storage; state = state }) bare }
+pub fn put_extent(d: &mut [u8], i: usize, devices: &[u8], row: usize, n: Numbers, bare: bool)
+    ensures { d.new ≡ extent_put d.old i devices.now row n bare }
 {
-    if fields::held(Kind::Scsi, d) <= i {
-        return;
+    if i < Kind::Scsi.held(d) && row < devices.len() / 16 {
+        fields::put_extent(d, Kind::Scsi.body_size(i), devices, 16 * row, n, bare);
     }
-    if devices.len() / 16 <= row {
-        return;
-    }
-    let n = Numbers {
-        offset,
-        len,
-        storage,
-        state,
-    };
-    fields::put_extent(
-        d,
-        fields::body_size(Kind::Scsi, i),
-        devices,
-        16 * row,
-        n,
-        bare,
-    );
 }
 
 // Stores the length of the extent in place i.
 pub fn put_length(d: &mut [u8], i: usize, len: u64)
     ensures { d.new ≡ length_put d.old i len }
 {
-    if fields::held(Kind::Scsi, d) <= i {
-        return;
+    if i < Kind::Scsi.held(d) {
+        fields::put_length(d, Kind::Scsi.body_size(i), len);
     }
-    fields::put_length(d, fields::body_size(Kind::Scsi, i), len);
 }

@@ -17,11 +17,8 @@ use Rattle.places.specs.Places.{first, bump, is_found, place_or}
 use Rattle.wire.specs.Stateid.{new_stateid, bad_other}
 use Rattle.mirroring.specs.Devices.{mirrors_in, bad_mirrors}
 use Rattle.mirroring.specs.Mirrors.{placed_mirrors, enrolled_of}
-use Rattle.files.specs.File.{no_file, blank_file, is_file, is_vacant, file_of, file_answered, opened_file, reclaimed_file, closed_file, repaired_file, proxy_added_file, proxy_removed_file, stated_file, uses_stateid, forgettable, restarted_file, ended_file, source_of}
-use Rattle.places.specs.declared.Found.{Found}
-use Rattle.places.specs.declared.Found.TheVariants.{At, Nothing}
+use Rattle.files.specs.File.{FileAnswered, no_file, blank_file, is_file, is_vacant, file_of, file_answered, opened_file, reclaimed_file, closed_file, repaired_file, proxy_added_file, proxy_removed_file, stated_file, uses_stateid, forgettable, restarted_file, ended_file, source_of}
 use Rattle.files.specs.declared.file.File.{File}
-use Rattle.files.specs.declared.file.FileAnswered.{FileAnswered}
 use Rattle.files.specs.declared.head.Head.{Head}
 use Rattle.places.proofs.Slots.{All, Slots, Focus, Hit, slots_map, slots-any, slots-chosen, slots_at, focus, pairs-map, missing, found}
 use Rattle.places.proofs.Sets.{true-false, first-nothing, none-at, first-no, rest-no}
@@ -35,6 +32,7 @@ use Rattle.recovery.specs.declared.record.Record.{Record}
 use Rattle.ledger.proofs.Relation.{FileIs, NoFile, Matches, branch, FileKept, FileAgrees, RecordAgrees}
 use Rattle.ledger.proofs.OneFile.{some-taken, file-opened, file-reclaimed, file-closed, file-repaired, file-proxy-added, file-proxy-removed, file-restarted, file-ended, file-source, file-new}
 use Rattle.ledger.proofs.Stated.{uses-file, uses-none, file-set-up}
+use Rattle.std.specs.Prelude.{Option, Some, None}
 
 -- ---- the file that a call names
 is-file : (g : Bool) (n : ℕ) (f : File) (w : Row) → FileIs g f w → is_file n f ≡ is_row n w
@@ -64,7 +62,7 @@ map-numbers g k [] = refl
 map-numbers g k (w ∷ ws) = rw (k w, map-numbers g k ws)
 
 -- where there is no such file, the last place is another's
-pub not_there : (r : Record) (n : ℕ) → first (is_file n) r.files ≡ Nothing → is_file n (file_at n r) ≡ false
+pub not_there : (r : Record) (n : ℕ) → first (is_file n) r.files ≡ None → is_file n (file_at n r) ≡ false
 not_there r n e = none-at (is_file n) no_file refl r.files (place_in n r) (first-nothing (is_file n) r.files e)
 
 -- where there is one, the place is its place
@@ -229,25 +227,25 @@ pulled-slots x (Slots.rest All.all_nil) = Slots.rest (All.all_cons refl All.all_
 pulled-slots {g} x (Slots.rest (All.all_cons {x = y} {xs = ys} e f)) = subst (λ (b : Bool). Slots (FileIs g) NoFile (cond (not b) (blank_file ∷ y ∷ ys) (y ∷ pulled (y ∷ ys))) []) (sym e) (Slots.rest (All.all_cons refl (All.all_cons e f)))
 pulled-slots {g} x (Slots.item {x = f} {y = w} e s) = rw (is-used g f w e) (Slots.item e (pulled-slots f s))
 
-no-such-place : {i : ℕ} → Nothing ≡ At i → ⊥
+no-such-place : {i : ℕ} → None ≡ Some i → ⊥
 no-such-place e = true-false (sym (ap is_found e))
 
-none_first : (n : ℕ) {fs : List File} → All NoFile fs → first (is_file n) fs ≡ Nothing
+none_first : (n : ℕ) {fs : List File} → All NoFile fs → first (is_file n) fs ≡ None
 unfolding first
 none_first n All.all_nil = refl
 none_first n (All.all_cons {x} e f) = rw (is-no-file n x e, none_first n f)
 
 -- the file n, at its place i, is taken out; b is whether it is the first
-taken_out : {g : Bool} {fs : List File} {ws : List Row} (n i : ℕ) → Slots (FileIs g) NoFile fs ws → first (is_file n) fs ≡ At i → Slots (FileIs g) NoFile (without_file i fs) (discard (is_row n) ws)
+taken_out : {g : Bool} {fs : List File} {ws : List Row} (n i : ℕ) → Slots (FileIs g) NoFile fs ws → first (is_file n) fs ≡ Some i → Slots (FileIs g) NoFile (without_file i fs) (discard (is_row n) ws)
 unfolding first discard
 taken_out n i (Slots.rest e) k = absurd (no-such-place (sym (none_first n e) ∙ k))
 taken_out {g} n i (Slots.item {x = f} {y = w} {xs = fs} {ys = ws} e s) k = rw (← is-file g n f w e) (by (is_file n f) k (λ j q. taken_out n j s q))
   where
-    later : (o : Found) → first (is_file n) fs ≡ o → bump o ≡ At i → ((j : ℕ) → first (is_file n) fs ≡ At j → Slots (FileIs g) NoFile (without_file j fs) (discard (is_row n) ws)) → Slots (FileIs g) NoFile (without_file i (f ∷ fs)) (w ∷ discard (is_row n) ws)
-    later Nothing q m t = absurd (no-such-place m)
-    later (At j) q m t = rw (← ap (place_or 63) m) (Slots.item e (t j q))
+    later : (o : Option ℕ) → first (is_file n) fs ≡ o → bump o ≡ Some i → ((j : ℕ) → first (is_file n) fs ≡ Some j → Slots (FileIs g) NoFile (without_file j fs) (discard (is_row n) ws)) → Slots (FileIs g) NoFile (without_file i (f ∷ fs)) (w ∷ discard (is_row n) ws)
+    later None q m t = absurd (no-such-place m)
+    later (Some j) q m t = rw (← ap (place_or 63) m) (Slots.item e (t j q))
 
-    by : (b : Bool) → cond b (At 0) (bump (first (is_file n) fs)) ≡ At i → ((j : ℕ) → first (is_file n) fs ≡ At j → Slots (FileIs g) NoFile (without_file j fs) (discard (is_row n) ws)) → Slots (FileIs g) NoFile (without_file i (f ∷ fs)) (cond b ws (w ∷ discard (is_row n) ws))
+    by : (b : Bool) → cond b (Some 0) (bump (first (is_file n) fs)) ≡ Some i → ((j : ℕ) → first (is_file n) fs ≡ Some j → Slots (FileIs g) NoFile (without_file j fs) (discard (is_row n) ws)) → Slots (FileIs g) NoFile (without_file i (f ∷ fs)) (cond b ws (w ∷ discard (is_row n) ws))
     by true m t = rw (← ap (place_or 63) m) (pulled-slots f s)
     by false m t = later (first (is_file n) fs) refl m t
 
@@ -310,7 +308,7 @@ enter-length : (x : File) (fs : List File) → length (enter x fs) ≡ length fs
 unfolding enter
 enter-length x fs = raised-length x (room_in fs) fs
 
-first-free : {g : Bool} {fs : List File} {ws : List Row} → Slots (FileIs g) NoFile fs ws → length ws < length fs → first is_vacant fs ≡ At (length ws)
+first-free : {g : Bool} {fs : List File} {ws : List Row} → Slots (FileIs g) NoFile fs ws → length ws < length fs → first is_vacant fs ≡ Some (length ws)
 unfolding first
 first-free (Slots.rest All.all_nil) k = absurd (omega arith)
 first-free (Slots.rest (All.all_cons e f)) k = rw e

@@ -13,31 +13,25 @@ use Rattle.wire.specs.Request.{body_of}
 use Rattle.wire.specs.Stateid.{new_stateid, stateid_in}
 use Rattle.places.specs.Lists.{chosen}
 use Rattle.places.specs.Places.{first, bump, place_or}
-use Rattle.places.specs.declared.Found.{Found}
-use Rattle.places.specs.declared.Found.TheVariants.{At, Nothing}
 use Rattle.places.proofs.Loops.{found_below}
 use Rattle.places.proofs.Sets.{true-false}
 use Rattle.places.proofs.Slots.{chosen-length, slots-chosen, pairs-length}
-use Rattle.mirroring.specs.Mirrors.{enrolled_of}
-use Rattle.mirroring.specs.declared.enrol.Enrolled.{Enrolled}
+use Rattle.mirroring.specs.Mirrors.{enrolled_of, Enrolled}
 use Rattle.intents.specs.Intents.{first_taken, unreclaimed_intent}
 use Rattle.files.specs.Counts.{recounted}
-use Rattle.files.specs.File.{no_file, blank_file, file_of, is_file, is_vacant, is_listed, is_ready, moved_head, opened_file, reclaimed_file, closed_file, repaired_file, proxy_added_file, proxy_removed_file, stated_file, forgettable, restarted_file, ended_file}
+use Rattle.files.specs.File.{FileAnswered, no_file, blank_file, file_of, is_file, is_vacant, is_listed, is_ready, moved_head, opened_file, reclaimed_file, closed_file, repaired_file, proxy_added_file, proxy_removed_file, stated_file, forgettable, restarted_file, ended_file}
 use Rattle.files.specs.declared.file.File.{File}
-use Rattle.files.specs.declared.file.FileAnswered.{FileAnswered}
 use Rattle.files.specs.declared.head.Edition.{Edition}
 use Rattle.files.specs.declared.head.Head.{Head}
 use Rattle.files.proofs.Counting.{moved_same, same_taken}
-use Rattle.layoutreturn.specs.LayoutReturn.{decision_of}
-use Rattle.layoutreturn.specs.declared.Decision.{Decision}
-use Rattle.layoutreturn.specs.declared.Decision.TheVariants as decision
+use Rattle.layoutreturn.specs.LayoutReturn.{decision_of, Decision}
+use Rattle.layoutreturn.specs.LayoutReturn as decision
 use Rattle.recovery.specs.Calls.{Call, register, opening, set_up, reclaim, close, repaired, add_proxy, remove_proxy, forget, end_grace, restart, layout_return, listing}
 use Rattle.recovery.specs.Counts.{counts}
 use Rattle.recovery.specs.LayoutReturn.{answered_by, report_file, return_file, reported_of, ordinary_of, returned_by, layoutreturn_of}
-use Rattle.recovery.specs.Record.{fresh_as, with_files, answered, place_in, file_at, on_place, open_of, is_barred, set_up_of, reclaim_of, close_of, repaired_of, add_proxy_of, remove_proxy_of, raised, room_in, enter, pulled, without_file, is_full, register_with, register_of, forgets, forget_of, ended_head, end_of, restart_of, is_wanted}
+use Rattle.recovery.specs.Record.{Answered, fresh_as, with_files, answered, place_in, file_at, on_place, open_of, is_barred, set_up_of, reclaim_of, close_of, repaired_of, add_proxy_of, remove_proxy_of, raised, room_in, enter, pulled, without_file, is_full, register_with, register_of, forgets, forget_of, ended_head, end_of, restart_of, is_wanted}
 use Rattle.recovery.specs.declared.counts.Counts.{Counts}
 use Rattle.recovery.specs.declared.listing.Listing.TheVariants.{Resilver, Offered}
-use Rattle.recovery.specs.declared.record.Answered.{Answered}
 use Rattle.recovery.specs.declared.record.Record.{Record}
 use Rattle.ledger.specs.Counts.{CountsAgree}
 use Rattle.ledger.specs.Ledger.{Ledger, no_rows, feed, is_on}
@@ -46,6 +40,7 @@ use Rattle.ledger.proofs.Calls.{same_test, free-not-on}
 use Rattle.ledger.proofs.History.{step-agrees, after-all, fresh-matches}
 use Rattle.ledger.proofs.OneCall.{Does, keeps, makes, open-does, set-up-does, reclaim-does, close-does, repaired-does, add-proxy-does, remove-proxy-does, report-does, return-does}
 use Rattle.ledger.proofs.Relation.{Matches}
+use Rattle.std.specs.Prelude.{Option, Some, None}
 
 -- ---- how many of a list pass
 abbrev one : Bool → ℕ
@@ -80,15 +75,15 @@ module _ {A : Type 0} (p : A → Bool) where
   many-map g e [] = refl
   many-map g e (x ∷ xs) = omega (arith, many-cons x xs, many-cons (g x) (map g xs), many-map g e xs, ap one (e x))
 
-  first_passes : (d : A) (xs : List A) (i : ℕ) → first p xs ≡ At i → p (get_or xs i d) ≡ true
+  first_passes : (d : A) (xs : List A) (i : ℕ) → first p xs ≡ Some i → p (get_or xs i d) ≡ true
   unfolding first
   first_passes d [] i e = let z : ◌≡◌ {A = ℕ} 0 1 = cc in absurd (omega arith)
   first_passes d (x ∷ xs) i e = by (p x) refl (first p xs) (λ j q. first_passes d xs j q) e
     where
-      by : (b : Bool) → p x ≡ b → (o : Found) → ((j : ℕ) → o ≡ At j → p (get_or xs j d) ≡ true) → cond b (At 0) (bump o) ≡ At i → p (get_or (x ∷ xs) i d) ≡ true
+      by : (b : Bool) → p x ≡ b → (o : Option ℕ) → ((j : ℕ) → o ≡ Some j → p (get_or xs j d) ≡ true) → cond b (Some 0) (bump o) ≡ Some i → p (get_or (x ∷ xs) i d) ≡ true
       by true t o q k = let z : 0 ≡ i = cc in rw (← z) t
-      by false t (At j) q k = let z : suc j ≡ i = cc in rw (← z) (q j refl)
-      by false t Nothing q k = let z : ◌≡◌ {A = ℕ} 0 1 = cc in absurd (omega arith)
+      by false t (Some j) q k = let z : suc j ≡ i = cc in rw (← z) (q j refl)
+      by false t None q k = let z : ◌≡◌ {A = ℕ} 0 1 = cc in absurd (omega arith)
 
 -- a file is entered from the place i down, or taken out
 module _ (p : File → Bool) where
@@ -151,9 +146,9 @@ place_inside : (n : ℕ) (r : Record) → length r.files ≡ 64 → place_in n r
 unfolding place_in
 place_inside n r long = by (first (is_file n) r.files) refl
   where
-    by : (o : Found) → first (is_file n) r.files ≡ o → place_or 63 o < 64
-    by (At k) e = omega (arith, long, found_below (is_file n) r.files k e)
-    by Nothing e = omega arith
+    by : (o : Option ℕ) → first (is_file n) r.files ≡ o → place_or 63 o < 64
+    by (Some k) e = omega (arith, long, found_below (is_file n) r.files k e)
+    by None e = omega arith
 
 on-place : (n : ℕ) (h : File → FileAnswered) (r : Record) → length r.files ≡ 64 → Counted r → Does r.head (file_at n r) (h (file_at n r)) → Counted (on_place n h r).after
 on-place n h r long c k =
@@ -200,9 +195,9 @@ room-free : (r : Record) → length r.files ≡ 64 → is_full r ≡ false → (
 unfolding room_in
 room-free r long e = by (first is_vacant r.files) refl
   where
-    by : (o : Found) → first is_vacant r.files ≡ o → (place_or 63 o < 64) × (is_listed (get_or r.files (place_or 63 o) no_file) ≡ false)
-    by (At k) q = (omega (arith, long, found_below is_vacant r.files k q), unused (get_or r.files k no_file) (first_passes is_vacant no_file r.files k q))
-    by Nothing q = (omega arith, ap (λ u. cond u (get_or r.files 63 no_file).marked false) e)
+    by : (o : Option ℕ) → first is_vacant r.files ≡ o → (place_or 63 o < 64) × (is_listed (get_or r.files (place_or 63 o) no_file) ≡ false)
+    by (Some k) q = (omega (arith, long, found_below is_vacant r.files k q), unused (get_or r.files k no_file) (first_passes is_vacant no_file r.files k q))
+    by None q = (omega arith, ap (λ u. cond u (get_or r.files 63 no_file).marked false) e)
 
 entered : (x : File) (r : Record) → length r.files ≡ 64 → is_full r ≡ false → is_listed x ≡ false → Counted r → Counted (with_files (enter x r.files) r)
 unfolding enter

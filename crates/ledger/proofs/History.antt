@@ -14,11 +14,10 @@ use Rattle.files.specs.Head.{is_old}
 use Rattle.files.specs.declared.file.File.{File}
 use Rattle.recovery.specs.Calls.{Call, register, opening, set_up, reclaim, close, repaired, add_proxy, remove_proxy, forget, end_grace, restart, layout_return, listing, Answer, said, listed, lend}
 use Rattle.ledger.specs.Ledger.{Row, Ledger, no_rows, judge, apply, accepted, feed, is_on}
-use Rattle.recovery.specs.Record.{fresh_as}
+use Rattle.recovery.specs.Record.{Answered, fresh_as}
 use Rattle.ledger.specs.History.{step_of, step, answers, verdicts, record_after, ledger_after}
 use Rattle.ledger.specs.Demand3.{ledger_of, Demand3}
 use Rattle.recovery.specs.declared.record.Record.{Record}
-use Rattle.recovery.specs.declared.record.Answered.{Answered}
 use Rattle.ledger.proofs.Relation.{FileIs, NoFile, Matches, RecordAgrees}
 use Rattle.ledger.proofs.OneFile.{few-devices}
 use Rattle.ledger.proofs.Calls.{open-agrees, set-up-agrees, reclaim-agrees, close-agrees, repaired-agrees, add-proxy-agrees, remove-proxy-agrees, forget-agrees, register-agrees, end-agrees, restart-agrees, list-agrees}

@@ -13,8 +13,6 @@ use Rattle.wire.specs.Stateid.{no_stateid}
 use Rattle.wire.specs.declared.stateid.Stateid.{Stateid}
 use Rattle.places.specs.Lists.{any}
 use Rattle.places.specs.Places.{first, is_found, left_out}
-use Rattle.places.specs.declared.Found.{Found}
-use Rattle.places.specs.declared.Found.TheVariants.{At, Nothing}
 use Rattle.mirroring.specs.Mirrors.{is_device, has_proxy, with_proxy, without_proxy}
 use Rattle.mirroring.specs.Blame.{status_only, errors_assessed, assessment_of}
 use Rattle.mirroring.specs.TotalsSteps.{mirror_totals}
@@ -23,15 +21,15 @@ use Rattle.mirroring.specs.declared.blame.Assessment.{Assessment}
 use Rattle.mirroring.specs.declared.blame.Change.{Change}
 use Rattle.intents.specs.Intents.{no_intent, intent_of, is_intent, is_free, first_taken, is_stated, stateid_at}
 use Rattle.files.specs.Counts.{moved_by}
-use Rattle.files.specs.File.{is_file, standing_of, moved_head, unreclaimed_bar, file_answered, becomes, of_file, takes, opens, opened_file, reclaims, reclaimed_file, leaves, closed_file, repaired_file, mended_file, proxy_added_file, proxy_removed_file, states, stated_file, changed_file, raised_file, head_after, with_intents, with_mirrors}
+use Rattle.files.specs.File.{FileAnswered, is_file, standing_of, moved_head, unreclaimed_bar, file_answered, becomes, of_file, takes, opens, opened_file, reclaims, reclaimed_file, leaves, closed_file, repaired_file, mended_file, proxy_added_file, proxy_removed_file, states, stated_file, changed_file, raised_file, head_after, with_intents, with_mirrors}
 use Rattle.files.specs.declared.counts.Standing.{Standing}
 use Rattle.files.specs.declared.file.File.{File}
-use Rattle.files.specs.declared.file.FileAnswered.{FileAnswered}
 use Rattle.files.specs.declared.head.Head.{Head}
 use Rattle.files.proofs.Counting.{moved_same, moved-reclaimed, moved-stated, raised-stands}
 use Rattle.layoutreturn.specs.LayoutReturn.{of_client, bar_on, in_edition, return_on, raised_on, outcome_on, report_outcome, return_outcome}
 use Rattle.recovery.specs.LayoutReturn.{answered_by}
 use Rattle.ledger.proofs.Reported.{assessed_file, nothing-changed, whole-status, whole-report, malformed-report}
+use Rattle.std.specs.Prelude.{Option, Some, None}
 
 -- ---- THE LAW of a call on the file f
 pub data Does (d : Head) (f : File) : FileAnswered → Type 0 where
@@ -53,25 +51,25 @@ module _ (d : Head) (f : File) where
   remirrored ms = makes d _ (moved_same f d)
 
   -- ---- the calls
-  taking : (c : ℕ) (o : Found) → Does d f (takes c d f o)
-  taking c Nothing = keeps 28
-  taking c (At i) = becoming (with_intents (set f.intents i (intent_of c)) f)
+  taking : (c : ℕ) (o : Option ℕ) → Does d f (takes c d f o)
+  taking c None = keeps 28
+  taking c (Some i) = becoming (with_intents (set f.intents i (intent_of c)) f)
 
-  opening-by : (c : ℕ) (o : Found) → Does d f (opens c d f o)
-  opening-by c (At i) = keeps 0
-  opening-by c Nothing = taking c (first is_free f.intents)
+  opening-by : (c : ℕ) (o : Option ℕ) → Does d f (opens c d f o)
+  opening-by c (Some i) = keeps 0
+  opening-by c None = taking c (first is_free f.intents)
 
-  reclaiming : (c : ℕ) (o : Found) → Does d f (reclaims c d f o)
-  reclaiming c Nothing = keeps 10034
-  reclaiming c (At i) = makes d _ (moved-reclaimed c f d)
+  reclaiming : (c : ℕ) (o : Option ℕ) → Does d f (reclaims c d f o)
+  reclaiming c None = keeps 10034
+  reclaiming c (Some i) = makes d _ (moved-reclaimed c f d)
 
-  leaving : (o : Found) → Does d f (leaves d f o)
-  leaving Nothing = keeps 10025
-  leaving (At i) = either (unreclaimed_bar d.grace (get_or f.intents i no_intent).reclaimed) (keeps 10025) (becoming (with_intents (left_out no_intent i f.intents) f))
+  leaving : (o : Option ℕ) → Does d f (leaves d f o)
+  leaving None = keeps 10025
+  leaving (Some i) = either (unreclaimed_bar d.grace (get_or f.intents i no_intent).reclaimed) (keeps 10025) (becoming (with_intents (left_out no_intent i f.intents) f))
 
-  stating : (c : ℕ) (t : Stateid) (b : Bool) (o : Found) → Does d f (states c t b d f o)
-  stating c t b Nothing = keeps 10025
-  stating c t b (At i) = either (is_stated (stateid_at f.intents (At i))) (keeps 17) (either b (keeps 22) (makes d _ (moved-stated c t f d)))
+  stating : (c : ℕ) (t : Stateid) (b : Bool) (o : Option ℕ) → Does d f (states c t b d f o)
+  stating c t b None = keeps 10025
+  stating c t b (Some i) = either (is_stated (stateid_at f.intents (Some i))) (keeps 17) (either b (keeps 22) (makes d _ (moved-stated c t f d)))
 
   pub open-does : (n c : ℕ) → Does d f (opened_file n d c f)
   unfolding opened_file

@@ -10,13 +10,12 @@ use lib.Seq.{set-get_or, map-set_same}
 use lib.Dec.{eqb, ltb}
 use Rattle.reports.specs.Statistics.{Statistic}
 use Rattle.reports.specs.Report.{Report, Whole, Malformed, report_of, without_statistics, over}
-use Rattle.wire.specs.Request.{request_of, body_of}
+use Rattle.wire.specs.Request.{Request, request_of, body_of}
 use Rattle.wire.specs.Stateid.{no_stateid, stateid_in}
 use Rattle.wire.specs.declared.stateid.Stateid.{Stateid}
 use Rattle.wire.specs.declared.request.Kind.{Kind}
 use Rattle.wire.specs.declared.request.Kind.TheVariants as kind
-use Rattle.wire.specs.declared.request.Request.{Request}
-use Rattle.wire.specs.declared.request.Request.TheVariants as request
+use Rattle.wire.specs.Request as request
 use Rattle.places.specs.Places.{first, is_found}
 use Rattle.places.proofs.Sets.{true-false}
 use Rattle.intents.specs.Intents.{is_intent, is_stated, stated_if}
@@ -25,14 +24,11 @@ use Rattle.mirroring.specs.Totals.{no_totals}
 use Rattle.mirroring.specs.Blame.{status_only, with_totals, errors_assessed, assessment_of}
 use Rattle.mirroring.specs.declared.blame.Assessment.{Assessment}
 use Rattle.mirroring.specs.declared.totals.Totals.{Totals}
-use Rattle.files.specs.File.{no_file, is_file, with_intents, raised_file}
+use Rattle.files.specs.File.{FileAnswered, no_file, is_file, with_intents, raised_file}
 use Rattle.files.specs.declared.file.File.{File}
-use Rattle.files.specs.declared.file.FileAnswered.{FileAnswered}
 use Rattle.files.specs.declared.head.Head.{Head}
 use Rattle.files.proofs.Changing.{unchanged, told-nothing}
-use Rattle.layoutreturn.specs.LayoutReturn.{handed_on_code, phase_of, decided, decision_of, of_intent, if_whole, report_on, bar_on, in_edition, return_on, raised_on, outcome_on, reply_by}
-use Rattle.layoutreturn.specs.declared.Decision.{Decision}
-use Rattle.layoutreturn.specs.declared.Decision.TheVariants.{Answered, HandedOn, ReadBody, ReturnBody}
+use Rattle.layoutreturn.specs.LayoutReturn.{handed_on_code, phase_of, decided, decision_of, of_intent, if_whole, report_on, bar_on, in_edition, return_on, raised_on, outcome_on, reply_by, Decision, Answered, HandedOn, ReadBody, ReturnBody}
 use Rattle.layoutreturn.specs.declared.Outcome.{Outcome}
 use Rattle.recovery.specs.Calls.{layout_return, Answer, replied, handed_on}
 use Rattle.recovery.specs.Record.{with_files, place_in, file_at, put_file}

@@ -1,5 +1,7 @@
 -- How a record and a ledger go together, and what it is for an answer to agree with the ledger's. In this order: a file's intents; a file; the relation;
 -- a file with one field changed; agreement.
+use Rattle.recovery.specs.Record.{Answered}
+use Rattle.files.specs.File.{FileAnswered}
 use mathlib.Core.Path.{◌≡◌, refl}
 use mathlib.Core.List.{List}
 use mathlib.Core.Bool.{Bool, true, false, cond}
@@ -15,13 +17,11 @@ use Rattle.wire.specs.declared.stateid.Stateid.{Stateid}
 use Rattle.mirroring.specs.Devices.{Proxy}
 use Rattle.mirroring.specs.declared.mirrors.Mirror.{Mirror}
 use Rattle.files.specs.declared.file.File.{File}
-use Rattle.files.specs.declared.file.FileAnswered.{FileAnswered}
 use Rattle.files.specs.declared.head.Head.{Head}
 use Rattle.places.proofs.Slots.{Slots}
 use Rattle.mirroring.proofs.Copies.{Copies}
 use Rattle.ledger.specs.Ledger.{Layout, no_layout, held, Holder, Row, Ledger, numbers, with_proxy, with_intents, with_mark, with_blame}
 use Rattle.recovery.specs.declared.record.Record.{Record}
-use Rattle.recovery.specs.declared.record.Answered.{Answered}
 
 -- ---- a place's stateid and a client's: a seqid of 0 is none
 pub data LayoutIs (t : Stateid) : Layout → Type 0 where

@@ -14,24 +14,22 @@ use Rattle.mirroring.specs.Mirrors.{is_device, blamed_at}
 use Rattle.mirroring.specs.Blame.{blaming, status_only, with_error_at, with_error_of, with_error, errors_assessed, assessment_of}
 use Rattle.mirroring.specs.TotalsSteps.{mirror_totals}
 use Rattle.files.specs.File as file
-use Rattle.files.specs.File.{file_answered, changed_file, raised_file}
+use Rattle.files.specs.File.{FileAnswered, file_answered, changed_file, raised_file}
 use Rattle.wire.specs.Stateid.{no_stateid}
 use Rattle.layoutreturn.specs.LayoutReturn.{of_intent, report_on, outcome_on}
 use Rattle.mirroring.specs.declared.mirrors.Mirror.{Mirror}
 use Rattle.mirroring.specs.declared.blame.Assessment.{Assessment}
 use Rattle.files.specs.declared.file.File.{File}
-use Rattle.files.specs.declared.file.FileAnswered.{FileAnswered}
 use Rattle.files.specs.declared.head.Head.{Head}
 use Rattle.files.proofs.Changing.{unchanged, told-nothing}
 use Rattle.recovery.specs.LayoutReturn.{answered_by}
-use Rattle.places.specs.declared.Found.{Found}
-use Rattle.places.specs.declared.Found.TheVariants.{At, Nothing}
 use Rattle.places.proofs.Sets.{none_first}
 use Rattle.mirroring.proofs.Copies.{Copies, known, places_with, placed, none-blamed, place-blamed}
 use Rattle.files.specs.declared.head.Edition.TheVariants.{Current}
 use Rattle.mirroring.proofs.Assessing.{status-kept}
 use Rattle.ledger.specs.Ledger.{Row, names, place_in, is_fault, is_stranger, blame, reported, with_mark, with_blame}
 use Rattle.ledger.proofs.Relation.{FileIs, with-mark, with-copies}
+use Rattle.std.specs.Prelude.{Option, Some, None}
 
 -- no stranger has been named yet; ms are the file's mirrors
 pub record Sees (ms : List Mirror) (h : Assessment) (w : Row) (bs : List ℕ) (b : Bool) : Type 0 where
@@ -45,9 +43,9 @@ pub data Assesses (ms : List Mirror) (h : Assessment) (w : Row) (xs : List Devic
   mirrors-only : any (is_stranger w) xs ≡ false → Sees ms h w (blame w xs bs) (cond b true (any is_fault xs)) → Assesses ms h w xs bs b
 
 -- ---- a stranger stays named
-unknown-at : (h : Assessment) (s : ℕ) (o : Found) → h.change.unknown ≡ true → (with_error_at h s o).change.unknown ≡ true
-unknown-at h s Nothing e = refl
-unknown-at h s (At i) e = by (eqb s 0)
+unknown-at : (h : Assessment) (s : ℕ) (o : Option ℕ) → h.change.unknown ≡ true → (with_error_at h s o).change.unknown ≡ true
+unknown-at h s None e = refl
+unknown-at h s (Some i) e = by (eqb s 0)
   where
     by : (b : Bool) → (cond b h.change (blaming i h.change)).unknown ≡ true
     by true = e
@@ -64,7 +62,7 @@ module _ {was : List ℕ} (ms : List Mirror) (w : Row) (s : Copies ms w.mirrors 
   unfolding with_error_of
   error-stranger x e = rw (none_first (is_device (device_of x)) ms (known (device_of x) s ∙ e))
 
-  error-at : {bs : List ℕ} {b : Bool} (t i : ℕ) → i < places_with 4 w.proxy → Sees ms h w bs b → (z : Bool) → eqb t 0 ≡ z → Sees ms (with_error_at h t (At i)) w (cond (not z) (with i bs) bs) (cond (not z) true b)
+  error-at : {bs : List ℕ} {b : Bool} (t i : ℕ) → i < places_with 4 w.proxy → Sees ms h w bs b → (z : Bool) → eqb t 0 ≡ z → Sees ms (with_error_at h t (Some i)) w (cond (not z) (with i bs) bs) (cond (not z) true b)
   error-at t i p k true e = rw e k
   error-at t i p k false e = rw e (record {
     copies = place-blamed ms h.change.blamed i p k.copies;

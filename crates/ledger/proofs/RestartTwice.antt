@@ -11,10 +11,9 @@ use lib.Dec.{eqb, ltb}
 use borrow.Author.Tests.{ne_eqb, le-leb, ltb-true, ltb-false}
 use Rattle.statuses.specs.Rules.{refused}
 use Rattle.reports.specs.Report.{Report, Whole, Malformed, report_of}
-use Rattle.wire.specs.Request.{request_of, body_of}
+use Rattle.wire.specs.Request.{Request, request_of, body_of}
 use Rattle.wire.specs.declared.request.Kind.TheVariants as kind
-use Rattle.wire.specs.declared.request.Request.{Request}
-use Rattle.wire.specs.declared.request.Request.TheVariants as request
+use Rattle.wire.specs.Request as request
 use Rattle.wire.proofs.Requests.{refused-number}
 use Rattle.places.specs.Lists.{any, has, none, amend, first_or, fill}
 use Rattle.places.proofs.Slots.{All, Pairs, Slots, chosen-length, missing, found}

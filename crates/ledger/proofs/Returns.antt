@@ -1,5 +1,6 @@
 -- LAYOUTRETURN on the record: its answer, its reply and the record that it leaves are what the ledger says. In this order: refusals of steps 1 and 2; steps 5 to
 -- 7; an ordinary return; a step of a history; step 4; 28 and steps 1 to 7.
+use Rattle.files.specs.File.{FileAnswered}
 use mathlib.Core.Path.{◌≡◌, refl, ap, sym, ◌∙◌, subst}
 use mathlib.Core.List.{List, [], ◌∷◌, ◌++◌}
 use mathlib.Core.Bool.{Bool, true, false, not, cond}
@@ -11,15 +12,14 @@ use borrow.Author.Tests.{eqb-true, ne_eqb}
 use Rattle.statuses.specs.Names.{Bytes, Client, FileNumber}
 use Rattle.statuses.specs.Rules.{◌⇒◌, first_of, refused}
 use Rattle.reports.specs.Report.{DeviceError, Report, Whole, Malformed, report_of}
-use Rattle.wire.specs.Request.{request_of, body_of}
+use Rattle.wire.specs.Request.{Request, request_of, body_of}
 use Rattle.xdr.specs.Reader.{zeros}
 use Rattle.wire.specs.Reply.{reply_with, reply_in_with}
 use Rattle.wire.specs.Stateid.{no_stateid, stateid_in, stateid_bytes, raised_stateid}
 use Rattle.wire.specs.declared.stateid.Stateid.{Stateid}
 use Rattle.wire.specs.declared.request.Kind.{Kind}
 use Rattle.wire.specs.declared.request.Kind.TheVariants as kind
-use Rattle.wire.specs.declared.request.Request.{Request}
-use Rattle.wire.specs.declared.request.Request.TheVariants as request
+use Rattle.wire.specs.Request as request
 use Rattle.wire.proofs.Replies.{none-bytes}
 use Rattle.wire.proofs.Requests.{cond_below, refused-number, refused-small}
 use Rattle.places.specs.Lists.{any}
@@ -28,10 +28,7 @@ use Rattle.mirroring.specs.declared.totals.Totals.{Totals}
 use Rattle.files.specs.Head.{is_old}
 use Rattle.files.specs.declared.head.Edition.{Edition}
 use Rattle.files.specs.declared.file.File.{File}
-use Rattle.files.specs.declared.file.FileAnswered.{FileAnswered}
-use Rattle.layoutreturn.specs.LayoutReturn.{handed_on_code, phase_of, decided, decision_of, report_on, held_on, return_on, raised_on, reply_by}
-use Rattle.layoutreturn.specs.declared.Decision.{Decision}
-use Rattle.layoutreturn.specs.declared.Decision.TheVariants.{Answered}
+use Rattle.layoutreturn.specs.LayoutReturn.{handed_on_code, phase_of, decided, decision_of, report_on, held_on, return_on, raised_on, reply_by, Decision, Answered}
 use Rattle.recovery.specs.Calls.{Call, layout_return, Answer, replied, handed_on}
 use Rattle.recovery.specs.Record.{file_at, on_place}
 use Rattle.recovery.specs.LayoutReturn.{returning, return_file, reported_of, ordinary_of, returned_by, layoutreturn_of, stateid_by, reply_after}

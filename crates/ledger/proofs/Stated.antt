@@ -29,12 +29,11 @@ use Rattle.mirroring.specs.declared.mirrors.Mirror.{Mirror}
 use Rattle.intents.specs.Intents.{no_intent, is_intent, is_stated, uses_other, stated_if}
 use Rattle.intents.specs.declared.Intent.{Intent}
 use Rattle.files.specs.File as file
-use Rattle.files.specs.File.{is_file, file_answered, states, uses_stateid, changed_file, raised_file}
+use Rattle.files.specs.File.{FileAnswered, is_file, file_answered, states, uses_stateid, changed_file, raised_file}
 use Rattle.files.specs.Head.{is_old}
 use Rattle.files.specs.declared.head.Edition.{Edition}
 use Rattle.files.specs.declared.head.Edition.TheVariants.{Current, Old}
 use Rattle.files.specs.declared.file.File.{File}
-use Rattle.files.specs.declared.file.FileAnswered.{FileAnswered}
 use Rattle.files.specs.declared.head.Head.{Head}
 use Rattle.files.proofs.Changing.{unchanged}
 use Rattle.layoutreturn.specs.LayoutReturn.{by_stateid, held_on, bar_on, in_edition, return_on, raised_on, outcome_on}

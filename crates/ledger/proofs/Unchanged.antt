@@ -12,32 +12,27 @@ use Rattle.wire.specs.Request.{body_of}
 use Rattle.wire.specs.Stateid.{new_stateid, stateid_in}
 use Rattle.places.specs.Lists.{any}
 use Rattle.places.specs.Places.{first}
-use Rattle.places.specs.declared.Found.{Found}
-use Rattle.places.specs.declared.Found.TheVariants.{At, Nothing}
 use Rattle.places.proofs.Sets.{true-false, first-nothing, first-no, rest-no}
-use Rattle.mirroring.specs.Mirrors.{enrolled_of}
+use Rattle.mirroring.specs.Mirrors.{enrolled_of, Enrolled}
 use Rattle.mirroring.specs.declared.totals.Totals.{Totals}
-use Rattle.mirroring.specs.declared.enrol.Enrolled.{Enrolled}
 use Rattle.intents.specs.Intents.{is_intent, reclaimed_if}
 use Rattle.intents.specs.declared.Intent.{Intent}
-use Rattle.files.specs.File.{is_file, file_answered, opens, opened_file, reclaims, reclaimed_file, closed_file, repaired_file, proxy_added_file, proxy_removed_file, stated_file, forgettable}
-use Rattle.layoutreturn.specs.LayoutReturn.{handed_on_code, decision_of}
-use Rattle.layoutreturn.specs.declared.Decision.{Decision}
-use Rattle.layoutreturn.specs.declared.Decision.TheVariants as decision
+use Rattle.files.specs.File.{FileAnswered, is_file, file_answered, opens, opened_file, reclaims, reclaimed_file, closed_file, repaired_file, proxy_added_file, proxy_removed_file, stated_file, forgettable}
+use Rattle.layoutreturn.specs.LayoutReturn.{handed_on_code, decision_of, Decision}
+use Rattle.layoutreturn.specs.LayoutReturn as decision
 use Rattle.layoutreturn.specs.declared.Outcome.{Outcome}
 use Rattle.files.specs.declared.head.Head.{Head}
 use Rattle.files.specs.declared.file.File.{File}
-use Rattle.files.specs.declared.file.FileAnswered.{FileAnswered}
 use Rattle.recovery.specs.Calls.{register, opening, set_up, reclaim, close, repaired, add_proxy, remove_proxy, forget, end_grace, restart, layout_return, listing, replied, handed_on}
-use Rattle.recovery.specs.Record.{answered, file_at, on_place, open_of, is_barred, set_up_of, reclaim_of, close_of, repaired_of, add_proxy_of, remove_proxy_of, is_full, register_with, register_of, forgets, forget_of, end_of, restart_of}
+use Rattle.recovery.specs.Record.{Answered, answered, file_at, on_place, open_of, is_barred, set_up_of, reclaim_of, close_of, repaired_of, add_proxy_of, remove_proxy_of, is_full, register_with, register_of, forgets, forget_of, end_of, restart_of}
 use Rattle.recovery.specs.LayoutReturn.{answered_by, report_file, return_file, asked, reported_of, ordinary_of, returned_by, layoutreturn_of, reply_after}
 use Rattle.recovery.specs.declared.record.Record.{Record}
-use Rattle.recovery.specs.declared.record.Answered.{Answered}
 use Rattle.ledger.specs.Ledger.{accepted}
 use Rattle.ledger.specs.History.{step_of, return_step, step}
 use Rattle.ledger.specs.Unchanged.{RefusedUnchanged, HeldUnchanged, AgainUnchanged, Unchanged}
 use Rattle.ledger.proofs.Calls.{still}
 use Rattle.ledger.proofs.OneCall.{Does, keeps, makes, open-does, set-up-does, reclaim-does, close-does, repaired-does, add-proxy-does, remove-proxy-does, report-does, return-does}
+use Rattle.std.specs.Prelude.{Option, Some, None}
 
 -- ---- what is answered other than 0 leaves the record: it is that number, given back with what was there
 record Kept (r : Record) (a : Answered) : Type 0 where
@@ -116,9 +111,9 @@ both : (a b : Bool) → cond a b false ≡ true → (a ≡ true) × (b ≡ true)
 both true b h = (refl, h)
 both false b h = true-false (sym h)
 
-held_by : (c : ℕ) (d : Head) (f : File) (o : Found) → first (is_intent c) f.intents ≡ o → any (is_intent c) f.intents ≡ true → opens c d f o ≡ file_answered 0 d f
-held_by c d f (At i) e h = refl
-held_by c d f Nothing e h = true-false (sym h ∙ first-nothing (is_intent c) f.intents e)
+held_by : (c : ℕ) (d : Head) (f : File) (o : Option ℕ) → first (is_intent c) f.intents ≡ o → any (is_intent c) f.intents ≡ true → opens c d f o ≡ file_answered 0 d f
+held_by c d f (Some i) e h = refl
+held_by c d f None e h = true-false (sym h ∙ first-nothing (is_intent c) f.intents e)
 
 held-file : (n c : ℕ) (d : Head) (f : File) → d.grace ≡ false → is_file n f ≡ true → any (is_intent c) f.intents ≡ true → opened_file n d c f ≡ file_answered 0 d f
 unfolding opened_file
@@ -145,9 +140,9 @@ module _ (c : ℕ) where
       let owes = cond (is_intent c x) (not x.reclaimed) false in
       rw (reclaimed-already x (is_intent c x) x.reclaimed refl refl (first-no owes _ h), all-already xs (rest-no owes _ h))
 
-  again_by : (d : Head) (f : File) (o : Found) → first (is_intent c) f.intents ≡ o → any (is_intent c) f.intents ≡ true → map (reclaimed_if c) f.intents ≡ f.intents → reclaims c d f o ≡ file_answered 0 d f
-  again_by d f (At i) e h k = rw k
-  again_by d f Nothing e h k = true-false (sym h ∙ first-nothing (is_intent c) f.intents e)
+  again_by : (d : Head) (f : File) (o : Option ℕ) → first (is_intent c) f.intents ≡ o → any (is_intent c) f.intents ≡ true → map (reclaimed_if c) f.intents ≡ f.intents → reclaims c d f o ≡ file_answered 0 d f
+  again_by d f (Some i) e h k = rw k
+  again_by d f None e h k = true-false (sym h ∙ first-nothing (is_intent c) f.intents e)
 
 again-file : (n c : ℕ) (d : Head) (f : File) → d.grace ≡ true → is_file n f ≡ true → any (is_intent c) f.intents ≡ true → map (reclaimed_if c) f.intents ≡ f.intents → reclaimed_file n d c f ≡ file_answered 0 d f
 unfolding reclaimed_file

@@ -4,10 +4,9 @@ use Rattle.std.specs.Prelude.{List, [], ◌∷◌, cond}
 use Rattle.statuses.specs.Names.{Bytes}
 use Rattle.recovery.specs.Calls.{Call, register, opening, set_up, reclaim, close, repaired, add_proxy, remove_proxy, forget, end_grace, restart, layout_return, listing, Answer, said, replied, handed_on}
 use Rattle.ledger.specs.Ledger.{Ledger, judge, feed}
-use Rattle.recovery.specs.Record.{register_of, open_of, set_up_of, reclaim_of, close_of, repaired_of, add_proxy_of, remove_proxy_of, forget_of, end_of, restart_of, listing_of}
+use Rattle.recovery.specs.Record.{register_of, open_of, set_up_of, reclaim_of, close_of, repaired_of, add_proxy_of, remove_proxy_of, forget_of, end_of, restart_of, listing_of, Answered}
 use Rattle.recovery.specs.LayoutReturn.{layoutreturn_of, reply_after}
 use Rattle.recovery.specs.declared.record.Record.{Record}
-use Rattle.recovery.specs.declared.record.Answered.{Answered}
 use Rattle.recovery.specs.declared.returns.Returned.{Returned}
 
 -- ---- a step: a call is the method of that name, and each line cites the definition that the method's promise says its answer equals

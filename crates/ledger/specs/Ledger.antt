@@ -7,7 +7,7 @@ use Rattle.statuses.specs.Rules.{Rule, ◌⇒◌, first_of, refused}
 use Rattle.xdr.specs.Reader.{zeros}
 use Rattle.reports.specs.Device.{Device, halves}
 use Rattle.reports.specs.Report.{DeviceError, Report, Whole, Malformed, report_of}
-use Rattle.wire.specs.Request.{request_of, body_of}
+use Rattle.wire.specs.Request.{Request, request_of, body_of}
 use Rattle.wire.specs.Reply.{reply_in, reply_in_with}
 use Rattle.wire.specs.Seqid.{age_of}
 use Rattle.wire.specs.Stateid.{stateid_in, stateid_bytes, new_stateid, bad_other, has_other, raised_stateid}
@@ -15,8 +15,7 @@ use Rattle.wire.specs.declared.seqid.Age.{Age}
 use Rattle.wire.specs.declared.seqid.Age.TheVariants.{Same, Older, Newer}
 use Rattle.wire.specs.declared.stateid.Stateid.{Stateid}
 use Rattle.wire.specs.declared.request.Kind.TheVariants as kind
-use Rattle.wire.specs.declared.request.Request.{Request}
-use Rattle.wire.specs.declared.request.Request.TheVariants as request
+use Rattle.wire.specs.Request as request
 use Rattle.places.specs.Lists.{any, chosen, has, with, none, amend, discard, first_or}
 use Rattle.mirroring.specs.Devices.{device_of, mirrors_in, Proxy, no_proxy, proxy_at, is_there, is_copy, copy_place, bad_mirrors}
 use Rattle.mirroring.specs.Totals.{totals_of, no_totals}

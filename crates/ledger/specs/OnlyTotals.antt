@@ -4,10 +4,9 @@ use Rattle.std.specs.Prelude.{◌≡◌, false, List, [], map}
 use Rattle.statuses.specs.Names.{Bytes, Client, FileNumber}
 use Rattle.reports.specs.Statistics.{Statistic}
 use Rattle.reports.specs.Report.{Whole, report_of, without_statistics}
-use Rattle.wire.specs.Request.{request_of, body_of}
+use Rattle.wire.specs.Request.{Request, request_of, body_of}
 use Rattle.wire.specs.Stateid.{no_stateid, stateid_in}
-use Rattle.wire.specs.declared.request.Request.{Request}
-use Rattle.wire.specs.declared.request.Request.TheVariants as request
+use Rattle.wire.specs.Request as request
 use Rattle.mirroring.specs.Totals.{no_totals}
 use Rattle.recovery.specs.Calls.{Call, layout_return, Answer, said, replied, handed_on, listed}
 use Rattle.intents.specs.declared.Intent.{Intent}

@@ -6,21 +6,20 @@ use mathlib.Core.Bool.{Bool, true, false, cond}
 use native.Mathlib.Omega.{arith}
 use native.Mathlib.Nat.{add-zero, zero-add, pow-suc}
 use borrow.Author.Tests.{lt-ltb, le-ltb}
-use lib.ListN.{length, set, length-append}
+use lib.ListN.{length, length-append}
 use lib.Seq.{sets, length-sets, length-take-le}
 use lib.Dec.{ltb}
 use Rattle.xdr.proofs.Be.{sets-append}
 use Rattle.layouts.specs.declared.kinds.Kind.{Kind}
 use Rattle.layouts.specs.declared.kinds.Kind.TheVariants.{Scsi, Rdma}
 use Rattle.layouts.specs.Layout.{Row}
+use Rattle.listings.specs.Adds.{Adds}
+use Rattle.listings.specs.declared.text.Text.{Text}
 use Rattle.listings.specs.Text.{digits, decimal, number_text, last_of, line_of, lines_of, accepted_text, refused_text, listed, IsPrefixLen, Put, Listing}
 
 -- ---- one text after another
 pub nothing : (d : List ℕ) (at : ℕ) → Put d at [] d at
 nothing d at = record { ends = sym (add-zero at); holds = refl }
-
-pub byte : (d : List ℕ) (at b : ℕ) → Put d at (b ∷ []) (set d at b) (at + 1)
-byte d at b = record { ends = refl; holds = refl }
 
 module _ {d e : List ℕ} {at r : ℕ} {a : List ℕ} (p : Put d at a e r) where
   pub kept : length e ≡ length d
@@ -35,6 +34,20 @@ module _ {d e : List ℕ} {at r : ℕ} {a : List ℕ} (p : Put d at a e r) where
 -- the same text in other words
 pub said : {d e : List ℕ} {at r : ℕ} {a b : List ℕ} → a ≡ b → Put d at a e r → Put d at b e r
 said {d} {at = at} q p = record { ends = p.ends ∙ ap (λ l. at + length l) q; holds = p.holds ∙ ap (sets d at) q }
+
+-- the same for a text that has methods
+pub none_yet : (t : Text) → Adds t [] t
+none_yet t = record { same = refl; put = nothing t.d.now t.at }
+
+module _ {t u : Text} {a : List ℕ} (p : Adds t a u) where
+  pub long : length u.d.now ≡ length t.d.now
+  long = kept p.put
+
+  pub and_then : {v : Text} {b : List ℕ} → Adds u b v → Adds t (a ++ b) v
+  and_then n = record { same = n.same ∙ p.same; put = then p.put n.put }
+
+pub said_so : {t u : Text} {a b : List ℕ} → a ≡ b → Adds t a u → Adds t b u
+said_so q p = record { same = p.same; put = said q p.put }
 
 -- ---- digits
 pub length_digits : (k x : ℕ) → length (digits k x) ≤ k
@@ -91,11 +104,11 @@ line-more k [] r = append-nil (line_of k r)
 line-more k (a ∷ l) r = rw (line-more k l r, append_assoc)
 
 -- where a number's text and a line end
-pub number-ends : (x b : ℕ) {d e : List ℕ} {at r : ℕ} → Put d at (number_text x b) e r → r ≤ at + 21
-number-ends x b p = omega (arith, p.ends, length-number x b)
+pub number-ends : (x b : ℕ) {t u : Text} → Adds t (number_text x b) u → u.at ≤ t.at + 21
+number-ends x b p = omega (arith, p.put.ends, length-number x b)
 
-pub line-ends : (k : Kind) (x : Row) {d e : List ℕ} {at r : ℕ} → Put d at (line_of k x) e r → r ≤ at + 105
-line-ends k x p = omega (arith, p.ends, length-line k x)
+pub line-ends : (k : Kind) (x : Row) {t u : Text} → Adds t (line_of k x) u → u.at ≤ t.at + 105
+line-ends k x p = omega (arith, p.put.ends, length-line k x)
 
 -- ---- the whole text
 length-lines : (k : Kind) (rs : List Row) → length (lines_of k rs) ≤ 105 * length rs

@@ -2,8 +2,7 @@
 -- accepted body and of a refusal; the text of an input (over 65,536 bytes: refusal 1); the front of a buffer; a text stored in a buffer.
 use Rattle.std.specs.Prelude.{ℕ, zero, suc, ◌+◌, ◌/◌, ◌%◌, ◌≤◌, ◌≡◌, List, [], ◌∷◌, ◌++◌, cond, length, take, ltb}
 use Rattle.std.proofs.lemmas.List.Edits.{sets}
-use Rattle.extents.specs.declared.Verdict.{Verdict}
-use Rattle.extents.specs.declared.Verdict.TheVariants.{Accepted, Refused}
+use Rattle.extents.specs.Verdict.{Verdict, Accepted, Refused}
 use Rattle.layouts.specs.declared.kinds.Kind.{Kind}
 use Rattle.layouts.specs.declared.kinds.Kind.TheVariants.{Scsi, Rdma}
 use Rattle.statuses.specs.Names.{Bytes}

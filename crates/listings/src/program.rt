@@ -3,6 +3,7 @@
 // A call that a signal interrupts is made again. Where a read or a write fails, that is no finding about a body: nothing more is printed, and one line on
 // standard error says what failed, and after how many bytes.
 ghost use Rattle.std.specs.Prelude.{◌≡◌, ◌≤◌, length};
+ghost use Rattle.listings.specs.Calls.{moved};
 ghost use Rattle.listings.specs.Text.{IsPrefixLen};
 
 use crate::text;
@@ -13,127 +14,73 @@ use std::io::{Eprint, Error, ErrorKind, Input, Print, Read, Write};
 // More calls than any input or output takes.
 const MOST_CALLS: u64 = 1099511627776;
 
-// What one call moved: so many bytes; whether it was the last; and why it failed, if it did. An interrupted call moves none, and is not the last.
-#[derive(Clone, Copy)]
-struct Moved {
-    n: usize,
-    last: bool,
-    failed: Option<Error>,
+// Why a read or a write failed, and after how many bytes.
+struct Failed {
+    after: usize,
+    why: Error,
 }
 
-// A call that gave an error moved none: it failed, unless a signal interrupted it.
-fn none_moved(error: Error) -> Moved
-    ensures { result.n ≡ 0 }
-{
-    if error.kind() == ErrorKind::Interrupted {
-        return Moved {
-            n: 0,
-            last: false,
-            failed: None,
-        };
-    }
-    in_all(0, Some(error))
-}
-
-// What several calls moved together.
-fn in_all(n: usize, failed: Option<Error>) -> Moved
-    ensures { result.n ≡ n }
-{
-    Moved {
-        n,
-        last: true,
-        failed,
-    }
-}
-
-// One read into buf; none are left where it moves none.
-fn read_some<R: Read>(input: &mut R, buf: &mut [u8]) -> Moved
-    ensures { result.n ≤ length buf.new }
-{
-    match input.read(buf) {
-        Ok(n) => Moved {
-            n,
-            last: n == 0,
-            failed: None,
-        },
-        Err(error) => none_moved(error),
-    }
-}
-
-// Reads until buf is full, the input ends or a read fails.
-fn read_all<R: Read>(input: &mut R, buf: &mut [u8]) -> Moved
-    ensures { IsPrefixLen result.n buf.new }
+// Reads until buf is full, the input ends or a read fails, and answers how many bytes it read.
+fn read_all<R: Read>(input: &mut R, buf: &mut [u8]) -> Result<usize, Failed>
+    ensures { IsPrefixLen (moved result) buf.new }
 {
     let mut done: usize = 0;
     for _turn in 0..MOST_CALLS {
-        let got = read_some(input, &mut buf[done..]);
-        if got.last {
-            return in_all(done, got.failed);
+        match input.read(&mut buf[done..]) {
+            Ok(0) => return Ok(done),
+            Ok(n) => done += n,
+            Err(why) if why.kind() == ErrorKind::Interrupted => {}
+            Err(why) => return Err(Failed { after: done, why }),
         }
-        done += got.n;
     }
-    in_all(done, Some(too_many()))
+    Err(too_many(done))
 }
 
-// Reads once and throws it away.
-fn skip_some<R: Read>(input: &mut R) -> Moved
-    ensures { result.n ≤ 65536 }
+// Reads the rest of an input that is too long, so that whoever writes it can end, and throws it away.
+fn skip_rest<R: Read>(input: &mut R) -> Result<usize, Failed>
+    ensures { moved result ≤ 72057594037927936 }
 {
     let mut room = [0u8; 65536];
-    read_some(input, &mut room)
-}
-
-// Reads the rest of an input that is too long, so that whoever writes it can end.
-fn skip_rest<R: Read>(input: &mut R) -> Moved
-    ensures { result.n ≤ 72057594037927936 }
-{
     let mut done: usize = 0;
     for _turn in 0..MOST_CALLS {
-        let got = skip_some(input);
-        if got.last {
-            return in_all(done, got.failed);
+        match input.read(&mut room) {
+            Ok(0) => return Ok(done),
+            Ok(n) => done += n,
+            Err(why) if why.kind() == ErrorKind::Interrupted => {}
+            Err(why) => return Err(Failed { after: done, why }),
         }
-        done += got.n;
     }
-    in_all(done, Some(too_many()))
+    Err(too_many(done))
 }
 
-// One write of bytes at the start of buf; it failed where it moves none of some.
-fn write_some<W: Write>(output: &mut W, buf: &[u8]) -> Moved
-    ensures { result.n ≤ length buf.now }
-{
-    match output.write(buf) {
-        Ok(n) => {
-            let mut failed = None;
-            if n < buf.len() {
-                failed = Some(Error::from(ErrorKind::WriteZero));
-            }
-            Moved {
-                n,
-                last: n == 0,
-                failed,
-            }
-        }
-        Err(error) => none_moved(error),
-    }
-}
-
-// Writes all of buf, or up to where a write fails.
-fn write_all<W: Write>(output: &mut W, buf: &[u8]) -> Moved {
+// Writes all of buf, or up to where a write fails or moves none.
+fn write_all<W: Write>(output: &mut W, buf: &[u8]) -> Result<(), Failed> {
     let mut done: usize = 0;
     for _turn in 0..MOST_CALLS {
-        let put = write_some(output, &buf[done..]);
-        if put.last {
-            return in_all(done, put.failed);
+        if done == buf.len() {
+            return Ok(());
         }
-        done += put.n;
+        match output.write(&buf[done..]) {
+            Ok(0) => return Err(Failed {
+                after: done,
+                why: Error::from(ErrorKind::WriteZero),
+            }),
+            Ok(n) => done += n,
+            Err(why) if why.kind() == ErrorKind::Interrupted => {}
+            Err(why) => return Err(Failed { after: done, why }),
+        }
     }
-    in_all(done, Some(too_many()))
+    Err(too_many(done))
 }
 
 // What is said where not even so many calls came to an end.
-fn too_many() -> Error {
-    Error::other("too many calls")
+fn too_many(after: usize) -> Failed
+    ensures { result.after ≡ after }
+{
+    Failed {
+        after,
+        why: Error::other("too many calls"),
+    }
 }
 
 // The words of an error, without the system's number of it that `std` puts after them.
@@ -145,7 +92,8 @@ fn reason(words: &str) -> &str {
 }
 
 // The line of a fault: the program's name, what failed after so many bytes, and why, in words that have room in 512 bytes.
-fn fault<H: Eprint>(rt: &H, name: &str, what: &str, after: usize, why: Error) -> io::Result<()> {
+fn fault<H: Eprint>(rt: &H, name: &str, what: &str, failed: Failed) -> io::Result<()> {
+    let Failed { after, why } = failed;
     let mut room = [0u8; 512];
     let mut left: &mut [u8] = &mut room;
     write!(left, "{why}")?;
@@ -161,22 +109,20 @@ fn fault<H: Eprint>(rt: &H, name: &str, what: &str, after: usize, why: Error) ->
 pub fn run<H: Input + Print + Eprint>(rt: &H, kind: Kind, name: &str) -> io::Result<()> {
     let mut stdin = rt.reader();
     let mut input = [0u8; 65537];
-    let got = read_all(&mut stdin, &mut input);
-    let n = got.n;
-    if let Some(why) = got.failed {
-        return fault(rt, name, "reading standard input", n, why);
-    }
+    let n = match read_all(&mut stdin, &mut input) {
+        Ok(n) => n,
+        Err(failed) => return fault(rt, name, "reading standard input", failed),
+    };
     if n == 65537 {
-        let rest = skip_rest(&mut stdin);
-        if let Some(why) = rest.failed {
-            return fault(rt, name, "reading standard input", n + rest.n, why);
+        if let Err(Failed { after, why }) = skip_rest(&mut stdin) {
+            let after = n + after;
+            return fault(rt, name, "reading standard input", Failed { after, why });
         }
     }
     let mut out = [0u8; 109568];
     let k = text::listing(kind, &input[..n], &mut out);
-    let put = write_all(&mut io::writer(rt), &out[..k]);
-    if let Some(why) = put.failed {
-        return fault(rt, name, "writing standard output", put.n, why);
+    match write_all(&mut io::writer(rt), &out[..k]) {
+        Ok(()) => Ok(()),
+        Err(failed) => fault(rt, name, "writing standard output", failed),
     }
-    Ok(())
 }

@@ -30,7 +30,7 @@ use Rattle.masks.specs.Mask.{has as node-has, set_of, all, plus, minus, empty}
 use mathlib.Core.Path.{◌≡◌}
 use mathlib.Core.List.{[], ◌∷◌, ◌++◌, map}
 use Prim.Native.Nat.{◌-◌, ◌^◌}
-use Rattle.extents.specs.declared.Verdict.TheVariants.{Accepted, Refused}
+use Rattle.extents.specs.Verdict.{Accepted, Refused}
 use Rattle.recovery.specs.Calls.{close, end_grace, said, lend}
 use Rattle.marked_examples.specs.Table.{read_write, read, invalid, A, C, started, reclaimed, reports, list, offers, by_record, by_ledger, ledger_from, both_start, epochs_after, epochs_are, seven, empty as none-listed, accepted, MarkedExamples}
 use Rattle.marked_examples.specs.Table as table

@@ -2,8 +2,7 @@
 -- layout bodies; a report as bytes; histories of the record, by the record's definitions and by the ledger's; rows; the table; the claim.
 use Rattle.std.specs.Prelude.{ℕ, ◌-◌, ◌^◌, ◌≡◌, List, [], ◌∷◌, ◌++◌, map, replicate}
 use Rattle.xdr.specs.Be.{be_bytes}
-use Rattle.extents.specs.declared.Verdict.{Verdict}
-use Rattle.extents.specs.declared.Verdict.TheVariants.{Accepted, Refused}
+use Rattle.extents.specs.Verdict.{Verdict, Accepted, Refused}
 use Rattle.layouts.specs.declared.kinds.Kind.TheVariants.{Scsi}
 use Rattle.layouts.specs.Layout.{check_body}
 use Rattle.mirroring.specs.Totals.{no_totals}

@@ -4,19 +4,22 @@
 --     has-plus, has-minus, plus-lt, minus-lt  a node put in or taken out, and the others; both are masks of 32 nodes
 --     empty-each, each-empty, within-each, each_within     what the two tests say of each node
 --     plus-node, plus-keeps, plus-came, minus-was, minus-out, minus-keeps, minus-same, some-empty, empty-some     the same of a node that is known to be in a set
---     one_shl, shr_is, or_is, xor_is, zero_is, and_is     what the code computes is what the definitions say
+--     shr_is, or_is, clear_is, zero_is, and_is     what the code computes is what the definitions say
 use mathlib.Core.Path.{◌≡◌, refl, sym, ap, ap₂, ◌∙◌, subst}
-use mathlib.Core.Bool.{Bool, true, false, not, cond, ◌&&◌, ◌||◌, xor, false≢true, or-true}
-use Prim.Native.Nat.{ℕ, zero, suc, ◌+◌, ◌*◌, ◌/◌, ◌%◌, ◌^◌, ◌<◌, ◌≤◌, suc-le-suc}
-use native.Mathlib.Nat.{zero-lt-suc, mod-lt, zero-div, div-one, mul-mod_left, mul-div_cancel, div-add-mod', pow-suc, one-mul, mod-eq_of_lt, le_of_suc-le-suc, not-suc-le-zero, lt_of_lt_of_le, div-eq_of_lt, eq-or-lt_of_le}
-use native.Mathlib.Numerals.{one-add, add-one}
+use mathlib.Core.Bool.{Bool, true, false, not, cond, ◌&&◌, ◌||◌, false≢true, or-true, or-false, and-true, and-false}
+use Prim.Native.Nat.{ℕ, zero, suc, ◌+◌, ◌-◌, ◌*◌, ◌/◌, ◌%◌, ◌^◌, ◌<◌, ◌≤◌, min, suc-le-suc}
+use native.Mathlib.Nat.{zero-lt-suc, mod-lt, pow-suc, le_of_suc-le-suc, not-suc-le-zero, eq-or-lt_of_le}
+use native.Mathlib.Numerals.{add-one}
 use native.Mathlib.Omega.{arith}
-use lib.Arith.{lt-one, digits_div, digits_mod, digits_lt}
-use lib.Dec.{eqb, leb, eqb-suc-suc, eqb-zero-suc, eqb-suc-zero}
-use lib.Pow.{pow_pos, pow-lt, pow_mono, shr-shr, shr_lt}
-use lib.Bits.{bit_and, bit_or, bit_xor, or_shr, xor_shr, and_shr, or_mod, xor_mod, and_mod, or_lt, xor_lt, and_lt, and_mask}
+use lib.Arith.{digits_div, digits_mod, digits_lt}
+use lib.Dec.{eqb, leb}
+use lib.Pow.{pow_pos, shr_lt}
+use lib.Bits.{bit_and, bit_or, or_lt, and_lt}
 use borrow.Author.Tests.{leb-true, leb-false, eqb-true, eqb-false, eq-eqb, ne_eqb, not-true, not-false}
-use mathlib.Core.Logic.{◌⊎◌, inl, inr, ⊎_elim}
+use mathlib.Core.Logic.{◌≢◌, ◌⊎◌, inl, inr, ⊎_elim}
+use Rattle.std.specs.Int.{w32}
+use Rattle.std.proofs.lemmas.Nat.{and_le_l}
+use Rattle.std.proofs.lemmas.Nat.Bits.{bit_at_lowest, bit_at-suc, bit_at-zero, bit_at-lt, bit_at_above, shr_and_one, bit_at_and, bit_at_set_same, bit_at_set_other, bit_at_clear_same, bit_at_clear_other, same_from_bits_below}
 use Rattle.masks.specs.Mask.{digit, has, set_of, all, plus, minus, empty, within}
 
 two_pos : zero < 2
@@ -57,12 +60,6 @@ absent true false f = refl
 absent false b f = refl
 
 -- ---- a digit
-digit-first : (m : ℕ) → digit m zero ≡ m % 2
-digit-first m = ap (λ (x : ℕ). x % 2) (div-one m)
-
-digit-next : (m k : ℕ) → digit m (suc k) ≡ digit (m / 2) k
-digit-next m k = ap (λ (x : ℕ). x % 2) (sym (shr-shr m 1 k ∙ ap (λ (x : ℕ). m / 2 ^ x) (one-add k)))
-
 bit : Bool → ℕ
 bit b = cond b 1 0
 
@@ -82,18 +79,18 @@ is-bit zero h = refl
 is-bit (suc zero) h = refl
 is-bit (suc (suc x)) h = absurd (not-suc-le-zero (le_of_suc-le-suc (le_of_suc-le-suc h)))
 
+-- what two tests of a digit say
+same-digit : (x y : ℕ) → x < 2 → y < 2 → eqb x 1 ≡ eqb y 1 → x ≡ y
+same-digit x y hx hy e = sym (is-bit x hx) ∙ ap bit e ∙ is-bit y hy
+
 -- the first digit of a number, and the others
 has_first : (q : ℕ) (b : Bool) → has (q * 2 + bit b) zero ≡ b
 unfolding has
-has_first q b = ap (λ (x : ℕ). eqb x 1) (digit-first (q * 2 + bit b) ∙ digits_mod q (bit-lt b)) ∙ bit_is b
+has_first q b = ap (λ (x : ℕ). eqb x 1) (bit_at_lowest (q * 2 + bit b) ∙ digits_mod q (bit-lt b)) ∙ bit_is b
 
 has-next : (q : ℕ) (b : Bool) (k : ℕ) → has (q * 2 + bit b) (suc k) ≡ has q k
 unfolding has
-has-next q b k = ap (λ (x : ℕ). eqb x 1) (digit-next (q * 2 + bit b) k ∙ ap (λ (x : ℕ). digit x k) (digits_div q (bit-lt b)))
-
-has-half : (m k : ℕ) → has m (suc k) ≡ has (m / 2) k
-unfolding has
-has-half m k = ap (λ (x : ℕ). eqb x 1) (digit-next m k)
+has-next q b k = ap (λ (x : ℕ). eqb x 1) (bit_at-suc (q * 2 + bit b) k ∙ ap (λ (x : ℕ). digit x k) (digits_div q (bit-lt b)))
 
 -- ---- a set is its nodes
 pub has_of : (n : ℕ) (test : ℕ → Bool) (k : ℕ) → k < n → has (set_of n test) k ≡ test k
@@ -112,31 +109,26 @@ unfolding set_of bit
 set-ext zero a b same = refl
 set-ext (suc n) a b same = ap₂ (λ (q : ℕ) (t : Bool). q * 2 + bit t) (set-ext n (λ j. a (suc j)) (λ j. b (suc j)) (λ k h. same (suc k) (suc-le-suc h))) (same 0 (zero-lt-suc n))
 
-first-is : (m : ℕ) → bit (has m 0) ≡ m % 2
+-- two sets with the same nodes are the same
+pub has-ext : (n a b : ℕ) → a < 2 ^ n → b < 2 ^ n → ((k : ℕ) → k < n → has a k ≡ has b k) → a ≡ b
 unfolding has
-first-is m = ap (λ (x : ℕ). bit (eqb x 1)) (digit-first m) ∙ is-bit (m % 2) (mod-lt m two_pos)
+has-ext n a b ha hb same = same_from_bits_below n a b ha hb (λ k h. same-digit (digit a k) (digit b k) (bit_at-lt a k) (bit_at-lt b k) (same k h))
 
 pub of-has : (n m : ℕ) → m < 2 ^ n → set_of n (has m) ≡ m
-unfolding set_of bit
-of-has zero m h = sym (lt-one h)
-of-has (suc n) m h = ap₂ (λ (q r : ℕ). q * 2 + r) (set-ext n (λ j. has m (suc j)) (has (m / 2)) (λ k _. has-half m k) ∙ of-has n (m / 2) (half_lt n m h)) (first-is m) ∙ div-add-mod' m 2
+of-has n m h = has-ext n (set_of n (has m)) m (set-lt n (has m)) h (has_of n (has m))
 
 -- a number whose nodes are those that pass is the set of those that pass
 pub is_set : (n m : ℕ) (test : ℕ → Bool) → m < 2 ^ n → ((k : ℕ) → k < n → has m k ≡ test k) → m ≡ set_of n test
-is_set n m test h same = sym (of-has n m h) ∙ set-ext n (has m) test same
-
--- two sets with the same nodes are the same
-pub has-ext : (n a b : ℕ) → a < 2 ^ n → b < 2 ^ n → ((k : ℕ) → k < n → has a k ≡ has b k) → a ≡ b
-has-ext n a b ha hb same = is_set n a (has b) ha same ∙ of-has n b hb
+is_set n m test h same = has-ext n m (set_of n test) h (set-lt n test) (λ k l. same k l ∙ sym (has_of n test k l))
 
 pub has-zero : (k : ℕ) → has zero k ≡ false
 unfolding has
-has-zero k = ap (λ (x : ℕ). eqb (x % 2) 1) (zero-div (2 ^ k))
+has-zero k = ap (λ (x : ℕ). eqb x 1) (bit_at-zero k)
 
 -- no node past the last
 pub has-past : (n m k : ℕ) → m < 2 ^ n → n ≤ k → has m k ≡ false
 unfolding has
-has-past n m k h l = ap (λ (x : ℕ). eqb (x % 2) 1) (div-eq_of_lt (lt_of_lt_of_le h (pow_mono l)))
+has-past n m k h l = ap (λ (x : ℕ). eqb x 1) (bit_at_above m n k h l)
 
 pub has-below : (n m k : ℕ) → m < 2 ^ n → has m k ≡ true → k < n
 has-below n m k h inside = ⊎_elim (λ l. absurd (false≢true (sym (has-past n m k h l) ∙ inside))) (λ l. l) (le-or-lt n k)
@@ -232,67 +224,39 @@ unfolding empty
 empty-some m e = ⊎_elim (λ all-out. absurd (false≢true (sym e ∙ all-out))) (λ w. (w.0, w.1, not-false (has m w.0) w.2)) (all-or 32 (λ k. not (has m k)))
 
 -- ---- what the code computes
-digit_lt : (m k : ℕ) → digit m k < 2
-digit_lt m k = mod-lt (m / 2 ^ k) two_pos
-
--- an operation on binary numbers that works digit by digit, f, does so by g on each node
-by-node : (f : ℕ → ℕ → ℕ) (g : Bool → Bool → Bool) → ((a b k : ℕ) → f a b / 2 ^ k ≡ f (a / 2 ^ k) (b / 2 ^ k)) → ((a b k : ℕ) → f a b % 2 ^ k ≡ f (a % 2 ^ k) (b % 2 ^ k))
-    → ((a b : Bool) → eqb (f (bit a) (bit b)) 1 ≡ g a b) → (a b k : ℕ) → has (f a b) k ≡ g (has a k) (has b k)
-unfolding has
-by-node f g shr rem table a b k =
-    ap (λ (x : ℕ). eqb x 1) (ap (λ (x : ℕ). x % 2) (shr a b k) ∙ rem (a / 2 ^ k) (b / 2 ^ k) 1) ∙ sym (ap₂ (λ (u v : ℕ). eqb (f u v) 1) (is-bit (digit a k) (digit_lt a k)) (is-bit (digit b k) (digit_lt b k)))
-    ∙ table (has a k) (has b k)
-
--- what holds of the four pairs holds of any two
-four : (P : Bool → Bool → Type 0) → P true true → P true false → P false true → P false false → (a b : Bool) → P a b
-four P tt-is tf-is ft-is ff-is true true = tt-is
-four P tt-is tf-is ft-is ff-is true false = tf-is
-four P tt-is tf-is ft-is ff-is false true = ft-is
-four P tt-is tf-is ft-is ff-is false false = ff-is
-
-has-or : (a b k : ℕ) → has (bit_or a b) k ≡ (has a k || has b k)
-unfolding bit
-has-or = by-node bit_or ◌||◌ or_shr or_mod (four (λ a b. eqb (bit_or (bit a) (bit b)) 1 ≡ (a || b)) refl refl refl refl)
-
-has-and : (a b k : ℕ) → has (bit_and a b) k ≡ (has a k && has b k)
-unfolding bit
-has-and = by-node bit_and ◌&&◌ and_shr and_mod (four (λ a b. eqb (bit_and (bit a) (bit b)) 1 ≡ (a && b)) refl refl refl refl)
-
-has-xor : (a b k : ℕ) → has (bit_xor a b) k ≡ xor (has a k) (has b k)
-unfolding bit xor
-has-xor = by-node bit_xor xor xor_shr xor_mod (four (λ a b. eqb (bit_xor (bit a) (bit b)) 1 ≡ xor a b) refl refl refl refl)
-
--- the node k alone
-pow-half : (k : ℕ) → 2 ^ suc k / 2 ≡ 2 ^ k
-pow-half k = ap (λ (x : ℕ). x / 2) (pow-suc 2 k) ∙ mul-div_cancel (2 ^ k) two_pos
-
-has-pow : (k j : ℕ) → has (2 ^ k) j ≡ eqb j k
-unfolding has
-has-pow zero zero = refl
-has-pow zero (suc j) = has-half 1 j ∙ has-zero j ∙ sym (eqb-suc-zero j)
-has-pow (suc k) zero = ap (λ (x : ℕ). eqb x 1) (digit-first (2 ^ suc k) ∙ ap (λ (x : ℕ). x % 2) (pow-suc 2 k) ∙ mul-mod_left (2 ^ k) 2) ∙ sym (eqb-zero-suc k)
-has-pow (suc k) (suc j) = has-half (2 ^ suc k) j ∙ ap (λ (x : ℕ). has x j) (pow-half k) ∙ has-pow k j ∙ sym (eqb-suc-suc j k)
-
--- `1 << node`
-pub one_shl : (w k : ℕ) → k < w → (1 * 2 ^ k) % 2 ^ w ≡ 2 ^ k
-one_shl w k h = ap (λ (x : ℕ). x % 2 ^ w) (one-mul (2 ^ k)) ∙ mod-eq_of_lt (pow-lt h)
 
 -- `(m >> node) & 1 == 1`
 pub shr_is : (m k : ℕ) → eqb (bit_and (m / 2 ^ k) 1) 1 ≡ has m k
 unfolding has
-shr_is m k = ap (λ (x : ℕ). eqb x 1) (and_mask (m / 2 ^ k) 1)
+shr_is m k = ap (λ (x : ℕ). eqb x 1) (shr_and_one m k)
+
+-- the node itself, and the others
+by-node : (P : ℕ → Type 0) (node : ℕ) → P node → ((k : ℕ) → k ≢ node → P k) → (k : ℕ) → P k
+by-node P node itself others k = by (eqb k node) refl
+  where
+    by : (b : Bool) → eqb k node ≡ b → P k
+    by true e = subst P (sym (eqb-true k node e)) itself
+    by false e = others k (eqb-false k node e)
 
 -- `m | 1 << node`
-pub or_is : (m node : ℕ) → m < 2 ^ 32 → node < 32 → bit_or m (2 ^ node) ≡ plus m node
-unfolding plus
-or_is m node hm hn = is_set 32 (bit_or m (2 ^ node)) (λ k. has m k || eqb k node) (or_lt 32 m (2 ^ node) hm (pow-lt hn)) (λ k _. has-or m (2 ^ node) k ∙ ap (λ (b : Bool). has m k || b) (has-pow node k))
+pub or_is : (m node : ℕ) → m < 2 ^ 32 → node < 32 → bit_or m (1 * 2 ^ node % 2 ^ 32) ≡ plus m node
+unfolding plus has
+or_is m node hm hn =
+    let set : ℕ = bit_or m (1 * 2 ^ node % 2 ^ 32) in
+    is_set 32 set (λ k. has m k || eqb k node) (or_lt 32 m (1 * 2 ^ node % 2 ^ 32) hm (mod-lt (1 * 2 ^ node) (pow_pos 32)))
+    (λ k _. by-node (λ k. has set k ≡ (has m k || eqb k node)) node
+    (ap (λ (x : ℕ). eqb x 1) (bit_at_set_same w32 m node hn) ∙ sym (rw (eq-eqb node node refl) (or-true (has m node))))
+    (λ k ne. ap (λ (x : ℕ). eqb x 1) (bit_at_set_other w32 m node hn k ne) ∙ sym (rw (ne_eqb k node ne) (or-false (has m k)))) k)
 
--- `(m | b) ^ b` with b the node alone
-pub xor_is : (m node : ℕ) → m < 2 ^ 32 → node < 32 → bit_xor (bit_or m (2 ^ node)) (2 ^ node) ≡ minus m node
-unfolding minus xor
-xor_is m node hm hn =
-    is_set 32 (bit_xor (bit_or m (2 ^ node)) (2 ^ node)) (λ k. has m k && not (eqb k node)) (xor_lt 32 (bit_or m (2 ^ node)) (2 ^ node) (or_lt 32 m (2 ^ node) hm (pow-lt hn)) (pow-lt hn))
-    (λ k _. has-xor (bit_or m (2 ^ node)) (2 ^ node) k ∙ ap₂ xor (has-or m (2 ^ node) k ∙ ap (λ (b : Bool). has m k || b) (has-pow node k)) (has-pow node k) ∙ four (λ a b. xor (a || b) b ≡ (a && not b)) refl refl refl refl (has m k) (eqb k node))
+-- `m & !(1 << node)`
+pub clear_is : (m node : ℕ) → m < 2 ^ 32 → node < 32 → bit_and m (2 ^ 32 - 1 - 1 * 2 ^ node % 2 ^ 32) ≡ minus m node
+unfolding minus has
+clear_is m node hm hn =
+    let set : ℕ = bit_and m (2 ^ 32 - 1 - 1 * 2 ^ node % 2 ^ 32) in
+    is_set 32 set (λ k. has m k && not (eqb k node)) (omega (arith, and_le_l m (2 ^ 32 - 1 - 1 * 2 ^ node % 2 ^ 32)))
+    (λ k hk. by-node (λ k. k < 32 → has set k ≡ (has m k && not (eqb k node))) node
+    (λ _. ap (λ (x : ℕ). eqb x 1) (bit_at_clear_same w32 m node hn) ∙ sym (rw (eq-eqb node node refl) (and-false (has m node))))
+    (λ k ne hk. ap (λ (x : ℕ). eqb x 1) (bit_at_clear_other w32 m node hn k hk ne) ∙ sym (rw (ne_eqb k node ne) (and-true (has m k)))) k hk)
 
 -- `m == 0`
 pub zero_is : (m : ℕ) → m < 2 ^ 32 → eqb m 0 ≡ empty m
@@ -300,6 +264,20 @@ zero_is m hm =
     same_test (eqb m 0) (empty m)
     (λ e. each-empty m (λ k _. ap (λ (x : ℕ). has x k) (eqb-true m 0 e) ∙ has-zero k))
     (λ e. eq-eqb m 0 (has-ext 32 m 0 hm (pow_pos 32) (λ k h. empty-each m e k h ∙ sym (has-zero k))))
+
+-- a digit of both is one of each
+least-one : (x y : ℕ) → x < 2 → y < 2 → eqb (min x y) 1 ≡ (eqb x 1 && eqb y 1)
+least-one zero zero hx hy = refl
+least-one zero (suc zero) hx hy = refl
+least-one zero (suc (suc y)) hx hy = absurd (omega arith)
+least-one (suc zero) zero hx hy = refl
+least-one (suc zero) (suc zero) hx hy = refl
+least-one (suc zero) (suc (suc y)) hx hy = absurd (omega arith)
+least-one (suc (suc x)) y hx hy = absurd (omega arith)
+
+has-and : (a b k : ℕ) → has (bit_and a b) k ≡ (has a k && has b k)
+unfolding has
+has-and a b k = ap (λ (x : ℕ). eqb x 1) (bit_at_and a b k) ∙ least-one (digit a k) (digit b k) (bit_at-lt a k) (bit_at-lt b k)
 
 -- `m & n == m`
 pub and_is : (m n : ℕ) → m < 2 ^ 32 → n < 2 ^ 32 → eqb (bit_and m n) m ≡ within m n

@@ -13,8 +13,7 @@ use lib.ListN.{length}
 use Rattle.extents.specs.Extents.{unknown_state, no_length, too_far, out_of_order, clash, any_of, first_rule, refusal, answer, verdict}
 use Rattle.extents.specs.Sentences.{Covers, ReadAndInvalid}
 use Rattle.extents.specs.declared.Extent.{Extent}
-use Rattle.extents.specs.declared.Verdict.{Verdict}
-use Rattle.extents.specs.declared.Verdict.TheVariants.{Accepted}
+use Rattle.extents.specs.Verdict.{Verdict, Accepted}
 use Rattle.extents.proofs.OnePass.{or_left}
 use Rattle.extents.proofs.Sentences.{and_both, by_cases, said, holds}
 use Rattle.merging.specs.Meaning.{Some, All}

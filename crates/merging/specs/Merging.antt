@@ -3,7 +3,7 @@
 use Rattle.std.specs.Prelude.{◌≡◌, List, [], ◌≤◌, length}
 use Rattle.extents.specs.Extents.{verdict}
 use Rattle.extents.specs.declared.Extent.{Extent}
-use Rattle.extents.specs.declared.Verdict.TheVariants.{Accepted}
+use Rattle.extents.specs.Verdict.{Accepted}
 use Rattle.merging.specs.Meaning.{SameMeaning}
 use Rattle.merging.specs.Merged.{merged}
 

@@ -21,8 +21,8 @@ use Rattle.mirroring.specs.Mirrors.{no_mirror, new_proxy, no_mirrors, is_device,
 use Rattle.mirroring.specs.Totals.{sum_of, proxy_sum}
 use Rattle.mirroring.specs.TotalsSteps.{sum_at}
 use Rattle.mirroring.specs.declared.mirrors.Mirror.{Mirror}
-use Rattle.places.specs.declared.Found.TheVariants.{At}
 use Rattle.places.proofs.Sets.{true-false, has-with}
+use Rattle.std.specs.Prelude.{Some}
 
 -- ---- how they go together
 pub record MirrorIs (m : Mirror) (d : Device) : Type 0 where
@@ -95,12 +95,12 @@ places_with k (proxy_at d) = suc k
 
 -- where the code finds a device
 pub record Placed (d : Device) (ms : List Mirror) (ds : List Device) (p : Proxy) : Type 0 where
-  pub at : first (is_device d) ms ≡ At (copy_place d ds)
+  pub at : first (is_device d) ms ≡ Some (copy_place d ds)
   pub inside : copy_place d ds < places_with 4 p
 
 -- the same if there are k places before the proxy's
 record PlacedBefore (k : ℕ) (d : Device) (ms : List Mirror) (ds : List Device) (p : Proxy) : Type 0 where
-  at : first (is_device d) ms ≡ At (cond (is_mirror d ds) (place_of d ds) k)
+  at : first (is_device d) ms ≡ Some (cond (is_mirror d ds) (place_of d ds) k)
   inside : cond (is_mirror d ds) (place_of d ds) k < places_with k p
 
 one-more-place : (k : ℕ) (p : Proxy) → places_with (suc k) p ≡ suc (places_with k p)
@@ -111,7 +111,7 @@ some-place : (k : ℕ) (p : Proxy) → k ≤ places_with k p
 some-place k no_proxy = omega arith
 some-place k (proxy_at d) = omega arith
 
-later-place : (b : Bool) (i k : ℕ) → At (suc (cond b i k)) ≡ At (cond b (suc i) (suc k))
+later-place : (b : Bool) (i k : ℕ) → Some (suc (cond b i k)) ≡ Some (cond b (suc i) (suc k))
 later-place true i k = refl
 later-place false i k = refl
 

@@ -12,14 +12,11 @@ use lib.Dec.{eqb, leb, ltb}
 use borrow.Author.Tests.{eqb-true, eqb-false, leb-true, leb-false, eq-eqb, ne_eqb, lt-ltb, le-ltb, ltb-false}
 use Rattle.xdr.specs.Be.{be_nat}
 use Rattle.places.specs.Lists.{any, none, fill}
-use Rattle.places.specs.Places.{first}
 use Rattle.reports.specs.Device.{Device, halves}
 use Rattle.mirroring.specs.Devices.{same_device, devices_in, mirrors_in, is_mirror, twice, bad_mirrors}
-use Rattle.mirroring.specs.Mirrors.{no_mirror, new_mirror, mirror_of, is_at, whole_list, refused_list, placed_mirrors, enrolled_of}
+use Rattle.mirroring.specs.Mirrors.{no_mirror, new_mirror, mirror_of, is_at, whole_list, Enrolled, refused_list, placed_mirrors, enrolled_of}
 use Rattle.mirroring.specs.declared.mirrors.Mirror.{Mirror}
-use Rattle.mirroring.specs.declared.enrol.Enrolled.{Enrolled}
-use Rattle.places.specs.declared.Found.TheVariants.{At, Nothing}
-use Rattle.places.proofs.Sets.{true-false, eqb-sym, any_append, first-at, first-nothing}
+use Rattle.places.proofs.Sets.{true-false, eqb-sym, any_append}
 use Rattle.places.proofs.Loops.{fill-snoc}
 use Rattle.mirroring.proofs.Copies.{known-new}
 
@@ -129,20 +126,20 @@ module _ {s : List ℕ} {ms : List Mirror} {i : ℕ} (r : Enrolling s ms i) wher
     named : any (is_at high low) ms ≡ is_mirror (halves (drop (16 * i) s)) (devices_in i s)
     named = rw (r.so_far, ← device-is) (known-new (devices_in i s) (record { high = high; low = low }) (omega (arith, devices-length i s, r.few)))
 
-    pub enrolling-twice : {k : ℕ} → first (is_at high low) ms ≡ At k → refused_list ≡ enrolled_of s
+    pub enrolling-twice : any (is_at high low) ms ≡ true → refused_list ≡ enrolled_of s
     unfolding enrolled_of
-    enrolling-twice {k} e =
-        let t : twice (devices_in (suc i) s) ≡ true = rw (devices-snoc i s, twice-snoc (devices_in i s) (halves (drop (16 * i) s)), r.apart) (sym named ∙ first-at (is_at high low) ms k e) in
+    enrolling-twice e =
+        let t : twice (devices_in (suc i) s) ≡ true = rw (devices-snoc i s, twice-snoc (devices_in i s) (halves (drop (16 * i) s)), r.apart) (sym named ∙ e) in
         let n : suc i + (length s / 16 - suc i) ≡ length s / 16 = omega (arith, r.ids) in
         rw (whole-bad s whole-so ∙ ap (λ n. twice (devices_in n s)) (sym n) ∙ still-twice (suc i) (length s / 16 - suc i) s t)
 
-    pub enrolling-more : first (is_at high low) ms ≡ Nothing → (m : Mirror) → m ≡ new_mirror high low → Enrolling s (set ms i m) (i + 1)
+    pub enrolling-more : any (is_at high low) ms ≡ false → (m : Mirror) → m ≡ new_mirror high low → Enrolling s (set ms i m) (i + 1)
     enrolling-more e m q = record {
       ids = r.ids;
       some = r.some;
       few = r.few;
       within = omega (arith, r.ids);
-      apart = rw (add-one, devices-snoc i s, twice-snoc (devices_in i s) (halves (drop (16 * i) s)), r.apart) (sym named ∙ first-nothing (is_at high low) ms e);
+      apart = rw (add-one, devices-snoc i s, twice-snoc (devices_in i s) (halves (drop (16 * i) s)), r.apart) (sym named ∙ e);
       so_far = rw (add-one, devices-snoc i s, map-append, q, r.so_far) (put ∙ ap (λ (d : Device). fill (map mirror_of (devices_in i s) ++ mirror_of d ∷ []) (replicate 5 no_mirror)) device-is);
     }
       where

@@ -12,10 +12,9 @@ use Rattle.masks.proofs.Laws.{has-zero, plus-node}
 use Rattle.places.proofs.Sets.{true-false}
 use Rattle.places.specs.Places.{bump, first, place_or}
 use Rattle.places.proofs.Loops.{map_at, Mapping, mapped_at}
-use Rattle.places.specs.declared.Found.{Found}
-use Rattle.places.specs.declared.Found.TheVariants.{At, Nothing}
 use Rattle.mirroring.specs.Mirrors.{blamed_if, blamed_by, blamed_at}
 use Rattle.mirroring.specs.declared.mirrors.Mirror.{Mirror}
+use Rattle.std.specs.Prelude.{Option, Some, None}
 
 by_place : (p : ℕ → Bool) (ms : List Mirror) → map_at (λ k. blamed_if (p k)) ms ≡ blamed_by p ms
 unfolding map_at blamed_by
@@ -26,17 +25,17 @@ pub mapped-places : (s : ℕ) (l : List Mirror) {m : List Mirror} {i : ℕ} → 
 mapped-places s l w h = mapped_at w h ∙ by_place (λ k. mask.has s k) l
 
 -- ---- a place that is found
-bumped : (b : Bool) (o : Found) (n : ℕ) → place_or 0 o ≤ n → place_or 0 (cond b (At 0) (bump o)) ≤ suc n
+bumped : (b : Bool) (o : Option ℕ) (n : ℕ) → place_or 0 o ≤ n → place_or 0 (cond b (Some 0) (bump o)) ≤ suc n
 bumped true o n h = omega arith
-bumped false (At i) n h = omega arith
-bumped false Nothing n h = omega arith
+bumped false (Some i) n h = omega arith
+bumped false None n h = omega arith
 
 at_most : {A : Type 0} (p : A → Bool) (xs : List A) → place_or 0 (first p xs) ≤ length xs
 unfolding first
 at_most p [] = omega arith
 at_most p (x ∷ xs) = bumped (p x) (first p xs) (length xs) (at_most p xs)
 
-pub found_within : {A : Type 0} (p : A → Bool) (xs : List A) (i : ℕ) → first p xs ≡ At i → i ≤ length xs
+pub found_within : {A : Type 0} (p : A → Bool) (xs : List A) (i : ℕ) → first p xs ≡ Some i → i ≤ length xs
 found_within p xs i e = rw (ap (place_or 0) e) at (at_most p xs)
 
 -- ---- a set with a place

@@ -1,14 +1,15 @@
--- The search for a source from either end, among the places of ordinary mirrors. In this order: a place of those; from the first place up, where no place before i can be copied from; from the last place down, where no place from i on
+-- The search for a source from either end, among the places of ordinary mirrors. In this order: a place of those; the first that can be copied from; from the last place down, where no place from i on
 -- can.
 use mathlib.Core.Path.{◌≡◌, refl, ap, sym, ◌∙◌}
 use mathlib.Core.List.{List, [], ◌∷◌, ◌++◌, append-nil}
 use mathlib.Core.Bool.{Bool, true, false, cond}
 use Prim.Native.Nat.{ℕ, suc, ◌+◌, ◌<◌, ◌≤◌}
-use native.Mathlib.Numerals.{add-one}
 use native.Mathlib.Nat.{zero-add}
 use native.Mathlib.Omega.{arith}
-use lib.ListN.{get_or, length, take, drop, drop_of_length-le}
-use lib.Seq.{drop-cons, take-suc, take_all, length-take-le, get_or-take}
+use lib.ListN.{get_or, length, take}
+use lib.Seq.{take-suc, take_all, length-take-le, get_or-take}
+use Rattle.std.specs.Prelude.{Option, Some, None}
+use Rattle.places.specs.Places.{first, bump, place_or}
 use Rattle.mirroring.specs.Direction.{head_or, last_or}
 use Rattle.mirroring.specs.Mirrors.{no_mirror, is_good}
 use Rattle.mirroring.specs.Source.{ordinary, good_from}
@@ -22,25 +23,30 @@ pub four : (ms : List Mirror) → length ms ≡ 5 → length (ordinary ms) ≡ 4
 four ms e = length-take-le 4 ms (omega (arith, e))
 
 -- ---- up
-pub record Upwards (l : List Mirror) (i : ℕ) : Type 0 where
-  pub rest : good_from 0 l ≡ good_from i (drop i l)
+abbrev later : ℕ → Option ℕ → ℕ
+later k (Some i) = k + i
+later k None = 255
 
-pub upwards : (l : List Mirror) → Upwards l 0
-upwards l = record { rest = refl }
+later-item : (b : Bool) (k : ℕ) (o : Option ℕ) (ps : List ℕ) → later (suc k) o ≡ head_or 255 ps → later k (cond b (Some 0) (bump o)) ≡ head_or 255 (cond b (k ∷ ps) ps)
+unfolding head_or
+later-item true k o ps e = omega arith
+later-item false k (Some i) ps e = shift ∙ e
+  where
+    shift : k + suc i ≡ suc k + i
+    shift = omega arith
+later-item false k None ps e = e
 
--- `b` is whether the place i can be copied from
-module _ {l : List Mirror} {i : ℕ} (s : Upwards l i) (h : i < length l) {b : Bool} (t : b ≡ is_good (get_or l i no_mirror)) where
-  pub found_up : b ≡ true → i ≡ head_or 255 (good_from 0 l)
-  unfolding good_from head_or
-  found_up e = rw (s.rest, drop-cons l i no_mirror h, ← t, e)
+head-later : (k : ℕ) (l : List Mirror) → later k (first is_good l) ≡ head_or 255 (good_from k l)
+unfolding first good_from head_or
+head-later k [] = refl
+head-later k (m ∷ ms) = later-item (is_good m) k (first is_good ms) (good_from (suc k) ms) (head-later (suc k) ms)
 
-  pub on-up : b ≡ false → Upwards l (i + 1)
-  unfolding good_from
-  on-up e = record { rest = s.rest ∙ rw (drop-cons l i no_mirror h, ← t, e, add-one) }
+at-start : (o : Option ℕ) → place_or 255 o ≡ later 0 o
+at-start (Some i) = omega arith
+at-start None = refl
 
-pub none-up : {l : List Mirror} {i : ℕ} → Upwards l i → length l ≤ i → 255 ≡ head_or 255 (good_from 0 l)
-unfolding good_from head_or
-none-up {l} s h = rw (s.rest, drop_of_length-le l h)
+pub first-up : (l : List Mirror) → place_or 255 (first is_good l) ≡ head_or 255 (good_from 0 l)
+first-up l = at-start (first is_good l) ∙ head-later 0 l
 
 -- ---- down
 good-append : (k : ℕ) (ms : List Mirror) (m : Mirror) → good_from k (ms ++ m ∷ []) ≡ good_from k ms ++ cond (is_good m) ((k + length ms) ∷ []) []

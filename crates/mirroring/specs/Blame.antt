@@ -1,7 +1,9 @@
 -- MODEL. What a report says of a file's mirrors, in this order: what it changes; one device error; all of a report; the same by its two halves.
-use Rattle.std.specs.Prelude.{List, [], Bool, true, false, cond, not, ℕ, eqb}
+use Rattle.std.specs.Prelude.{List, [], Bool, true, false, cond, not, ℕ, eqb, Option, Some, None, Result, Ok, Err}
 use Rattle.masks.specs.Mask.{plus}
 use Rattle.statuses.specs.Names.{Status}
+use Rattle.statuses.specs.Numbers.{number}
+use Rattle.statuses.specs.declared.Status as refusal
 use Rattle.reports.specs.Report.{DeviceError, Report, Whole, Malformed, over}
 use Rattle.places.specs.Places.{first}
 use Rattle.mirroring.specs.Devices.{device_of}
@@ -12,10 +14,7 @@ use Rattle.mirroring.specs.declared.mirrors.Mirror.{Mirror}
 use Rattle.mirroring.specs.declared.blame.Change.{Change}
 use Rattle.mirroring.specs.declared.blame.Assessment.{Assessment}
 use Rattle.mirroring.specs.declared.blame.Errors.{Errors}
-use Rattle.mirroring.specs.declared.blame.Tallied.{Tallied}
 use Rattle.mirroring.specs.declared.totals.Totals.{Totals}
-use Rattle.places.specs.declared.Found.{Found}
-use Rattle.places.specs.declared.Found.TheVariants.{At, Nothing}
 
 -- ---- what a report changes
 abbrev pub no_change : Change
@@ -41,9 +40,9 @@ with_change x a = record { status = a.status; change = x; totals = a.totals }
 
 -- ---- one device error
 -- of what a report changes
-abbrev pub changed_at : Change → Status → Found → Change
-changed_at x s Nothing = naming x
-changed_at x s (At i) = cond (eqb s 0) x (blaming i x)
+abbrev pub changed_at : Change → Status → Option ℕ → Change
+changed_at x s None = naming x
+changed_at x s (Some i) = cond (eqb s 0) x (blaming i x)
 
 unfoldable pub changed_of : List Mirror → Change → ℕ → ℕ → Status → Change
 changed_of ms x hi lo s = changed_at x s (first (is_at hi lo) ms)
@@ -52,7 +51,7 @@ abbrev pub changed : List Mirror → Change → DeviceError → Change
 changed ms x e = changed_of ms x (device_of e).high (device_of e).low e.status
 
 -- of what it says
-abbrev pub with_error_at : Assessment → Status → Found → Assessment
+abbrev pub with_error_at : Assessment → Status → Option ℕ → Assessment
 with_error_at a s o = with_change (changed_at a.change s o) a
 
 unfoldable pub with_error_of : List Mirror → Assessment → ℕ → ℕ → Status → Assessment
@@ -78,6 +77,16 @@ assessment_of ms p = with_totals (cond (errors_assessed ms p).change.unknown no_
 -- what the device errors change: one has failed where a place is blamed
 abbrev pub change_in : Errors → Change
 change_in e = record { unknown = e.unknown; failed = not (eqb e.blamed 0); blamed = e.blamed }
+
+-- the status of the statistics records from a cursor on, and their totals
+pub record Tallied : Type 0 where
+  pub status : Status
+  pub totals : Totals
+
+-- the code's answer
+abbrev pub tallied : Result Totals refusal.Status → Tallied
+tallied (Ok t) = record { status = 0; totals = t }
+tallied (Err s) = record { status = number s; totals = no_totals }
 
 -- the statistics records' status and totals, which are none where they do not count
 unfoldable pub tallied_of : List Mirror → Bool → Report → Tallied

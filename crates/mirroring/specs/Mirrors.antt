@@ -1,12 +1,11 @@
 -- MODEL. A file's five places for mirrors, of which the last is the proxy's, in this order: one place; tests; changes; the proxy; the places that a mirror list fills.
-use Rattle.std.specs.Prelude.{List, [], ◌∷◌, map, Bool, true, false, not, cond, ℕ, suc, ◌%◌, get_or, set, replicate, eqb, leb}
+use Rattle.std.specs.Prelude.{List, [], ◌∷◌, map, Bool, true, false, not, cond, ℕ, suc, ◌%◌, get_or, set, replicate, eqb, leb, Option, Some, None}
 use Rattle.statuses.specs.Names.{Bytes}
 use Rattle.masks.specs.Mask as mask
 use Rattle.places.specs.Lists.{fill}
 use Rattle.reports.specs.Device.{Device}
 use Rattle.mirroring.specs.Devices.{mirrors_in, bad_mirrors}
 use Rattle.mirroring.specs.declared.mirrors.Mirror.{Mirror}
-use Rattle.mirroring.specs.declared.enrol.Enrolled.{Enrolled}
 
 abbrev pub no_mirror : Mirror
 no_mirror = record { high = 0; low = 0; present = false; blamed = false; proxy = false }
@@ -67,8 +66,18 @@ whole_list n = cond (cond (eqb (n % 16) 0) (not (eqb n 0)) false) (leb n 64) fal
 abbrev pub no_mirrors : List Mirror
 no_mirrors = replicate 5 no_mirror
 
+-- whether the list was good, and the mirrors if so
+pub record Enrolled : Type 0 where
+  pub mirrors : List Mirror
+  pub good : Bool
+
 abbrev pub refused_list : Enrolled
 refused_list = record { mirrors = no_mirrors; good = false }
+
+-- the code's answer
+abbrev pub enrolled : Option (List Mirror) → Enrolled
+enrolled (Some ms) = record { mirrors = ms; good = true }
+enrolled None = refused_list
 
 abbrev pub placed_mirrors : List Device → List Mirror
 placed_mirrors ds = fill (map mirror_of ds) no_mirrors

@@ -5,14 +5,14 @@ ghost use Rattle.std.specs.Prelude.{◌≡◌, ◌+◌, ◌*◌, ◌<◌, ◌≤
 ghost use Rattle.reports.specs.Report.{report_of, over};
 ghost use Rattle.reports.specs.ReportSteps.{errors_in};
 ghost use Rattle.reports.specs.StatisticsSteps.{statistics_from};
-ghost use Rattle.mirroring.specs.Blame.{no_change, blaming, status_only, changed, changed_of, change_in, assessment_of, tallied_of, settled_of};
+ghost use Rattle.mirroring.specs.Blame.{no_change, blaming, status_only, changed, changed_of, change_in, assessment_of, tallied, tallied_of, settled_of};
 
 use crate::mirrors::{Mirror, PLACES, place};
 use crate::totals::Totals;
-use places::Found;
+use reports::Malformed;
 use reports::cursor::Cursor;
-use reports::report::{Entry, Reading};
-use reports::statistics::Item;
+use reports::report::Entry;
+use statuses::Status;
 
 // What a report changes in a file: whether a device was named that is neither a mirror nor the proxy; whether a device error of one of these had a
 // status other than 0; and the set of the places that such a device error blames.
@@ -37,13 +37,6 @@ pub struct Errors {
     pub unknown: bool,
     pub blamed: u32,
     pub next: Cursor,
-}
-
-// The status of the statistics records from a cursor on, and their totals, which are none where they do not count.
-#[derive(Clone, Copy)]
-pub struct Tallied {
-    pub status: u32,
-    pub totals: Totals,
 }
 
 impl Change {
@@ -85,7 +78,7 @@ impl Errors {
     fn device_error(mut self, mirrors: [Mirror; PLACES], high: u64, low: u64, status: u32) -> Errors
         ensures { change_in result ≡ changed_of mirrors (change_in self) high low status }
     {
-        let Found::At(i) = place(mirrors, high, low) else {
+        let Some(i) = place(mirrors, high, low) else {
             self.unknown = true;
             return self;
         };
@@ -101,12 +94,10 @@ impl Assessment {
     pub fn only(status: u32) -> Assessment
         ensures { result ≡ status_only status }
     {
-        let change = Change::none();
-        let totals = Totals::none();
         Assessment {
             status,
-            change,
-            totals,
+            change: Change::none(),
+            totals: Totals::none(),
         }
     }
 }
@@ -125,23 +116,12 @@ fn record_errors(
 {
     let mut x = so_far;
     let mut at = from;
-    let mut left = n;
-    while left != 0 {
-        match reports::report::device(body, at) {
-            Reading::Error {
-                high,
-                low,
-                status,
-                next,
-            } => {
-                x = x.device_error(mirrors, high, low, status);
-                at = next;
-                left -= 1;
-            }
-            Reading::Missing => {
-                return x;
-            }
-        }
+    for _ in 0..n {
+        let Some(e) = reports::report::device(body, at) else {
+            return x;
+        };
+        x = x.device_error(mirrors, e.high, e.low, e.status);
+        at = e.next;
     }
     x
 }
@@ -154,22 +134,22 @@ pub fn blamed(mirrors: [Mirror; PLACES], body: &[u8]) -> Errors
     let mut x = Errors::none(c);
     loop {
         match reports::report::next(body, c) {
-            Entry::Record { at, devices, next } => {
+            Ok(Entry::Record { at, devices, next }) => {
                 x = record_errors(x, mirrors, body, at, devices);
                 c = next;
             }
-            Entry::Statistics(next) => {
+            Ok(Entry::Statistics(next)) => {
                 return Errors {
                     unknown: x.unknown,
                     blamed: x.blamed,
                     next,
                 };
             }
-            Entry::Malformed => {
+            Err(Malformed) => {
                 return Errors {
                     unknown: x.unknown,
                     blamed: x.blamed,
-                    next: reports::cursor::none(body),
+                    next: Cursor::none(body),
                 };
             }
         }
@@ -178,44 +158,25 @@ pub fn blamed(mirrors: [Mirror; PLACES], body: &[u8]) -> Errors
 
 // What the statistics records say, which are only passed where they do not count.
 #[tactic(auto, using(crate::proofs::Assessing::passed_is))]
-pub fn tally(mirrors: [Mirror; PLACES], body: &[u8], from: Cursor, counts: bool) -> Tallied
-    ensures { result ≡ tallied_of mirrors counts (statistics_from body.now from) }
+pub fn tally(
+    mirrors: [Mirror; PLACES],
+    body: &[u8],
+    from: Cursor,
+    counts: bool,
+) -> Result<Totals, Status>
+    ensures { tallied result ≡ tallied_of mirrors counts (statistics_from body.now from) }
 {
     let mut t = Totals::none();
     if !counts {
-        return Tallied {
-            status: reports::statistics::check(body, from),
-            totals: t,
-        };
+        reports::statistics::check(body, from)?;
+        return Ok(t);
     }
     let mut c = from;
-    loop {
-        match reports::statistics::next(body, c) {
-            Item::Given {
-                high,
-                low,
-                read,
-                written,
-                next,
-            } => {
-                t = t.add(mirrors, high, low, read, written);
-                c = next;
-            }
-            Item::End => {
-                return Tallied {
-                    status: 0,
-                    totals: t,
-                };
-            }
-            Item::Malformed => {
-                let nothing = Totals::none();
-                return Tallied {
-                    status: statuses::BADXDR,
-                    totals: nothing,
-                };
-            }
-        }
+    while let Some(y) = reports::statistics::next(body, c)? {
+        t = t.add(mirrors, y.high, y.low, y.read, y.written);
+        c = y.next;
     }
+    Ok(t)
 }
 
 // All that a report's body says.
@@ -223,12 +184,10 @@ pub fn assess(mirrors: [Mirror; PLACES], body: &[u8]) -> Assessment
     ensures { result ≡ assessment_of mirrors (report_of body.now) }
 {
     let e = blamed(mirrors, body);
-    let next = e.next;
-    let t = tally(mirrors, body, next, !e.unknown);
-    if t.status != 0 {
-        return Assessment::only(t.status);
-    }
-    let totals = t.totals;
+    let totals = match tally(mirrors, body, e.next, !e.unknown) {
+        Ok(totals) => totals,
+        Err(status) => return Assessment::only(u32::from(status)),
+    };
     Assessment {
         status: 0,
         change: Change {

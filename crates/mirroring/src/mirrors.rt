@@ -5,8 +5,6 @@ ghost use Rattle.places.specs.Lists.{any};
 ghost use Rattle.places.specs.Places.{first};
 ghost use Rattle.mirroring.specs.Mirrors.{no_mirror, new_mirror, new_proxy, is_at, is_good, unblamed, blamed_if, blamed_at, has_proxy, with_proxy, without_proxy};
 
-use places::Found;
-
 // How many ordinary mirrors a file may have; they stand at the first places.
 pub const MIRRORS: usize = 4;
 
@@ -49,8 +47,7 @@ impl Mirror {
             high,
             low,
             present: true,
-            blamed: false,
-            proxy: false,
+            ..Mirror::none()
         }
     }
 
@@ -59,11 +56,8 @@ impl Mirror {
         ensures { result ≡ new_proxy high low }
     {
         Mirror {
-            high,
-            low,
-            present: true,
-            blamed: false,
             proxy: true,
+            ..Mirror::new(high, low)
         }
     }
 
@@ -82,14 +76,13 @@ impl Mirror {
     }
 
     // The place once its device is blamed, if it is.
-    pub(crate) fn blame(mut self, faulty: bool) -> Mirror
+    pub(crate) fn blame(self, faulty: bool) -> Mirror
         ensures { result ≡ blamed_if faulty self }
     {
-        if faulty {
-            self.blamed = true;
-            return self;
+        Mirror {
+            blamed: self.blamed || faulty,
+            ..self
         }
-        self
     }
 
     // The place once the file is repaired.
@@ -102,36 +95,24 @@ impl Mirror {
 }
 
 // The place of a device.
-pub(crate) fn place(mirrors: [Mirror; PLACES], high: u64, low: u64) -> Found
+pub(crate) fn place(mirrors: [Mirror; PLACES], high: u64, low: u64) -> Option<usize>
     ensures { result ≡ first (is_at high low) mirrors }
 {
-    let mut i: usize = 0;
-    while i < PLACES {
-        let m = mirrors[i];
-        if m.is(high, low) {
-            return Found::At(i);
-        }
-        i += 1;
-    }
-    Found::Nothing
+    mirrors.iter().position(|m| m.is(high, low))
 }
 
 // Whether a device stands at a place.
 pub fn stands(mirrors: [Mirror; PLACES], high: u64, low: u64) -> bool
     ensures { result ≡ any (is_at high low) mirrors }
 {
-    match place(mirrors, high, low) {
-        Found::At(_) => true,
-        Found::Nothing => false,
-    }
+    mirrors.iter().any(|m| m.is(high, low))
 }
 
 // Whether a proxy is there.
 pub fn has_proxy(mirrors: [Mirror; PLACES]) -> bool
     ensures { result ≡ has_proxy mirrors }
 {
-    let m = mirrors[PROXY];
-    m.present
+    mirrors[PROXY].present
 }
 
 // The mirrors with a proxy.
@@ -139,8 +120,7 @@ pub fn with_proxy(mirrors: [Mirror; PLACES], high: u64, low: u64) -> [Mirror; PL
     ensures { result ≡ with_proxy high low mirrors }
 {
     let mut ms = mirrors;
-    let m = Mirror::new_proxy(high, low);
-    ms[PROXY] = m;
+    ms[PROXY] = Mirror::new_proxy(high, low);
     ms
 }
 
@@ -149,8 +129,7 @@ pub fn without_proxy(mirrors: [Mirror; PLACES]) -> [Mirror; PLACES]
     ensures { result ≡ without_proxy mirrors }
 {
     let mut ms = mirrors;
-    let m = Mirror::none();
-    ms[PROXY] = m;
+    ms[PROXY] = Mirror::none();
     ms
 }
 
@@ -158,15 +137,7 @@ pub fn without_proxy(mirrors: [Mirror; PLACES]) -> [Mirror; PLACES]
 pub fn cleared(mirrors: [Mirror; PLACES]) -> [Mirror; PLACES]
     ensures { result ≡ map unblamed mirrors }
 {
-    let mut ms = mirrors;
-    let mut i: usize = 0;
-    while i < PLACES {
-        let m = ms[i];
-        let n = m.clear();
-        ms[i] = n;
-        i += 1;
-    }
-    ms
+    places::each(mirrors, |m| m.clear())
 }
 
 // The mirrors with those blamed whose places are in a set.
@@ -174,12 +145,8 @@ pub fn with_blame(mirrors: [Mirror; PLACES], places: u32) -> [Mirror; PLACES]
     ensures { result ≡ blamed_at places mirrors }
 {
     let mut ms = mirrors;
-    let mut i: usize = 0;
-    while i < PLACES {
-        let m = ms[i];
-        let n = m.blame(masks::test(places, i as u32));
-        ms[i] = n;
-        i += 1;
+    for i in 0..PLACES {
+        ms[i] = ms[i].blame(masks::test(places, i as u32));
     }
     ms
 }

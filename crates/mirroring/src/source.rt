@@ -1,7 +1,8 @@
 // The place to copy a file from (Rules 5.7; 02, Ticket 11): the first that is not blamed, by the direction that is asked for, among the places of ordinary mirrors,
-// so that it is never the proxy's. First the direction, then the search from either end: a loop for each, since with one loop the compiler looks at all
-// places, and each of them ends at the first that it finds.
-ghost use Rattle.std.specs.Prelude.{◌≡◌};
+// so that it is never the proxy's. First the direction, then the search from either end.
+ghost use Rattle.std.specs.Prelude.{◌≡◌, ◌<◌};
+ghost use Rattle.std.specs.Option.{IfSome};
+ghost use Rattle.places.specs.Places.{place_or};
 ghost use Rattle.mirroring.specs.Direction.{head_or, last_or};
 ghost use Rattle.mirroring.specs.Source.{ordinary, good_from, source_in};
 
@@ -15,38 +16,30 @@ pub enum Direction {
 }
 
 // From the first place up.
-fn lowest(mirrors: [Mirror; PLACES]) -> u8
-    ensures { result ≡ head_or 255 (good_from 0 (ordinary mirrors)) }
+fn lowest(mirrors: [Mirror; PLACES]) -> Option<usize>
+    ensures place { place_or 255 result ≡ head_or 255 (good_from 0 (ordinary mirrors)) }
+    ensures below { IfSome result (λ i. i < 4) }
 {
-    let mut i: usize = 0;
-    while i < MIRRORS {
-        let m = mirrors[i];
-        if m.good() {
-            return i as u8;
-        }
-        i += 1;
-    }
-    255
+    mirrors[..MIRRORS].iter().position(|m| m.good())
 }
 
 // From the last place down.
-fn highest(mirrors: [Mirror; PLACES]) -> u8
-    ensures { result ≡ last_or 255 (good_from 0 (ordinary mirrors)) }
+fn highest(mirrors: [Mirror; PLACES]) -> Option<usize>
+    ensures place { place_or 255 result ≡ last_or 255 (good_from 0 (ordinary mirrors)) }
+    ensures below { IfSome result (λ i. i < 4) }
 {
-    let mut i: usize = MIRRORS;
-    while 0 < i {
-        i -= 1;
-        let m = mirrors[i];
-        if m.good() {
-            return i as u8;
+    for i in (0..MIRRORS).rev() {
+        if mirrors[i].good() {
+            return Some(i);
         }
     }
-    255
+    None
 }
 
-// The place to copy from, or 255.
-pub fn source(mirrors: [Mirror; PLACES], direction: Direction) -> u8
-    ensures { result ≡ source_in direction mirrors }
+// The place to copy from; where there is none, the definition has 255.
+pub fn source(mirrors: [Mirror; PLACES], direction: Direction) -> Option<usize>
+    ensures place { place_or 255 result ≡ source_in direction mirrors }
+    ensures below { IfSome result (λ i. i < 4) }
 {
     match direction {
         Direction::Lowest => lowest(mirrors),

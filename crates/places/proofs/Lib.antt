@@ -1,3 +1,4 @@
 pub mod Slots
 pub mod Sets
 pub mod Loops
+pub mod Std

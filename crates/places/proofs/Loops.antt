@@ -13,54 +13,53 @@ use lib.Seq.{set-get_or, drop-cons, take-suc, take-suc-set, drop-set-lt, set_spl
 use borrow.Author.Tests.{le-leb, leb-true, leb-false, eq-eqb, ne_eqb}
 use Rattle.places.specs.Lists.{chosen, fill}
 use Rattle.places.specs.Places.{pull, left_out, bump, first}
-use Rattle.places.specs.declared.Found.{Found}
-use Rattle.places.specs.declared.Found.TheVariants.{At, Nothing}
 use Rattle.places.proofs.Slots.{fill-length}
+use Rattle.std.specs.Prelude.{Option, Some, None}
 
 -- an array of structs that is a field: its length, as `c.good` has it
 pub mapped-length : {A B : Type 0} (f : A → B) (l : List A) (n : ℕ) → length (map f l) ≡ n → length l ≡ n
 mapped-length f l n e = sym (length-map l f) ∙ e
 
 -- ---- a search for p in l has come to the place i, and o is what it is to answer
-abbrev from : ℕ → Found → Found
-from i (At k) = At (i + k)
-from i Nothing = Nothing
+abbrev from : ℕ → Option ℕ → Option ℕ
+from i (Some k) = Some (i + k)
+from i None = None
 
-pub record Searching {A : Type 0} (p : A → Bool) (l : List A) (i : ℕ) (o : Found) : Type 0 where
+pub record Searching {A : Type 0} (p : A → Bool) (l : List A) (i : ℕ) (o : Option ℕ) : Type 0 where
   pub rest : o ≡ from i (first p (drop i l))
 
-from_zero : (o : Found) → o ≡ from 0 o
-from_zero (At k) = ap At (omega arith)
-from_zero Nothing = refl
+from_zero : (o : Option ℕ) → o ≡ from 0 o
+from_zero (Some k) = ap Some (omega arith)
+from_zero None = refl
 
-from-bump : (i : ℕ) (o : Found) → from i (bump o) ≡ from (suc i) o
-from-bump i (At k) = ap At (omega arith)
-from-bump i Nothing = refl
+from-bump : (i : ℕ) (o : Option ℕ) → from i (bump o) ≡ from (suc i) o
+from-bump i (Some k) = ap Some (omega arith)
+from-bump i None = refl
 
 pub searching : {A : Type 0} (p : A → Bool) (l : List A) → Searching p l 0 (first p l)
 searching p l = record { rest = from_zero (first p l) }
 
 -- a step: `b` is what the test says of the place i
-module _ {A : Type 0} {p : A → Bool} {l : List A} {i : ℕ} {o : Found} (s : Searching p l i o) (d : A) (h : i < length l) (b : Bool) (t : b ≡ p (get_or l i d)) where
-  pub hit : b ≡ true → At i ≡ o
+module _ {A : Type 0} {p : A → Bool} {l : List A} {i : ℕ} {o : Option ℕ} (s : Searching p l i o) (d : A) (h : i < length l) (b : Bool) (t : b ≡ p (get_or l i d)) where
+  pub hit : b ≡ true → Some i ≡ o
   unfolding first
-  hit q = sym (s.rest ∙ rw (drop-cons l i d h, ← t, q) (ap At (omega arith)))
+  hit q = sym (s.rest ∙ rw (drop-cons l i d h, ← t, q) (ap Some (omega arith)))
 
   pub miss : b ≡ false → Searching p l (i + 1) o
   unfolding first
   miss q = record { rest = s.rest ∙ rw (add-one, drop-cons l i d h, ← t, q) (from-bump i (first p (drop (suc i) l))) }
 
-pub over : {A : Type 0} {p : A → Bool} {l : List A} {i : ℕ} {o : Found} → Searching p l i o → length l ≤ i → Nothing ≡ o
+pub over : {A : Type 0} {p : A → Bool} {l : List A} {i : ℕ} {o : Option ℕ} → Searching p l i o → length l ≤ i → None ≡ o
 unfolding first
 over {l} s h = sym (s.rest ∙ rw (drop_of_length-le l h))
 
 -- the place that is found is one of the list's
-below-item : (b : Bool) (o : Found) (k n : ℕ) → cond b (At 0) (bump o) ≡ At k → ((j : ℕ) → o ≡ At j → j < n) → k < suc n
+below-item : (b : Bool) (o : Option ℕ) (k n : ℕ) → cond b (Some 0) (bump o) ≡ Some k → ((j : ℕ) → o ≡ Some j → j < n) → k < suc n
 below-item true o k n e f = let q : 0 ≡ k = cc in omega arith
-below-item false (At j) k n e f = let q : suc j ≡ k = cc in omega (arith, f j refl)
-below-item false Nothing k n e f = let z : ◌≡◌ {A = ℕ} 0 1 = cc in absurd (omega arith)
+below-item false (Some j) k n e f = let q : suc j ≡ k = cc in omega (arith, f j refl)
+below-item false None k n e f = let z : ◌≡◌ {A = ℕ} 0 1 = cc in absurd (omega arith)
 
-pub found_below : {A : Type 0} (p : A → Bool) (l : List A) (k : ℕ) → first p l ≡ At k → k < length l
+pub found_below : {A : Type 0} (p : A → Bool) (l : List A) (k : ℕ) → first p l ≡ Some k → k < length l
 unfolding first
 found_below p [] k e = let z : ◌≡◌ {A = ℕ} 0 1 = cc in absurd (omega arith)
 found_below p (x ∷ xs) k e = below-item (p x) (first p xs) k (length xs) e (λ j q. found_below p xs j q)
@@ -199,6 +198,11 @@ module _ {A : Type 0} {e : A} {n : ℕ} {w l : List A} {i : ℕ} (s : Pulling e 
       let p : length l ≤ suc n = omega (arith, s.long) in
       let m : drop (suc n) l ≡ [] = drop_of_length-le l p in
       sym (s.rest ∙ rw (h, drop-cons l n d a, m, ← q) (sym (set_split l n z a ∙ rw m)))
+
+-- where no such place is, nothing goes
+pub left_out-none : {A : Type 0} (e : A) (at : ℕ) (l : List A) → length l ≤ at → left_out e at l ≡ l
+unfolding pull
+left_out-none e at l h = rw (drop_of_length-le l h) (append-nil (take at l) ∙ take_all at l h)
 
 -- the same over all places: before `at` nothing is pulled
 abbrev pub reach : ℕ → ℕ → ℕ

@@ -9,9 +9,8 @@ use native.Mathlib.Decide.{ℕ_discrete}
 use lib.Dec.{eqb}
 use borrow.Author.Tests.{eqb-true, eq-eqb, ne_eqb}
 use Rattle.places.specs.Places.{bump, first}
-use Rattle.places.specs.declared.Found.{Found}
-use Rattle.places.specs.declared.Found.TheVariants.{At, Nothing}
 use Rattle.places.specs.Lists.{any, has, with}
+use Rattle.std.specs.Prelude.{Option, Some, None}
 
 pub true-false : {A : Type 0} → true ≡ false → A
 true-false e = let z : ◌≡◌ {A = ℕ} 0 1 = cc in absurd (omega arith)
@@ -66,32 +65,32 @@ unfolding with
 with-new c xs e = rw e
 
 -- what a search says of a test of the whole list
-first_by : (b : Bool) (o : Found) (c : Bool) → ((i : ℕ) → o ≡ At i → c ≡ true) → (i : ℕ) → cond b (At 0) (bump o) ≡ At i → cond b true c ≡ true
+first_by : (b : Bool) (o : Option ℕ) (c : Bool) → ((i : ℕ) → o ≡ Some i → c ≡ true) → (i : ℕ) → cond b (Some 0) (bump o) ≡ Some i → cond b true c ≡ true
 first_by true o c f i e = refl
-first_by false (At j) c f i e = f j refl
-first_by false Nothing c f i e = let z : ◌≡◌ {A = ℕ} 0 1 = cc in absurd (omega arith)
+first_by false (Some j) c f i e = f j refl
+first_by false None c f i e = let z : ◌≡◌ {A = ℕ} 0 1 = cc in absurd (omega arith)
 
-no-by : (b : Bool) (o : Found) (c : Bool) → (o ≡ Nothing → c ≡ false) → cond b (At 0) (bump o) ≡ Nothing → cond b true c ≡ false
+no-by : (b : Bool) (o : Option ℕ) (c : Bool) → (o ≡ None → c ≡ false) → cond b (Some 0) (bump o) ≡ None → cond b true c ≡ false
 no-by true o c g e = let z : ◌≡◌ {A = ℕ} 0 1 = cc in absurd (omega arith)
-no-by false (At j) c g e = let z : ◌≡◌ {A = ℕ} 0 1 = cc in absurd (omega arith)
-no-by false Nothing c g e = g refl
+no-by false (Some j) c g e = let z : ◌≡◌ {A = ℕ} 0 1 = cc in absurd (omega arith)
+no-by false None c g e = g refl
 
-pub first-nothing : {A : Type 0} (p : A → Bool) (xs : List A) → first p xs ≡ Nothing → any p xs ≡ false
+pub first-nothing : {A : Type 0} (p : A → Bool) (xs : List A) → first p xs ≡ None → any p xs ≡ false
 unfolding first any
 first-nothing p [] e = refl
 first-nothing p (x ∷ xs) e = no-by (p x) (first p xs) (any p xs) (λ q. first-nothing p xs q) e
 
-pub first-at : {A : Type 0} (p : A → Bool) (xs : List A) (i : ℕ) → first p xs ≡ At i → any p xs ≡ true
+pub first-at : {A : Type 0} (p : A → Bool) (xs : List A) (i : ℕ) → first p xs ≡ Some i → any p xs ≡ true
 unfolding first any
 first-at p [] i e = let z : ◌≡◌ {A = ℕ} 0 1 = cc in absurd (omega arith)
 first-at p (x ∷ xs) i e = first_by (p x) (first p xs) (any p xs) (λ j q. first-at p xs j q) i e
 
-pub none_first : {A : Type 0} (p : A → Bool) (xs : List A) → any p xs ≡ false → first p xs ≡ Nothing
+pub none_first : {A : Type 0} (p : A → Bool) (xs : List A) → any p xs ≡ false → first p xs ≡ None
 unfolding first any
 none_first p [] e = refl
 none_first p (x ∷ xs) e = by (p x) (any p xs) e (none_first p xs)
   where
-    by : (b c : Bool) → cond b true c ≡ false → (c ≡ false → first p xs ≡ Nothing) → cond b (At 0) (bump (first p xs)) ≡ Nothing
+    by : (b c : Bool) → cond b true c ≡ false → (c ≡ false → first p xs ≡ None) → cond b (Some 0) (bump (first p xs)) ≡ None
     by true c q f = true-false q
     by false c q f = rw (f q)
 

@@ -9,7 +9,7 @@ use lib.Dec.{ltb}
 use borrow.Author.Tests.{ltb-true, ltb-false, lt-ltb, le-ltb}
 use Rattle.places.specs.Lists.{any, chosen, amend, discard, first_or, fill}
 use Rattle.places.specs.Places.{first, pull, left_out}
-use Rattle.places.specs.declared.Found.TheVariants.{At, Nothing}
+use Rattle.std.specs.Prelude.{Some, None}
 
 pub data All {A : Type 0} (P : A → Type 0) : List A → Type 0 where
   all_nil : All P []
@@ -119,7 +119,7 @@ left_out-length e i xs = simp (length-append, pull-length) (sym (length-append (
 
 -- the place i is the first that passes p, and y, the first that passes q, stands there
 pub record Hit {A B : Type 0} (R : A → B → Type 0) (F : A → Type 0) (p : A → Bool) (q : B → Bool) (xs : List A) (ys : List B) (i : ℕ) (y : B) : Type 0 where
-  pub at : first p xs ≡ At i
+  pub at : first p xs ≡ Some i
   pub inside : i < length xs
   pub there : any q ys ≡ true
   pub passes : q y ≡ true
@@ -130,17 +130,17 @@ pub record Hit {A B : Type 0} (R : A → B → Type 0) (F : A → Type 0) (p : A
   pub out : (e : A) → F e → Slots R F (left_out e i xs) (discard q ys)
 
 pub data Focus {A B : Type 0} (R : A → B → Type 0) (F : A → Type 0) (p : A → Bool) (q : B → Bool) (xs : List A) (ys : List B) : Type 0 where
-  missing : first p xs ≡ Nothing → any q ys ≡ false → Focus R F p q xs ys
+  missing : first p xs ≡ None → any q ys ≡ false → Focus R F p q xs ys
   found : (i : ℕ) (y : B) → Hit R F p q xs ys i y → Focus R F p q xs ys
 
 -- the place i is the first that is free
 pub record Space {A B : Type 0} (R : A → B → Type 0) (F : A → Type 0) (p : A → Bool) (xs : List A) (ys : List B) (i : ℕ) : Type 0 where
-  pub at : first p xs ≡ At i
+  pub at : first p xs ≡ Some i
   pub less : length ys < length xs
   pub put : (x : A) (y : B) → R x y → Slots R F (set xs i x) (ys ++ y ∷ [])
 
 pub data Room {A B : Type 0} (R : A → B → Type 0) (F : A → Type 0) (p : A → Bool) (xs : List A) (ys : List B) : Type 0 where
-  full : first p xs ≡ Nothing → length xs ≡ length ys → Room R F p xs ys
+  full : first p xs ≡ None → length xs ≡ length ys → Room R F p xs ys
   room : (i : ℕ) → Space R F p xs ys i → Room R F p xs ys
 
 -- ---- a test of the places that says what a test of the elements says, and no of a free place
@@ -170,7 +170,7 @@ module _ {A B : Type 0} {R : A → B → Type 0} {F : A → Type 0} (p : A → B
   slots-chosen (rest h) = rw (all-chosen h) pairs-nil
   slots-chosen (item {x} {y} r s) = rw (used x y r) (chosen-item (q y) r (slots-chosen s))
 
-  all_first : {xs : List A} → All F xs → first p xs ≡ Nothing
+  all_first : {xs : List A} → All F xs → first p xs ≡ None
   unfolding first
   all_first all_nil = refl
   all_first (all_cons {x} h t) = rw (free x h, all_first t)

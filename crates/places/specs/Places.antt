@@ -1,24 +1,22 @@
 -- MODEL. Places of an array: the first that passes a test, and what stands after a place pulled down over it.
-use Rattle.std.specs.Prelude.{List, [], ◌∷◌, ◌++◌, Bool, true, false, cond, ℕ, suc, take, drop}
-use Rattle.places.specs.declared.Found.{Found}
-use Rattle.places.specs.declared.Found.TheVariants.{At, Nothing}
+use Rattle.std.specs.Prelude.{List, [], ◌∷◌, ◌++◌, Bool, true, false, cond, ℕ, suc, take, drop, Option, Some, None}
 
-abbrev pub bump : Found → Found
-bump (At i) = At (suc i)
-bump Nothing = Nothing
+abbrev pub bump : Option ℕ → Option ℕ
+bump (Some i) = Some (suc i)
+bump None = None
 
-unfoldable pub first : {A : Type 0} → (A → Bool) → List A → Found
-first p [] = Nothing
-first p (x ∷ xs) = cond (p x) (At 0) (bump (first p xs))
+unfoldable pub first : {A : Type 0} → (A → Bool) → List A → Option ℕ
+first p [] = None
+first p (x ∷ xs) = cond (p x) (Some 0) (bump (first p xs))
 
-abbrev pub is_found : Found → Bool
-is_found (At i) = true
-is_found Nothing = false
+abbrev pub is_found : Option ℕ → Bool
+is_found (Some i) = true
+is_found None = false
 
 -- the place, or e if there is none
-abbrev pub place_or : ℕ → Found → ℕ
-place_or e (At i) = i
-place_or e Nothing = e
+abbrev pub place_or : ℕ → Option ℕ → ℕ
+place_or e (Some i) = i
+place_or e None = e
 
 unfoldable pub pull : {A : Type 0} → A → List A → List A
 pull e [] = []

@@ -1,5 +1,5 @@
 // For C: the check of an RDMA layout body, its extents by place with their handles, and the writer (Ticket 5; source document 001, section 2.4), from crate
-// `layouts`. A kind is a constant in each of the two crates, this one and `scsi`, that have its calls.
+// `layouts`. A kind is a constant in each of the two crates, this one and `scsi`, that have its calls: C calls each by its own name.
 // In this order: the check; the extent at a place; the writer.
 #![tactic(auto)]
 
@@ -9,6 +9,7 @@ ghost use Rattle.layouts.specs.declared.kinds.Kind.TheVariants.{Rdma};
 ghost use Rattle.layouts.specs.Layout.{check_body, extent_in, GaveC};
 ghost use Rattle.layouts.specs.Columns.{WroteC};
 
+use layouts::columns::Columns;
 use layouts::kinds::Kind;
 use scsi::layout::numbers;
 
@@ -34,15 +35,18 @@ pub fn sc_rdma_layout_extent(
 ) -> u32
     ensures { (GaveC (extent_in Rdma body.now 0 n i) result device.new offset.new len.new storage.new state.new) × (handle.new ≡ (extent_in Rdma body.now 0 n i).handle) }
 {
-    let got = layouts::layout::extent_in(Kind::Rdma, body, 0, n as usize, i as usize);
-    let e = got.extent;
-    *device = got.at as u64;
-    *offset = e.offset;
-    *handle = got.handle;
-    *len = e.len;
-    *storage = e.storage;
-    *state = e.state;
-    got.rule
+    scsi::layout::extent(
+        Kind::Rdma,
+        body,
+        n,
+        i,
+        device,
+        offset,
+        handle,
+        len,
+        storage,
+        state,
+    )
 }
 
 // The writer: 0, or the number of the rule that refuses; through `place` how many extents were written, or the place of the refused one.
@@ -58,17 +62,13 @@ pub fn sc_rdma_layout_write(
 ) -> u32
     ensures { WroteC Rdma (record { devices = devices.entry.now; offsets = offsets.now; handles = handles.now; lengths = lengths.now; storages = storages.now; states = states.now }) d.old result place.new d.new }
 {
-    numbers(
-        layouts::columns::write(
-            Kind::Rdma,
-            devices,
-            offsets,
-            handles,
-            lengths,
-            storages,
-            states,
-            d,
-        ),
-        place,
-    )
+    let rows = Columns {
+        devices,
+        offsets,
+        handles,
+        lengths,
+        storages,
+        states,
+    };
+    numbers(rows.write(Kind::Rdma, d), place)
 }

@@ -1,4 +1,6 @@
+pub mod Answering
 pub mod Moving
+pub mod Places
 pub mod Listings
 -- LAYOUTRETURN at a place of the record.
 pub mod Returning

@@ -30,14 +30,14 @@ module _ {w : List File} {x : File} {l : List File} where
       one_on h = omega arith
 
   module _ {i : ℕ} (s : Raising w x l i) (h : 0 < i) (y : File) (e : y ≡ get_or l (i - 1) no_file) where
-    pub raised-here : y.number ≤ x.number → set l i x ≡ w
+    pub raised-here : y.number ≤ x.number → set l (i - 1 + 1) x ≡ w
     unfolding raised
-    raised-here g = sym ((before s h).rest ∙ rw (← e, le-leb _ _ g) (ap (λ j. set l j x) (omega (arith, h))))
+    raised-here g = sym ((before s h).rest ∙ rw (← e, le-leb _ _ g) (ap (λ j. set l j x) (omega arith)))
 
-    pub raising-on : x.number < y.number → Raising w x (set l i y) (i - 1)
+    pub raising-on : x.number < y.number → Raising w x (set l (i - 1 + 1) y) (i - 1)
     unfolding raised
     raising-on g = record {
-      rest = (before s h).rest ∙ rw (← e, lt-leb _ _ g) (ap (λ j. raised x (i - 1) (set l j y)) (omega (arith, h)));
+      rest = (before s h).rest ∙ rw (← e, lt-leb _ _ g) (ap (λ j. raised x (i - 1) (set l j y)) (omega arith));
       long = simp length-set s.long;
       inside = omega (arith, s.inside);
     }

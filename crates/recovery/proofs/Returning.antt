@@ -9,9 +9,7 @@ use Rattle.mirroring.specs.Blame.{status_only}
 use Rattle.files.specs.File.{no_file, file_answered, raised_file}
 use Rattle.wire.specs.Stateid.{no_stateid}
 use Rattle.files.proofs.Changing.{unchanged, unraised}
-use Rattle.layoutreturn.specs.LayoutReturn.{handed_on_code, decision_of, outcome_of, outcome_by}
-use Rattle.layoutreturn.specs.declared.Decision.{Decision}
-use Rattle.layoutreturn.specs.declared.Decision.TheVariants.{Answered, HandedOn, ReadBody, ReturnBody}
+use Rattle.layoutreturn.specs.LayoutReturn.{handed_on_code, decision_of, outcome_of, outcome_by, Decision, Answered, HandedOn, ReadBody, ReturnBody}
 use Rattle.layoutreturn.specs.declared.Outcome.{Outcome}
 use Rattle.layoutreturn.proofs.Deciding.{body-decided, return-decided}
 use Rattle.recovery.specs.Record.{place_in, put_file}

@@ -8,12 +8,9 @@ use Rattle.wire.specs.Stateid.{no_stateid, stateid_in}
 use Rattle.wire.specs.declared.stateid.Stateid.{Stateid}
 use Rattle.mirroring.specs.Totals.{no_totals}
 use Rattle.mirroring.specs.declared.totals.Totals.{Totals}
-use Rattle.files.specs.File.{file_answered}
+use Rattle.files.specs.File.{FileAnswered, file_answered}
 use Rattle.files.specs.declared.file.File.{File}
-use Rattle.files.specs.declared.file.FileAnswered.{FileAnswered}
-use Rattle.layoutreturn.specs.LayoutReturn.{handed_on_code, decision_of, report_outcome, return_outcome, reply_by, file_after}
-use Rattle.layoutreturn.specs.declared.Decision.{Decision}
-use Rattle.layoutreturn.specs.declared.Decision.TheVariants.{Answered, HandedOn, ReadBody, ReturnBody}
+use Rattle.layoutreturn.specs.LayoutReturn.{handed_on_code, decision_of, report_outcome, return_outcome, reply_by, file_after, Decision, Answered, HandedOn, ReadBody, ReturnBody}
 use Rattle.layoutreturn.specs.declared.Outcome.{Outcome}
 use Rattle.recovery.specs.Record.{place_in, file_at, on_place}
 use Rattle.recovery.specs.declared.record.Record.{Record}

@@ -1,4 +1,5 @@
 pub mod Calls
 pub mod Counts
 pub mod Record
+pub mod Answers
 pub mod LayoutReturn

@@ -5,21 +5,18 @@ use Rattle.statuses.specs.Names.{Bytes, Status, Client, FileNumber}
 use Rattle.places.specs.Lists.{any, chosen}
 use Rattle.places.specs.Places.{first, place_or}
 use Rattle.wire.specs.Stateid.{new_stateid, bad_other}
-use Rattle.mirroring.specs.Mirrors.{enrolled_of}
-use Rattle.files.specs.File.{no_file, blank_file, file_of, is_file, is_vacant, opened_file, reclaimed_file, closed_file, repaired_file, proxy_added_file, proxy_removed_file, stated_file, uses_stateid, forgettable, restarted_file, ended_file, is_listed, is_ready, source_of, tallied}
+use Rattle.mirroring.specs.Mirrors.{Enrolled, enrolled_of}
+use Rattle.files.specs.File.{FileAnswered, no_file, blank_file, file_of, is_file, is_vacant, opened_file, reclaimed_file, closed_file, repaired_file, proxy_added_file, proxy_removed_file, stated_file, uses_stateid, forgettable, restarted_file, ended_file, is_listed, is_ready, source_of, tallied}
 use Rattle.files.specs.Head.{fresh_head}
 use Rattle.files.specs.declared.head.Edition.{Edition}
 use Rattle.files.specs.declared.head.Edition.TheVariants.{Current}
 use Rattle.files.specs.declared.file.File.{File}
-use Rattle.files.specs.declared.file.FileAnswered.{FileAnswered}
 use Rattle.files.specs.declared.head.Head.{Head}
-use Rattle.mirroring.specs.declared.enrol.Enrolled.{Enrolled}
 use Rattle.mirroring.specs.declared.source.Direction.{Direction}
 use Rattle.recovery.specs.Calls.{Answer, lend}
 use Rattle.recovery.specs.declared.listing.Listing.{Listing}
 use Rattle.recovery.specs.declared.listing.Listing.TheVariants.{Resilver, Offered}
 use Rattle.recovery.specs.declared.record.Record.{Record}
-use Rattle.recovery.specs.declared.record.Answered.{Answered}
 
 -- ---- the record
 -- as it is set up: empty and not in grace, of an edition, which no call changes
@@ -37,6 +34,11 @@ with_grace g r = record { files = r.files; head = record { waiting = r.head.wait
 
 abbrev pub with_head : Head → Record → Record
 with_head h r = record { files = r.files; head = h }
+
+-- what a call answers, and the record afterwards
+pub record Answered : Type 0 where
+  pub status : Status
+  pub after : Record
 
 abbrev pub answered : Status → Record → Answered
 answered s r = record { status = s; after = r }

@@ -1,21 +1,16 @@
 // The two lists (paper 01, "The ledger"): the resilver list, and the files offered for copying. A listing fills two lent slices and answers how many
 // places it filled; the record stays.
-ghost use Rattle.std.specs.Prelude.{◌≡◌, length};
+ghost use Rattle.std.specs.Prelude.{◌≡◌, length, map};
+ghost use Rattle.files.specs.File.{source_of};
 ghost use Rattle.places.specs.Lists.{chosen};
-ghost use Rattle.recovery.specs.Calls.{listed};
-ghost use Rattle.recovery.specs.Record.{is_wanted, listing_of};
+ghost use Rattle.recovery.specs.Answers.{listed_as};
+ghost use Rattle.recovery.specs.Record.{is_wanted, number_of, listing_of};
+ghost use Rattle.recovery.specs.Calls.{lend};
 
 use crate::record::Record;
 use files::file::File;
 use mirroring::source::Direction;
-
-// The status, and how many places were filled.
-#[repr(C)]
-#[derive(Clone, Copy)]
-pub struct Listed {
-    pub status: u32,
-    pub count: usize,
-}
+use statuses::Status;
 
 // Which list is meant: of the files that need repair, all, or those with no intent.
 #[derive(Clone, Copy)]
@@ -36,57 +31,52 @@ impl Listing {
     }
 }
 
-// How many files are on the list.
-fn counted(files: [File; 64], which: Listing) -> usize
-    ensures { result ≡ length (chosen (is_wanted which) files) }
+// How many of these files are on the list.
+fn counted(files: &[File], which: Listing) -> usize
+    ensures { result ≡ length (chosen (is_wanted which) files.now) }
 {
-    let mut n: usize = 0;
-    let mut i: usize = 0;
-    while i < 64 {
-        let f = files[i];
-        i += 1;
-        if !which.has(f) {
-            continue;
-        }
-        n += 1;
+    files.iter().filter(|f| which.has(**f)).count()
+}
+
+// Those of these files that are on the list, in their order, with their sources by the direction, and how many they are: 28 and both slices unchanged if either is too short.
+pub fn list(
+    files: &[File],
+    which: Listing,
+    direction: Direction,
+    numbers: &mut [u64],
+    sources: &mut [u8],
+) -> Result<usize, Status>
+    ensures { listed_as result numbers.new sources.new ≡ lend (map number_of (chosen (is_wanted which) files.now)) (map (source_of direction) (chosen (is_wanted which) files.now)) numbers.old sources.old }
+{
+    let n = counted(files, which);
+    if numbers.len() < n || sources.len() < n {
+        return Err(Status::NoSpc);
     }
-    n
+    // counted by hand: the next place of two slices, moved on only by a file of the list
+    let mut k: usize = 0;
+    for f in files {
+        if which.has(*f) {
+            numbers[k] = f.number;
+            sources[k] = f.source(direction);
+            k += 1;
+        }
+    }
+    Ok(n)
 }
 
 impl Record {
-    // The files of a list, by rising number, with their sources by the direction: 28, count 0 and both slices unchanged if either is too short.
+    // The files of a list, by rising number.
+    #[tactic(auto, unfolding(crate::specs::Record::listing_of))]
     pub fn list(
         self,
         which: Listing,
         direction: Direction,
         numbers: &mut [u64],
         sources: &mut [u8],
-    ) -> Listed
-        ensures { listed result.status result.count numbers.new sources.new ≡ listing_of which direction self numbers.old sources.old }
+    ) -> Result<usize, Status>
+        ensures { listed_as result numbers.new sources.new ≡ listing_of which direction self numbers.old sources.old }
     {
         let fs = self.files;
-        let n = counted(fs, which);
-        if numbers.len() < n || sources.len() < n {
-            return Listed {
-                status: statuses::NOSPC,
-                count: 0,
-            };
-        }
-        let mut k: usize = 0;
-        let mut i: usize = 0;
-        while i < 64 {
-            let f = fs[i];
-            i += 1;
-            if !which.has(f) {
-                continue;
-            }
-            numbers[k] = f.number;
-            sources[k] = f.source(direction);
-            k += 1;
-        }
-        Listed {
-            status: 0,
-            count: n,
-        }
+        list(&fs, which, direction, numbers, sources)
     }
 }

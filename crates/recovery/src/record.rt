@@ -1,15 +1,18 @@
 // The record (paper 01, "The recovery record"): at most 64 files, by rising number, the free places last, and what stands beside them. Each call
 // answers its status and the record afterwards. First the loops over the 64 places, then the calls in the paper's order, and among them those on a file's
 // proxy (02, Ticket 7), and the set-up of a client's stateid (02, Ticket 13).
-ghost use Rattle.std.specs.Prelude.{◌≡◌, map, ◌<◌};
+ghost use Rattle.std.specs.Prelude.{◌≡◌, map, get_or, ◌<◌};
 ghost use Rattle.places.specs.Lists.{any};
-ghost use Rattle.files.specs.File.{restarted_file, uses_stateid};
+ghost use Rattle.files.specs.Answers.{answered_as};
+ghost use Rattle.files.specs.File.{no_file, restarted_file, uses_stateid};
 ghost use Rattle.files.specs.Head.{edition_of};
 ghost use Rattle.files.specs.declared.head.Edition.TheVariants.{Old};
-ghost use Rattle.recovery.specs.Record.{fresh_as, fresh, answered, place_in, put_file, room_in, enter, without_file, register_of, open_of, reclaim_of, close_of, repaired_of, add_proxy_of, remove_proxy_of, is_barred, set_up_of, forget_of, end_of, restart_of, ended_record};
+ghost use Rattle.recovery.specs.Record.{fresh_as, fresh, place_in, put_file, room_in, enter, without_file, register_of, open_of, reclaim_of, close_of, repaired_of, add_proxy_of, remove_proxy_of, is_barred, set_up_of, forget_of, end_of, restart_of, ended_record};
+ghost use Rattle.recovery.specs.Answers.{answer_as, left_as};
 
-use files::file::{File, FileAnswered};
+use files::file::{File, FileAfter};
 use files::head::{Edition, Head};
+use statuses::Status;
 use wire::stateid::Stateid;
 
 #[repr(C)]
@@ -20,10 +23,9 @@ pub struct Record {
 }
 
 // What a call answers, and the record afterwards.
-#[repr(C)]
 #[derive(Clone, Copy)]
 pub struct Answered {
-    pub status: u32,
+    pub answer: Result<(), Status>,
     pub after: Record,
 }
 
@@ -31,30 +33,14 @@ pub struct Answered {
 fn room(files: [File; 64]) -> usize
     ensures { (result ≡ room_in files) × (result < 64) }
 {
-    let mut k: usize = 0;
-    while k < 64 {
-        let f = files[k];
-        if f.free() {
-            return k;
-        }
-        k += 1;
-    }
-    63
+    files.iter().position(|f| f.free()).unwrap_or(63)
 }
 
 // Whether a file uses the `other` of `t`.
 fn in_use(files: [File; 64], t: Stateid) -> bool
     ensures { result ≡ any (uses_stateid t) files }
 {
-    let mut k: usize = 0;
-    while k < 64 {
-        let f = files[k];
-        if f.uses(t) {
-            return true;
-        }
-        k += 1;
-    }
-    false
+    files.iter().any(|f| f.uses(t))
 }
 
 // Whether an `other` may not be a new stateid's.
@@ -62,10 +48,7 @@ fn in_use(files: [File; 64], t: Stateid) -> bool
 fn bars(files: [File; 64], other: &[u8]) -> bool
     ensures { result ≡ is_barred other.now files }
 {
-    if wire::stateid::bad_other(other) {
-        return true;
-    }
-    in_use(files, wire::stateid::begun(other))
+    wire::stateid::bad_other(other) || in_use(files, wire::stateid::begun(other))
 }
 
 // The files with `x` among them by its number: from the first free place down, each with a greater number moves up one place.
@@ -73,15 +56,13 @@ fn entered(files: [File; 64], x: File) -> [File; 64]
     ensures { result ≡ enter x files }
 {
     let mut fs = files;
-    let mut i = room(files);
-    while 0 < i {
-        let y = fs[i - 1];
+    for i in (0..room(files)).rev() {
+        let y = fs[i];
         if y.number <= x.number {
-            fs[i] = x;
+            fs[i + 1] = x;
             return fs;
         }
-        fs[i] = y;
-        i -= 1;
+        fs[i + 1] = y;
     }
     fs[0] = x;
     fs
@@ -94,15 +75,13 @@ fn left_out(files: [File; 64], at: usize) -> [File; 64]
 {
     let mut fs = files;
     let blank = File::blank();
-    let mut i = at;
-    while i < 63 {
+    for i in at..63 {
         let y = fs[i + 1];
         if y.free() {
             fs[i] = blank;
             return fs;
         }
         fs[i] = y;
-        i += 1;
     }
     fs[63] = blank;
     fs
@@ -114,13 +93,9 @@ fn ended(files: [File; 64], before: Head) -> Record
 {
     let mut fs = files;
     let mut head = before;
-    let mut i: usize = 0;
-    while i < 64 {
-        let f = fs[i];
-        let g = f.ended();
-        fs[i] = g;
-        head = g.counted(head);
-        i += 1;
+    for f in &mut fs {
+        *f = f.ended();
+        head = f.counted(head);
     }
     Record { files: fs, head }
 }
@@ -130,12 +105,8 @@ fn restarted(files: [File; 64]) -> [File; 64]
     ensures { result ≡ map restarted_file files }
 {
     let mut fs = files;
-    let mut i: usize = 0;
-    while i < 64 {
-        let f = fs[i];
-        let g = f.restarted();
-        fs[i] = g;
-        i += 1;
+    for f in &mut fs {
+        *f = f.restarted();
     }
     fs
 }
@@ -151,7 +122,7 @@ impl Record {
         Record { files: fs, head }
     }
 
-    // The same of the current edition.
+    // The same of the current edition. This name and the next are the papers': each is one call of `set_up`.
     pub fn fresh() -> Record
         ensures { result ≡ fresh }
     {
@@ -177,182 +148,194 @@ impl Record {
     pub fn place(self, number: u64) -> usize
         ensures { (result ≡ place_in number self) × (result < 64) }
     {
-        let mut i: usize = 0;
-        while i < 64 {
-            let f = self.files[i];
-            if f.is(number) {
-                return i;
-            }
-            i += 1;
-        }
-        63
+        self.files.iter().position(|f| f.is(number)).unwrap_or(63)
     }
 
-    // What a call answers, with the record as it is.
-    fn answered(self, status: u32) -> Answered
-        ensures { result ≡ answered status self }
+    // What a call answers that leaves the record as it is handed, or is refused.
+    fn answered(self, after: Result<Record, Status>) -> Answered
+        ensures { answer_as result ≡ left_as self after }
     {
-        Answered {
-            status,
-            after: self,
+        match after {
+            Ok(after) => Answered {
+                answer: Ok(()),
+                after,
+            },
+            Err(status) => Answered {
+                answer: Err(status),
+                after: self,
+            },
         }
     }
 
-    // The record with a file and its head as a call on that file left them, and the call's status.
-    pub(crate) fn stored(mut self, at: usize, a: FileAnswered) -> Answered
+    // The same of a call on the file at a place, which leaves that file and what stands beside the files.
+    #[tactic(auto, using(crate::proofs::Answering::put_back))]
+    pub(crate) fn stored(mut self, at: usize, a: Result<FileAfter, Status>) -> Answered
         requires { at < 64 }
-        ensures { result ≡ put_file self at a }
+        ensures { answer_as result ≡ put_file self at (answered_as self.head (get_or self.files at no_file) a) }
     {
-        let f = a.file;
-        self.files[at] = f;
-        let head = a.head;
-        self.head = head;
-        self.answered(a.status)
+        match a {
+            Ok(a) => {
+                let f = a.file;
+                self.files[at] = f;
+                self.head = a.head;
+                self.answered(Ok(self))
+            }
+            Err(status) => self.answered(Err(status)),
+        }
     }
 
-    // Register a file with its mirrors, 16 bytes a device: 10013 in grace; 22 bad mirror list; 17 registered; 28 if 64 are registered.
-    pub fn register(mut self, file: u64, mirrors: &[u8]) -> Answered
-        ensures { result ≡ register_of file mirrors.now self }
+    // Register, decided, with the record afterwards.
+    #[tactic(auto, unfolding(crate::specs::Record::register_of))]
+    fn registered(mut self, file: u64, mirrors: &[u8]) -> Result<Record, Status>
+        ensures { left_as self result ≡ register_of file mirrors.now self }
     {
-        if self.head.grace {
-            return self.answered(statuses::GRACE);
-        }
-        let e = mirroring::enrol::enrol(mirrors);
-        if !e.good {
-            return self.answered(statuses::INVAL);
-        }
+        self.head.out_of_grace()?;
+        let Some(ms) = mirroring::enrol::enrol(mirrors) else {
+            return Err(Status::Inval);
+        };
         let i = self.place(file);
         let f = self.files[i];
         if f.is(file) {
-            return self.answered(statuses::EXIST);
+            return Err(Status::Exist);
         }
         let last = self.files[63];
         if last.used {
-            return self.answered(statuses::NOSPC);
+            return Err(Status::NoSpc);
         }
-        let ms = e.mirrors;
         let x = File::new(file, ms);
         let old = self.files;
         let fs = entered(old, x);
         self.files = fs;
-        self.answered(0)
+        Ok(self)
+    }
+
+    // Register a file with its mirrors, 16 bytes a device: 10013 in grace; 22 bad mirror list; 17 registered; 28 if 64 are registered.
+    pub fn register(self, file: u64, mirrors: &[u8]) -> Answered
+        ensures { answer_as result ≡ register_of file mirrors.now self }
+    {
+        self.answered(self.registered(file, mirrors))
     }
 
     // Open for writing: 10013 in grace; 70; held already: 0, no change; 28 if 8 are held.
+    #[tactic(auto, unfolding(crate::specs::Record::open_of))]
     pub fn open(self, file: u64, client: u64) -> Answered
-        ensures { result ≡ open_of file client self }
+        ensures { answer_as result ≡ open_of file client self }
     {
         let i = self.place(file);
         let f = self.files[i];
-        let a = f.open(file, self.head, client);
-        self.stored(i, a)
+        self.stored(i, f.open(file, self.head, client))
     }
 
     // Reclaim: 10033 not in grace; 70; 10034 no intent; again: 0, no change.
+    #[tactic(auto, unfolding(crate::specs::Record::reclaim_of))]
     pub fn reclaim(self, file: u64, client: u64) -> Answered
-        ensures { result ≡ reclaim_of file client self }
+        ensures { answer_as result ≡ reclaim_of file client self }
     {
         let i = self.place(file);
         let f = self.files[i];
-        let a = f.reclaim(file, self.head, client);
-        self.stored(i, a)
+        self.stored(i, f.reclaim(file, self.head, client))
     }
 
     // Close: 70; 10025 no intent, or in grace and not reclaimed.
+    #[tactic(auto, unfolding(crate::specs::Record::close_of))]
     pub fn close(self, file: u64, client: u64) -> Answered
-        ensures { result ≡ close_of file client self }
+        ensures { answer_as result ≡ close_of file client self }
     {
         let i = self.place(file);
         let f = self.files[i];
-        let a = f.close(file, self.head, client);
-        self.stored(i, a)
+        self.stored(i, f.close(file, self.head, client))
     }
 
     // Repaired: 70; 22 not marked; 10008 an intent is open.
+    #[tactic(auto, unfolding(crate::specs::Record::repaired_of))]
     pub fn repaired(self, file: u64) -> Answered
-        ensures { result ≡ repaired_of file self }
+        ensures { answer_as result ≡ repaired_of file self }
     {
         let i = self.place(file);
         let f = self.files[i];
-        let a = f.repaired(file, self.head);
-        self.stored(i, a)
+        self.stored(i, f.repaired(file, self.head))
     }
 
     // Add a proxy, whose device is 16 bytes: 10013 in grace; 70; 22 the device isn't 16 bytes, or is there already; 17 a proxy is there.
+    #[tactic(auto, unfolding(crate::specs::Record::add_proxy_of))]
     pub fn add_proxy(self, file: u64, device: &[u8]) -> Answered
-        ensures { result ≡ add_proxy_of file device.now self }
+        ensures { answer_as result ≡ add_proxy_of file device.now self }
     {
         let i = self.place(file);
         let f = self.files[i];
-        let a = f.add_proxy(file, self.head, device);
-        self.stored(i, a)
+        self.stored(i, f.add_proxy(file, self.head, device))
     }
 
     // Remove the proxy: 10013 in grace; 70; 2 none.
+    #[tactic(auto, unfolding(crate::specs::Record::remove_proxy_of))]
     pub fn remove_proxy(self, file: u64) -> Answered
-        ensures { result ≡ remove_proxy_of file self }
+        ensures { answer_as result ≡ remove_proxy_of file self }
     {
         let i = self.place(file);
         let f = self.files[i];
-        let a = f.remove_proxy(file, self.head);
-        self.stored(i, a)
+        self.stored(i, f.remove_proxy(file, self.head))
     }
 
     // Set up a client's stateid: 10013 in grace; 70; 10025 no intent; 17 it has one; 22 the `other` isn't 12 bytes, is all zeros or all ones, or is in use.
+    #[tactic(auto, unfolding(crate::specs::Record::set_up_of))]
     pub fn set_up_stateid(self, file: u64, client: u64, other: &[u8]) -> Answered
-        ensures { result ≡ set_up_of file client other.now self }
+        ensures { answer_as result ≡ set_up_of file client other.now self }
     {
         let files = self.files;
         let barred = bars(files, other);
         let t = wire::stateid::begun(other);
         let i = self.place(file);
         let f = self.files[i];
-        let a = f.set_up_stateid(file, self.head, client, t, barred);
-        self.stored(i, a)
+        self.stored(i, f.set_up_stateid(file, self.head, client, t, barred))
     }
 
-    // Forget a file: 10013 in grace; 70; 10008 marked or an intent is open.
-    pub fn forget(mut self, file: u64) -> Answered
-        ensures { result ≡ forget_of file self }
+    // Forget, decided, with the record afterwards.
+    #[tactic(auto, unfolding(crate::specs::Record::forget_of))]
+    fn forgotten(mut self, file: u64) -> Result<Record, Status>
+        ensures { left_as self result ≡ forget_of file self }
     {
         let i = self.place(file);
         let f = self.files[i];
-        let status = f.forget(file, self.head);
-        if status != 0 {
-            return self.answered(status);
-        }
+        f.forget(file, self.head)?;
         let old = self.files;
         let fs = left_out(old, i);
         self.files = fs;
-        self.answered(0)
+        Ok(self)
+    }
+
+    // Forget a file: 10013 in grace; 70; 10008 marked or an intent is open.
+    pub fn forget(self, file: u64) -> Answered
+        ensures { answer_as result ≡ forget_of file self }
+    {
+        self.answered(self.forgotten(file))
     }
 
     // End of grace: 10033 not in grace. The files are counted as they are gone over.
     pub fn end_grace(self) -> Answered
-        ensures { result ≡ end_of self }
+        ensures { answer_as result ≡ end_of self }
     {
         if !self.head.grace {
-            return self.answered(statuses::NO_GRACE);
+            return self.answered(Err(Status::NoGrace));
         }
         let old = self.files;
         let before = Head {
             waiting: 0,
             offered: 0,
             grace: false,
-            old: self.head.old,
+            ..self.head
         };
-        let r = ended(old, before);
-        r.answered(0)
+        self.answered(Ok(ended(old, before)))
     }
 
     // Restart: no refusal.
+    #[tactic(auto, unfolding(crate::specs::Record::restart_of))]
     pub fn restart(mut self) -> Answered
-        ensures { result ≡ restart_of self }
+        ensures { answer_as result ≡ restart_of self }
     {
         let old = self.files;
         let fs = restarted(old);
         self.files = fs;
         self.head.grace = true;
-        self.answered(0)
+        self.answered(Ok(self))
     }
 }

@@ -1,11 +1,12 @@
 // LAYOUTRETURN on the record (paper 01, "LAYOUTRETURN"): what it answers, the record afterwards, and the reply.
 ghost use Rattle.std.specs.Prelude.{◌≡◌, ◌<◌};
+ghost use Rattle.layoutreturn.specs.Answers.{decision_as};
 ghost use Rattle.recovery.specs.LayoutReturn.{place_for, layoutreturn_of, reply_after};
 
 use crate::record::Record;
-use files::file::FileAnswered;
 use layoutreturn::Decision;
 use mirroring::totals::Totals;
+use statuses::Status;
 
 // The status, which is no NFS status where `handed`; whether the request is handed on; the totals of its report by mirror, which are none unless the
 // status is 0; and the record afterwards.
@@ -20,19 +21,26 @@ pub struct Returned {
 
 impl Record {
     // Where a file is wanted, its place; else the last place.
-    fn place_for(self, d: Decision, file: u64) -> usize
-        ensures { (result ≡ place_for file self d) × (result < 64) }
+    fn place_for(self, d: Result<Decision, Status>, file: u64) -> usize
+        ensures { (result ≡ place_for file self (decision_as d)) × (result < 64) }
     {
-        match d {
-            Decision::Answered(_) => 63,
+        let Ok(decision) = d else {
+            return 63;
+        };
+        match decision {
             Decision::HandedOn => 63,
-            Decision::ReadBody(_) => self.place(file),
-            Decision::ReturnBody(_) => self.place(file),
+            Decision::ReadBody(_) | Decision::ReturnBody(_) => self.place(file),
         }
     }
 
     // A reply buffer under 24 bytes gets 28 before all else; where the request is handed on, no reply is written. No file is looked up before step 5.
-    pub fn layoutreturn(self, file: u64, client: u64, request: &[u8], reply: &mut [u8]) -> Returned
+    pub fn layoutreturn(
+        mut self,
+        file: u64,
+        client: u64,
+        request: &[u8],
+        reply: &mut [u8],
+    ) -> Returned
         ensures { (result ≡ layoutreturn_of file client request.now reply.old self) × (reply.new ≡ reply_after file client request.now reply.old self) }
     {
         let head = self.head;
@@ -41,22 +49,14 @@ impl Record {
         let f = self.files[i];
         let o = layoutreturn::answer(d, f, file, head, client, request, reply);
         let g = layoutreturn::apply(f, o);
-        let next = o.head;
-        let a = self.stored(
-            i,
-            FileAnswered {
-                status: o.status,
-                head: next,
-                file: g,
-            },
-        );
+        self.files[i] = g;
+        self.head = o.head;
         let totals = o.totals;
-        let after = a.after;
         Returned {
             status: o.status,
             handed: o.status == statuses::HANDED_ON,
             totals,
-            after,
+            after: self,
         }
     }
 }

@@ -1,6 +1,6 @@
 -- The steps of a cursor visit the error records of a report, in their order, and come to its statistics records: from each cursor on, the report is what
 -- stands at the cursor and then the report from the next cursor on. Each step goes forward, within the bytes.
--- In order: what the code's tests say; the records from a cursor on; that law; the place of the statistics records; a caller's fold; the walk as a list.
+-- In order: a device error that is all there; what a step takes; the records from a cursor on; that law; the place of the statistics records; a caller's fold; the walk as a list.
 use Prim.Native.Nat.{ℕ, zero, suc, ◌+◌, ◌-◌, ◌*◌, ◌≤◌, ◌<◌}
 use mathlib.Core.Path.{◌≡◌, refl, sym, ap, ◌∙◌}
 use mathlib.Core.List.{List, [], ◌∷◌, ◌++◌}
@@ -9,7 +9,7 @@ use native.Mathlib.Omega.{arith}
 use lib.ListN.{length, drop, length-drop}
 use lib.Seq.{drop-drop}
 use lib.Dec.{ltb, eqb}
-use borrow.Author.Tests.{lt-ltb, le-ltb, eq-eqb, ne_eqb, ltb-true, ltb-false, eqb-false}
+use borrow.Author.Tests.{le-ltb, ne_eqb, ltb-true, ltb-false, eqb-false}
 use Rattle.xdr.specs.Be.{be_nat}
 use Rattle.xdr.specs.Reader.{Read, Got, Bad, Reader, onward, ◌>>=◌, give, in_turn}
 use Rattle.xdr.specs.Past.{past_of}
@@ -21,47 +21,16 @@ use Rattle.reports.specs.Report as report
 use Rattle.reports.specs.Walk.{Row, none, one, Walk, ends, gives, Given}
 use Rattle.reports.specs.ReportSteps.{naming, error_in, errors_in, record_at, entry_at, next_at, device_at, start_past, statistics_start, statistics, records_then, report_from, errors_from, after, end_of}
 use Rattle.reports.specs.declared.cursor.Cursor.{Cursor}
-use Rattle.reports.specs.declared.report.Entry.{Entry}
-use Rattle.reports.specs.declared.report.Entry.TheVariants.{Record, Statistics, Malformed}
-use Rattle.reports.specs.declared.report.Reading.{Reading}
-use Rattle.reports.specs.declared.report.Reading.TheVariants.{Error, Missing}
+use Rattle.reports.specs.ReportSteps.{Entry, Record, Statistics, Malformed}
+use Rattle.reports.specs.ReportSteps.{Reading, Error, Missing}
 use Rattle.reports.proofs.Devices.{halves-taken}
 use Rattle.reports.proofs.Cursors.{rows-begin, same-cursor}
 use Rattle.reports.proofs.ReportModel.{device-row, device-row-cut, no-record-read, record-cut, record-at, none_named, before-records, as_read}
 use Rattle.xdr.proofs.Readers.{by-test}
 use Rattle.reports.proofs.StatisticsWalk.{only-statistics, tail-begins, tally-rest}
 
--- ---- what the code's tests say of a step
-module _ (s : List ℕ) (c : Cursor) where
-  pub no_record : c.left ≡ 0 → {t : Cursor} → t ≡ cursor_at s c.at → Statistics t ≡ next_at s c
-  unfolding next_at
-  no_record z e = simp (eq-eqb c.left 0 z, e)
-
-  module _ (z : c.left ≡ 0 → ⊥) where
-    pub record-short : length s - c.at < 36 → Malformed ≡ next_at s c
-    unfolding next_at
-    record-short h = simp (ne_eqb c.left 0 z, lt-ltb (length s - c.at) 36 h)
-
-    module _ (h : 36 ≤ length s - c.at) {n : ℕ} (e : n ≡ be_nat 4 (drop (c.at + 32) s)) where
-      pub record-over : length s - c.at - 36 < 24 * n → Malformed ≡ next_at s c
-      unfolding next_at
-      record-over g = simp (ne_eqb c.left 0 z, le-ltb (length s - c.at) 36 h, sym e, lt-ltb (length s - c.at - 36) (24 * n) g)
-
-      pub record-found : 24 * n ≤ length s - c.at - 36 → Record (c.at + 36) n (record { at = c.at + 36 + 24 * n; left = c.left - 1 }) ≡ next_at s c
-      unfolding next_at
-      record-found g = simp (ne_eqb c.left 0 z, le-ltb (length s - c.at) 36 h, sym e, le-ltb (length s - c.at - 36) (24 * n) g)
-
-      pub record-empty : 24 * n ≡ 0 → Record (c.at + 36) n (record { at = c.at + 36; left = c.left - 1 }) ≡ next_at s c
-      record-empty g =
-          let k : c.at + 36 ≡ c.at + 36 + 24 * n = omega arith in
-          ap (λ (m : ℕ). Record (c.at + 36) n (record { at = m; left = c.left - 1 })) k ∙ record-found (omega arith)
-
--- of a device error
+-- ---- a device error whose bytes are all there
 module _ (s : List ℕ) (at : ℕ) where
-  pub device-short : length s - at < 24 → Missing ≡ device_at s at
-  unfolding device_at
-  device-short h = simp (lt-ltb (length s - at) 24 h)
-
   pub device-found : 24 ≤ length s - at → {hi lo st : ℕ} → hi ≡ be_nat 8 (drop at s) → lo ≡ be_nat 8 (drop (at + 8) s) → st ≡ be_nat 4 (drop (at + 16) s)
       → Error hi lo st (at + 24) ≡ device_at s at
   unfolding device_at

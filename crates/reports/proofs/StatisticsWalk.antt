@@ -21,11 +21,9 @@ use Rattle.reports.specs.Walk.{TailWalk as Walk, tail-ends as ends, tail-gives a
 use Rattle.reports.specs.ReportSteps.{start_past, statistics_start}
 use Rattle.reports.specs.Cursors.{nowhere, cursor_at}
 use Rattle.reports.specs.StatisticsSteps.{tail_of, counting, given_by, next_of, statistics_from, statistic_in, statistic_at, after_next, tally}
-use Rattle.xdr.specs.declared.fields.Past.{Past}
-use Rattle.xdr.specs.declared.fields.Past.TheVariants as past
+use Rattle.std.specs.Prelude.{Option, Some, None, IfSome}
 use Rattle.reports.specs.declared.cursor.Cursor.{Cursor}
-use Rattle.reports.specs.declared.statistics.Item.{Item}
-use Rattle.reports.specs.declared.statistics.Item.TheVariants.{Given, End, Malformed}
+use Rattle.reports.specs.StatisticsSteps.{Item, Given, End, Malformed}
 use Rattle.reports.proofs.Devices.{halves-taken}
 use Rattle.xdr.proofs.Readers.{Leads, no_bytes, number-first, opaque-first, boolean-first, then, by-test}
 use Rattle.xdr.proofs.Ends.{EndOf, end-drop, end-of-end, end-shorter, Ends, Leaves, number-ends, give-ends, boolean-ends, bounded-ends, then-ends, counted-ends, reached, further, unread, goes_on, goes-nowhere}
@@ -76,36 +74,36 @@ update-ends =
     (λ _. then-ends (bounded-ends 128) (λ _. then-ends latency (λ _. then-ends latency (λ _. then-ends time (λ _. then-ends boolean-ends (λ _. give-ends tt)))))))
 
 -- what the code's tests say of it: after each field the rest of the update is still to be read
-abbrev pub Update : List ℕ → ℕ → Past → Type 0
+abbrev pub Update : List ℕ → ℕ → Option ℕ → Type 0
 Update s at x = x ≡ past_of (length s) (layoutupdate (drop at s))
 
-module _ (s : List ℕ) (at : ℕ) {r : Past} (i : r ≡ past_of (length s) (bounded 128 (drop at s))) where
-  pub netid-bad : r ≡ past.Malformed → Update s at past.Malformed
+module _ (s : List ℕ) (at : ℕ) {r : Option ℕ} (i : r ≡ past_of (length s) (bounded 128 (drop at s))) where
+  pub netid-bad : r ≡ None → Update s at None
   netid-bad h = rw update-is (goes-nowhere (bounded-ends 128) one_more s at i h)
 
-  module _ {a : ℕ} (g : r ≡ past.At a) {r' : Past} (i' : r' ≡ past_of (length s) (bounded 128 (drop a s))) where
+  module _ {a : ℕ} (g : r ≡ Some a) {r' : Option ℕ} (i' : r' ≡ past_of (length s) (bounded 128 (drop a s))) where
     on-address : past_of (length s) (one_more (drop a s)) ≡ past_of (length s) (layoutupdate (drop at s))
     on-address = rw update-is (goes_on (bounded-ends 128) one_more s at i g)
 
-    pub address-bad : r' ≡ past.Malformed → Update s at past.Malformed
+    pub address-bad : r' ≡ None → Update s at None
     unfolding one_more
     address-bad h = goes-nowhere (bounded-ends 128) two-more s a i' h ∙ on-address
 
-    module _ {b : ℕ} (g' : r' ≡ past.At b) {r'' : Past} (i'' : r'' ≡ past_of (length s) (bounded 128 (drop b s))) where
+    module _ {b : ℕ} (g' : r' ≡ Some b) {r'' : Option ℕ} (i'' : r'' ≡ past_of (length s) (bounded 128 (drop b s))) where
       on-handle : past_of (length s) (two-more (drop b s)) ≡ past_of (length s) (layoutupdate (drop at s))
       unfolding one_more
       on-handle = goes_on (bounded-ends 128) two-more s a i' g' ∙ on-address
 
-      pub handle-bad : r'' ≡ past.Malformed → Update s at past.Malformed
+      pub handle-bad : r'' ≡ None → Update s at None
       unfolding two-more
       handle-bad h = goes-nowhere (bounded-ends 128) latencies s b i'' h ∙ on-handle
 
-      module _ {c : ℕ} (g'' : r'' ≡ past.At c) where
+      module _ {c : ℕ} (g'' : r'' ≡ Some c) where
         on-latencies : past_of (length s) (latencies (drop c s)) ≡ past_of (length s) (layoutupdate (drop at s))
         unfolding two-more
         on-latencies = goes_on (bounded-ends 128) latencies s b i'' g'' ∙ on-handle
 
-        pub latencies-short : length s - c < 144 → Update s at past.Malformed
+        pub latencies-short : length s - c < 144 → Update s at None
         latencies-short h = rw (latencies-read.reads (drop c s), lt-ltb (length (drop c s)) 144 (rw length-drop h)) at on-latencies
 
         module _ (h : 144 ≤ length s - c) {n : ℕ} (e : n ≡ be_nat 4 (drop (c + 140) s)) where
@@ -115,10 +113,10 @@ module _ (s : List ℕ) (at : ℕ) {r : Past} (i : r ≡ past_of (length s) (bou
               let d : drop 12 (drop 64 (drop 64 (drop c s))) ≡ drop (c + 140) s = simp (drop-drop, k) in
               rw (latencies-read.reads (drop c s), le-ltb (length (drop c s)) 144 (rw length-drop h), d, ← e, drop-drop)
 
-          pub no-boolean : 1 < n → Update s at past.Malformed
+          pub no-boolean : 1 < n → Update s at None
           no-boolean l = rw (latencies-at, lt-leb n 1 l) at on-latencies
 
-          pub update-past : n ≤ 1 → Update s at (past.At (c + 144))
+          pub update-past : n ≤ 1 → Update s at (Some (c + 144))
           update-past l =
               let z : length s - (length s - (c + 144)) ≡ c + 144 = omega arith in
               rw (latencies-at, le-leb n 1 l, length-drop, z) at on-latencies
@@ -233,13 +231,20 @@ given-past n Bad b = refl
 given-past n (Got a t) b = refl
 
 module _ (s : List ℕ) (at : ℕ) where
-  pub record-short : length s - at < 80 → past.Malformed ≡ past_of (length s) (iostats (drop at s))
+  pub record-short : length s - at < 80 → None ≡ past_of (length s) (iostats (drop at s))
   record-short h = rw (iostats-read, lt-ltb (length (drop at s)) 80 (rw length-drop h))
 
-  pub record-long : 80 ≤ length s - at → {r : Past} → r ≡ past_of (length s) (layoutupdate (drop (at + 80) s)) → r ≡ past_of (length s) (iostats (drop at s))
+  pub record-long : 80 ≤ length s - at → {r : Option ℕ} → r ≡ past_of (length s) (layoutupdate (drop (at + 80) s)) → r ≡ past_of (length s) (iostats (drop at s))
   record-long h i =
       i ∙ given-past (length s) (layoutupdate (drop (at + 80) s)) (statistic_in (drop at s))
       ∙ rw (iostats-read, le-ltb (length (drop at s)) 80 (rw length-drop h), drop-drop 80 at s)
+
+  pub record-within : {r : Option ℕ} → 80 ≤ length s - at → r ≡ past_of (length s) (layoutupdate (drop (at + 80) s)) → IfSome r (λ e. (at + 80 ≤ e) × (e ≤ length s))
+  record-within {r} h = by r
+    where
+      by : (r : Option ℕ) → r ≡ past_of (length s) (layoutupdate (drop (at + 80) s)) → IfSome r (λ e. (at + 80 ≤ e) × (e ≤ length s))
+      by None i = tt
+      by (Some e) i = further s (at + 80) (layoutupdate (drop (at + 80) s)) (update-ends.leaves (drop (at + 80) s)) i (omega arith)
 
 -- ---- a step takes at least 80 bytes and stays within the bytes: a walk of s makes at most length s / 80 + 1 steps, whatever the count says
 pub record Forward (s : List ℕ) (c next : Cursor) : Type 0 where
@@ -293,12 +298,12 @@ module _ (s : List ℕ) (c : Cursor) where
       let k : length s - (length s - e) ≡ e = omega arith in
       record { hi = (halves y.device).high; lo = (halves y.device).low; rd = y.read; wr = y.written; is = q ∙ rw (length-drop, k) }
 
-  module _ (z : c.left ≡ 0 → ⊥) {r : Past} (i : r ≡ past_of (length s) (iostats (drop c.at s))) where
-    pub at-malformed : r ≡ past.Malformed → Malformed ≡ next_of s c
+  module _ (z : c.left ≡ 0 → ⊥) {r : Option ℕ} (i : r ≡ past_of (length s) (iostats (drop c.at s))) where
+    pub at-malformed : r ≡ None → Malformed ≡ next_of s c
     unfolding next_of
     at-malformed g = rw (ne_eqb c.left 0 z, unread (length s) (iostats (drop c.at s)) (sym g ∙ i))
 
-    pub at-passed : {e : ℕ} → r ≡ past.At e → Passed s c (record { at = e; left = c.left - 1 })
+    pub at-passed : {e : ℕ} → r ≡ Some e → Passed s c (record { at = e; left = c.left - 1 })
     unfolding next_of
     at-passed {e} g =
         let u = iostats (drop c.at s) in
@@ -308,9 +313,6 @@ module _ (s : List ℕ) (c : Cursor) where
         let f = further s c.at u l (sym g ∙ i) (omega arith) in
         let n : next_of s c ≡ given_by s c.left u = rw (ne_eqb c.left 0 z) in
         passed-by q.value e f.1 (n ∙ ap (given_by s c.left) q.is)
-
-  pub step-forward : {next : Cursor} → Passed s c next → Forward s c next
-  step-forward g = goes-forward s c g.is
 
   -- its numbers are those that stand in their places
   pub next-given : {next : Cursor} → Passed s c next → {hi lo rd wr : ℕ} → hi ≡ be_nat 8 (drop (c.at + 64) s) → lo ≡ be_nat 8 (drop (c.at + 72) s)

@@ -1,25 +1,26 @@
 -- MODEL of the code: the walk of the error records, and the report from a cursor on. Walk.antt states that the steps from the start visit
 -- the device errors of `report_of`.
 --     error_in, errors_in      the device errors that bytes hold
---     next_at, device_at       what `next` and `device` answer
+--     Entry, next_at           what stands at a cursor, as `next` answers it
+--     Reading, device_at       the device error at a place, as `device` answers it
+--     entry_of, reading_of     these answers of the code as Entry and Reading
 --     statistics_start        what `statistics` answers
 --     report_from             the report from a cursor on; `after` says the same by what stands there
 use Rattle.std.specs.Prelude.{ℕ, zero, suc, ◌+◌, ◌-◌, ◌*◌, List, [], ◌∷◌, ◌++◌, cond, length, take, drop, ltb, eqb}
 use Rattle.xdr.specs.Be.{be_nat}
 use Rattle.xdr.specs.Reader.{Read, Got, Bad, in_turn, counted}
 use Rattle.xdr.specs.Past.{past_of}
-use Rattle.xdr.specs.declared.fields.Past.{Past}
-use Rattle.xdr.specs.declared.fields.Past.TheVariants as past
+use Rattle.std.specs.Prelude.{Option, Some, None, Result, Ok, Err}
 use Rattle.reports.specs.Statistics.{iostats}
 use Rattle.reports.specs.Cursors.{nowhere, cursor_at}
 use Rattle.reports.specs.StatisticsSteps.{tail_of, statistics_from}
 use Rattle.reports.specs.Report as report
 use Rattle.reports.specs.Report.{Report, DeviceError, ioerr, joined, without_statistics}
 use Rattle.reports.specs.declared.cursor.Cursor.{Cursor}
-use Rattle.reports.specs.declared.report.Entry.{Entry}
-use Rattle.reports.specs.declared.report.Entry.TheVariants.{Record, Statistics, Malformed}
-use Rattle.reports.specs.declared.report.Reading.{Reading}
-use Rattle.reports.specs.declared.report.Reading.TheVariants.{Error, Missing}
+use Rattle.reports.specs.declared.report.Entry.{Entry as FoundEntry}
+use Rattle.reports.specs.declared.report.Entry.TheVariants as found
+use Rattle.reports.specs.declared.report.DeviceError.{DeviceError as FoundError}
+use Rattle.reports.specs.declared.Malformed.{Malformed as NotFound}
 
 -- ---- a report as it is walked
 -- device errors, and then those of a report
@@ -37,6 +38,26 @@ errors_in zero s = []
 errors_in (suc n) s = error_in s ∷ errors_in n (drop 24 s)
 
 -- ---- the code's answers
+-- an error record: where its device errors begin, how many they are, and the cursor past it; or the cursor at the first statistics record
+pub data Entry : Type 0 where
+  Record : (at devices : ℕ) (next : Cursor) → Entry
+  Statistics : Cursor → Entry
+  Malformed : Entry
+
+abbrev pub entry_of : Result FoundEntry NotFound → Entry
+entry_of (Ok (found.Record at n next)) = Record at n next
+entry_of (Ok (found.Statistics c)) = Statistics c
+entry_of (Err e) = Malformed
+
+-- a device error: its device's two halves, its status, and the place past it; or its bytes are not all there
+pub data Reading : Type 0 where
+  Error : (high low status next : ℕ) → Reading
+  Missing : Reading
+
+abbrev pub reading_of : Option FoundError → Reading
+reading_of (Some e) = Error e.high e.low e.status e.next
+reading_of None = Missing
+
 -- an error record of n device errors, where r records are to come
 abbrev pub record_at : List ℕ → ℕ → ℕ → ℕ → Entry
 record_at s at r n = cond (ltb (length s - at - 36) (24 * n)) Malformed (Record (at + 36) n (record { at = at + 36 + 24 * n; left = r - 1 }))
@@ -53,9 +74,9 @@ device_at s at =
     cond (ltb (length s - at) 24) Missing (Error (be_nat 8 (drop at s)) (be_nat 8 (drop (at + 8) s)) (be_nat 4 (drop (at + 16) s)) (at + 24))
 
 -- the cursor past the error records of a body
-abbrev pub start_past : List ℕ → Past → Cursor
-start_past s past.Malformed = nowhere s
-start_past s (past.At at) = cursor_at s at
+abbrev pub start_past : List ℕ → Option ℕ → Cursor
+start_past s None = nowhere s
+start_past s (Some at) = cursor_at s at
 
 unfoldable pub statistics_start : List ℕ → Cursor
 statistics_start s = start_past s (past_of (length s) (counted ioerr s))

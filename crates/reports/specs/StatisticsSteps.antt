@@ -1,8 +1,8 @@
 -- MODEL of the code: the walk of the statistics records. Walk.antt states that the steps from the start visit the statistics records of `report_of`.
---     next_of                     what `next` answers
+--     Item, next_of               what stands at a cursor, as `next` answers it; `item_of` is that answer of the code as an Item
 --     statistics_from             the statistics records from a cursor on; `after_next` says the same by what stands there
 --     tally                      what a caller makes of them
-use Rattle.std.specs.Prelude.{ℕ, ◌-◌, List, [], ◌∷◌, cond, length, take, drop, eqb}
+use Rattle.std.specs.Prelude.{ℕ, ◌-◌, List, [], ◌∷◌, cond, length, take, drop, eqb, Option, Some, None, Result, Ok, Err}
 use Rattle.xdr.specs.Be.{be_nat}
 use Rattle.reports.specs.Device.{halves}
 use Rattle.xdr.specs.Reader.{Read, Got, Bad, in_turn}
@@ -10,8 +10,8 @@ use Rattle.reports.specs.Statistics.{Statistic, iostats}
 use Rattle.reports.specs.Report as report
 use Rattle.reports.specs.Report.{Report, over}
 use Rattle.reports.specs.declared.cursor.Cursor.{Cursor}
-use Rattle.reports.specs.declared.statistics.Item.{Item}
-use Rattle.reports.specs.declared.statistics.Item.TheVariants.{Given, End, Malformed}
+use Rattle.reports.specs.declared.statistics.Statistic.{Statistic as FoundStatistic}
+use Rattle.reports.specs.declared.Malformed.{Malformed as NotFound}
 
 -- nothing may follow the statistics records
 abbrev pub tail_of : Read (List Statistic) → Report
@@ -23,6 +23,17 @@ counting y (report.Whole xs ys) = report.Whole xs (y ∷ ys)
 counting y report.Malformed = report.Malformed
 
 -- ---- the code's answers
+-- a record: its device's two halves, its bytes read and written, and the cursor past it; or no record is to come, and nothing follows
+pub data Item : Type 0 where
+  Given : (high low read written : ℕ) (next : Cursor) → Item
+  End : Item
+  Malformed : Item
+
+abbrev pub item_of : Result (Option FoundStatistic) NotFound → Item
+item_of (Ok (Some y)) = Given y.high y.low y.read y.written y.next
+item_of (Ok None) = End
+item_of (Err e) = Malformed
+
 abbrev pub given_by : List ℕ → ℕ → Read Statistic → Item
 given_by s n Bad = Malformed
 given_by s n (Got y t) =

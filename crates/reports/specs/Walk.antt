@@ -12,9 +12,9 @@ use Rattle.reports.specs.Cursors.{cursor_at}
 use Rattle.reports.specs.ReportSteps.{error_in, next_at, device_at, statistics_start}
 use Rattle.reports.specs.StatisticsSteps.{next_of, statistics_from, statistic_at}
 use Rattle.reports.specs.declared.cursor.Cursor.{Cursor}
-use Rattle.reports.specs.declared.report.Entry.TheVariants.{Record, Statistics}
-use Rattle.reports.specs.declared.report.Reading.TheVariants.{Error}
-use Rattle.reports.specs.declared.statistics.Item.TheVariants as item
+use Rattle.reports.specs.ReportSteps.{Record, Statistics}
+use Rattle.reports.specs.ReportSteps.{Error}
+use Rattle.reports.specs.StatisticsSteps as item
 
 -- ---- device errors
 -- n device errors from a place on: each is the one whose 24 bytes stand there, and the next stands past it

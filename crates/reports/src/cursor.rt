@@ -1,6 +1,9 @@
 // A place among the records of a counted list, by which a caller walks the error records and then the statistics records of a body.
+// The walks are steps and no iterators: C keeps the cursor from one call of `sc_report_next` and `sc_statistics_next` to the next.
 ghost use Rattle.std.specs.Prelude.{◌≡◌};
 ghost use Rattle.reports.specs.Cursors.{nowhere, cursor_at};
+
+use xdr::fields::left;
 
 // Where the next byte is, and the records still to come.
 #[derive(Clone, Copy)]
@@ -9,28 +12,28 @@ pub struct Cursor {
     pub left: u32,
 }
 
-// A cursor at which nothing is well formed.
-pub fn none(s: &[u8]) -> Cursor
-    ensures { result ≡ nowhere s.now }
-{
-    Cursor {
-        at: s.len(),
-        left: 1,
+impl Cursor {
+    // A cursor at which nothing is well formed.
+    pub fn none(s: &[u8]) -> Cursor
+        ensures { result ≡ nowhere s.now }
+    {
+        Cursor {
+            at: s.len(),
+            left: 1,
+        }
     }
-}
 
-// The cursor at the first record, of those whose count is at `at`.
-pub fn begin(s: &[u8], at: usize) -> Cursor
-    ensures { result ≡ cursor_at s.now at }
-{
-    if s.len() < 4 {
-        return none(s);
-    }
-    if s.len() - 4 < at {
-        return none(s);
-    }
-    Cursor {
-        at: at + 4,
-        left: xdr::be32(s, at),
+    // The cursor at the first record, of those whose count is at `at`.
+    #[tactic(auto, unfolding(crate::specs::Cursors::cursor_at))]
+    pub fn begin(s: &[u8], at: usize) -> Cursor
+        ensures { result ≡ cursor_at s.now at }
+    {
+        if left(s, at) < 4 {
+            return Cursor::none(s);
+        }
+        Cursor {
+            at: at + 4,
+            left: xdr::be32(s, at),
+        }
     }
 }

@@ -8,3 +8,20 @@
 pub mod cursor;
 pub mod report;
 pub mod statistics;
+
+ghost use Rattle.std.specs.Prelude.{◌≡◌};
+ghost use Rattle.statuses.specs.declared.Status.TheVariants.{BadXdr};
+
+use statuses::Status;
+
+// Bytes that are not of a report's form.
+#[derive(Clone, Copy)]
+pub struct Malformed;
+
+impl From<Malformed> for Status {
+    ghost from_gives = { λ _ status. status ≡ BadXdr };
+
+    fn from(_malformed: Malformed) -> Status {
+        Status::BadXdr
+    }
+}

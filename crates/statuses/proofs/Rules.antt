@@ -2,7 +2,7 @@
 --     Each, NoneApplies, decided-by     what holds of each rule's answer, and of the other answer where no rule applies, holds of the table's answer
 --     any-rule                          what holds of every answer holds of each rule's
 use mathlib.Core.Path.{◌≡◌, refl}
-use mathlib.Core.Bool.{Bool, true, false}
+use mathlib.Core.Bool.{true, false}
 use mathlib.Core.List.{List, [], ◌∷◌}
 use Rattle.statuses.specs.Rules.{Rule, ◌⇒◌, decided}
 

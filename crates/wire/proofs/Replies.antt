@@ -1,11 +1,12 @@
 -- What the stores of a reply leave in the lent buffer.
-use Rattle.std.proofs.Common.{◌≡◌, ℕ, ◌+◌, ◌<◌, ◌≤◌, Bool, true, false, cond, eqb, List, ◌++◌, length, sym, refl, subst, append_assoc, append-nil, le-ltb, lt-ltb, eq-eqb, ne_eqb, eqb-true}
+use mathlib.Core.Bool.{true≢false}
+use Rattle.std.proofs.Common.{◌&&◌, ◌≡◌, ℕ, ◌+◌, ◌≤◌, Bool, true, false, eqb, List, ◌++◌, length, refl, append_assoc, le-ltb, eq-eqb, eqb-true}
 use lib.Seq.{sets}
 use Rattle.xdr.specs.Be.{be_bytes}
 use Rattle.xdr.proofs.Be.{length-bytes, sets-append}
 use Rattle.xdr.specs.Reader.{zeros}
 use Rattle.wire.specs.Stateid.{no_stateid, stateid_bytes}
-use Rattle.wire.specs.Reply.{reply_with, reply_in_with, reply_answer}
+use Rattle.wire.specs.Reply.{reply_with, reply_in_with}
 use Rattle.wire.specs.declared.stateid.Stateid.{Stateid}
 
 -- sixteen zero bytes
@@ -13,17 +14,15 @@ pub none-bytes : stateid_bytes no_stateid ≡ zeros 16
 unfolding be_bytes stateid_bytes
 none-bytes = refl
 
-pub none_is : (t : Stateid) → cond (eqb t.high 0) (cond (eqb t.low 0) (eqb t.seqid 0) false) false ≡ true → no_stateid ≡ t
-none_is t = by (eqb t.high 0) (eqb t.low 0) (eqb t.seqid 0) refl refl refl
+-- stateids that `==` finds the same are the same
+pub same_are : (t u : Stateid) → true ≡ (eqb t.high u.high && (eqb t.low u.low && eqb t.seqid u.seqid)) → t ≡ u
+same_are t u e = by (eqb t.high u.high) (eqb t.low u.low) (eqb t.seqid u.seqid) refl refl refl e
   where
-    clash : ◌≡◌ {A = Bool} false true → ⊥
-    clash z = subst (λ (b : Bool). cond b ⊥ (Unit {0})) z tt
-
-    by : (a b c : Bool) → eqb t.high 0 ≡ a → eqb t.low 0 ≡ b → eqb t.seqid 0 ≡ c → cond a (cond b c false) false ≡ true → no_stateid ≡ t
-    by true true true h l s e = λ i. record { high = sym (eqb-true t.high 0 h) i; low = sym (eqb-true t.low 0 l) i; seqid = sym (eqb-true t.seqid 0 s) i }
-    by true true false h l s e = absurd (clash e)
-    by true false c h l s e = absurd (clash e)
-    by false b c h l s e = absurd (clash e)
+    by : (a b c : Bool) → eqb t.high u.high ≡ a → eqb t.low u.low ≡ b → eqb t.seqid u.seqid ≡ c → true ≡ (a && (b && c)) → t ≡ u
+    by true true true h l s e = λ i. record { high = eqb-true t.high u.high h i; low = eqb-true t.low u.low l i; seqid = eqb-true t.seqid u.seqid s i }
+    by true true false h l s e = absurd (true≢false e)
+    by true false c h l s e = absurd (true≢false e)
+    by false b c h l s e = absurd (true≢false e)
 
 -- two numbers stored one after the other
 next-store : (w x : ℕ) (d : List ℕ) (at : ℕ) (t : List ℕ) → sets d at (be_bytes w x ++ t) ≡ sets (sets d at (be_bytes w x)) (at + w) t
@@ -33,20 +32,6 @@ pub stateid-stored : (d : List ℕ) (t : Stateid) → sets (sets (sets d 8 (be_b
 unfolding stateid_bytes
 stateid-stored d t = rw (append_assoc, next-store 4 t.seqid, next-store 8 t.high)
 
-module _ (d : List ℕ) (status : ℕ) (t : List ℕ) where
-  pub too_short : length d < 24 → (28 ≡ reply_answer status d) × (d ≡ reply_in_with status t d)
-  unfolding reply_answer reply_in_with
-  too_short h = (rw (lt-ltb (length d) 24 h), rw (lt-ltb (length d) 24 h))
-
-  module _ (h : 24 ≤ length d) where
-    pub answers : status ≡ reply_answer status d
-    unfolding reply_answer
-    answers = rw (le-ltb (length d) 24 h)
-
-    pub refuses : (status ≡ 0 → ⊥) → sets d 0 (be_bytes 4 status) ≡ reply_in_with status t d
-    unfolding reply_in_with reply_with
-    refuses z = rw (le-ltb (length d) 24 h, ne_eqb status 0 z, append-nil)
-
-    pub accepts : status ≡ 0 → sets (sets (sets d 0 (be_bytes 4 status)) 4 (be_bytes 4 1)) 8 t ≡ reply_in_with status t d
-    unfolding reply_in_with reply_with
-    accepts z = rw (le-ltb (length d) 24 h, eq-eqb status 0 z, next-store 4 status d 0, next-store 4 1)
+pub accepts : (d : List ℕ) (status : ℕ) (t : List ℕ) → 24 ≤ length d → status ≡ 0 → sets (sets (sets d 0 (be_bytes 4 status)) 4 (be_bytes 4 1)) 8 t ≡ reply_in_with status t d
+unfolding reply_in_with reply_with
+accepts d status t h z = rw (le-ltb (length d) 24 h, eq-eqb status 0 z, next-store 4 status d 0, next-store 4 1)

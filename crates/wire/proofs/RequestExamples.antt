@@ -2,10 +2,9 @@
 use Rattle.std.proofs.Common.{◌≡◌, ℕ, List, [], ◌∷◌, ◌++◌, map, length, refl}
 use Rattle.xdr.specs.Be.{be_nat}
 use Rattle.xdr.specs.Reader.{same_bytes, number, opaque, boolean, bounded}
-use Rattle.wire.specs.Request.{file_return, return_of, arguments, refusal_of, unless, request_of, body_of}
+use Rattle.wire.specs.Request.{Refused, Bulk, File, file_return, return_of, arguments, refusal_of, unless, request_of, body_of}
 use Rattle.wire.specs.Stateid.{ones, stateid_kind}
 use Rattle.wire.specs.declared.request.Kind.TheVariants.{Anonymous, Bypass, Current, Invalid, Ordinary}
-use Rattle.wire.specs.declared.request.Request.TheVariants.{Refused, Bulk, File}
 use Rattle.reports.proofs.ReportExamples.{blank, one}
 
 abbrev word : ℕ → List ℕ

@@ -2,12 +2,10 @@
 use Rattle.std.proofs.Common.{◌≡◌, ℕ, zero, suc, ◌+◌, ◌≤◌, Bool, true, false, cond, ◌&&◌, eqb, ltb, leb, List, [], ◌∷◌, length, take, drop, refl, ap, ◌∙◌, arith, length-drop, length-take-le, drop-drop, ltb-false, ltb-true, le-ltb, lt-ltb, ne_eqb}
 use Rattle.xdr.specs.Be.{be_nat}
 use Rattle.xdr.specs.Reader.{same_bytes, zeros, padding, Read, Got, Bad, onward, give, only}
-use Rattle.wire.specs.Request.{Returned, of_file, of_many, Arguments, file_return, return_of, arguments, refusal_of, asked, unless, answered, request_of}
+use Rattle.wire.specs.Request.{Request, Refused, Returned, of_file, of_many, Arguments, file_return, return_of, arguments, refusal_of, asked, unless, answered, request_of}
 use Rattle.wire.specs.RequestSteps.{file_form, form_of, kind_in, judged_in, answer_in, request_in}
-use Rattle.wire.specs.declared.request.Form.{Form}
-use Rattle.wire.specs.declared.request.Form.TheVariants as form
-use Rattle.wire.specs.declared.request.Request.{Request}
-use Rattle.wire.specs.declared.request.Request.TheVariants.{Refused}
+use Rattle.wire.specs.Form.{Form}
+use Rattle.wire.specs.Form as form
 use Rattle.xdr.proofs.Readers.{Leads, no_bytes, number-first, opaque-first, boolean-first, bounded-first, bounded_rest, rest-tests, then, shifted, none_left, at_most, where-long, by-test}
 
 -- ---- what is read must be all of the bytes

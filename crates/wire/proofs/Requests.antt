@@ -1,40 +1,29 @@
--- What the code's tests say of a request. In order: step 2; step 1 for return type 1; step 1; a form fits the bytes; steps 1 to 3;
+-- What the code's tests say of a request. In order: step 1 for return type 1; a form fits the bytes; steps 1 to 3;
 -- refusals are not 0; where the body lies.
-use Rattle.std.proofs.Common.{◌≡◌, ℕ, ◌+◌, ◌-◌, ◌<◌, ◌≤◌, Bool, true, false, cond, ◌&&◌, eqb, ltb, leb, List, [], length, get_or, take, drop, sym, ap, ◌∙◌, arith, length-drop, take_all, ltb-false, le-ltb, lt-ltb, eq-eqb, ne_eqb, le-leb}
-use borrow.Author.Tests.{lt-leb, eqb-false}
+use Rattle.std.proofs.Common.{Option, Some, None, Err, ◌≡◌, ℕ, ◌+◌, ◌-◌, ◌<◌, ◌≤◌, Bool, true, false, cond, ◌&&◌, eqb, ltb, leb, List, [], length, get_or, take, drop, sym, refl, ap, ◌∙◌, arith, length-drop, take_all, ltb-false, le-ltb, lt-ltb, eq-eqb, ne_eqb}
+use borrow.Author.Tests.{eqb-false}
+use Rattle.statuses.specs.Numbers.{number, code}
+use Rattle.statuses.specs.declared.Status.{Status}
+use Rattle.statuses.specs.declared.Status.TheVariants as status
+use Rattle.std.specs.Bool.{then_some}
+use Rattle.std.specs.Option.{ok_or}
+use Rattle.std.specs.Cmp.Lexicographic.{pointwise}
 use Rattle.xdr.specs.Be.{be_nat}
 use Rattle.xdr.specs.Reader.{same_bytes, zeros, padding, Got}
 use Rattle.wire.specs.Stateid.{stateid_in}
-use Rattle.wire.specs.Request.{Arguments, of_file, refusal_of, unless, arguments, request_of, part_of, body_of}
-use Rattle.wire.specs.RequestSteps.{file_form, form_of, kind_in, kind_of_numbers, judged_in, answer_in, request_in}
-use Rattle.wire.specs.declared.request.Form.{Form}
-use Rattle.wire.specs.declared.request.Form.TheVariants as form
+use Rattle.wire.specs.Request.{Request, Refused, Bulk, File, Arguments, of_file, refusal_of, unless, arguments, request_of, part_of, body_of}
+use Rattle.wire.specs.RequestSteps.{file_as, form_as, file_form, form_of, kind_in, kind_of_numbers, judged_in, answer_in, request_in}
+use Rattle.wire.specs.Form.{Form}
+use Rattle.wire.specs.Form as form
+use Rattle.wire.specs.declared.request.Form as declared
+use Rattle.wire.specs.declared.request.Form.TheVariants as laid
 use Rattle.wire.specs.declared.request.Kind.{Kind}
-use Rattle.wire.specs.declared.request.Request.{Request}
-use Rattle.wire.specs.declared.request.Request.TheVariants.{Refused, Bulk, File}
 use Rattle.wire.specs.declared.stateid.Stateid.{Stateid}
 use Rattle.xdr.proofs.Readers.{by-test}
 use Rattle.xdr.proofs.Bytes.{first-zeros}
+use Rattle.wire.proofs.Bytes.{as_same}
 use Rattle.wire.proofs.Stateids.{by-numbers}
 use Rattle.wire.proofs.RequestModel.{as-tested, body-lies}
-
--- ---- step 2
-module _ (layout iomode : ℕ) where
-  pub none-refused : layout ≡ 4 → 1 ≤ iomode → iomode ≤ 3 → 0 ≡ refusal_of layout iomode
-  unfolding refusal_of
-  none-refused l h k = simp (eq-eqb layout 4 l, le-leb 1 iomode h, le-leb iomode 3 k)
-
-  pub iomode-low : layout ≡ 4 → iomode < 1 → 10049 ≡ refusal_of layout iomode
-  unfolding refusal_of
-  iomode-low l h = simp (eq-eqb layout 4 l, lt-leb 1 iomode h)
-
-  pub iomode-high : layout ≡ 4 → 1 ≤ iomode → 3 < iomode → 10049 ≡ refusal_of layout iomode
-  unfolding refusal_of
-  iomode-high l h k = simp (eq-eqb layout 4 l, le-leb 1 iomode h, lt-leb iomode 3 k)
-
-  pub layout-other : (layout ≡ 4 → ⊥) → 10062 ≡ refusal_of layout iomode
-  unfolding refusal_of
-  layout-other l = simp (ne_eqb layout 4 l)
 
 -- ---- step 1, return type 1
 
@@ -43,70 +32,24 @@ from_on : (k : ℕ) (s : List ℕ) → take (length s - k) (drop k s) ≡ drop k
 from_on k s = take_all (length s - k) (drop k s) (rw length-drop (omega arith))
 
 module _ (s : List ℕ) where
-  pub file-short : length s < 52 → form.Malformed ≡ file_form s
-  unfolding file_form
-  file-short h = simp (lt-ltb (length s) 52 h)
-
   module _ (h : 52 ≤ length s) {n : ℕ} (e : n ≡ be_nat 4 (drop 48 s)) where
-    pub file-large : 4096 < n → form.Malformed ≡ file_form s
-    unfolding file_form
-    file-large k = simp (← e, le-ltb (length s) 52 h, lt-ltb 4096 n k)
-
-    pub file-cut : n ≤ 4096 → length s < 52 + n → form.Malformed ≡ file_form s
-    unfolding file_form
-    file-cut k l = simp (← e, le-ltb (length s) 52 h, le-ltb 4096 n k, lt-ltb (length s) (52 + n) l)
-
     file-padded : n ≤ 4096 → 52 + n ≤ length s → file_form s ≡ cond (same_bytes (drop (52 + n) s) (zeros (padding n))) (form.File n) form.Malformed
     unfolding file_form
     file-padded k l = simp (← e, le-ltb (length s) 52 h, le-ltb 4096 n k, le-ltb (length s) (52 + n) l)
 
-    module _ (k : n ≤ 4096) (l : 52 + n ≤ length s) {m : ℕ} (q : m ≡ padding n) {t : Bool} (r : t ≡ same_bytes (take (length s - (52 + n)) (drop (52 + n) s)) (take m (zeros 4))) where
+    -- the padding is compared, and the length is answered where it is as it should be
+    module _ (k : n ≤ 4096) (l : 52 + n ≤ length s) {m : ℕ} (q : m ≡ padding n) {p : List ℕ} (w : p ≡ take (length s - (52 + n)) (drop (52 + n) s)) {t : Bool} (r : t ≡ pointwise eqb p (take m (zeros 4))) where
       padded : t ≡ same_bytes (drop (52 + n) s) (zeros (padding n))
       padded =
           let z : take m (zeros 4) ≡ zeros (padding n) = first-zeros m (omega (arith, q)) ∙ ap zeros q in
-          rw (← z, ← from_on (52 + n) s) r
+          r ∙ as_same p (take m (zeros 4)) ∙ rw (w, z, from_on (52 + n) s)
 
-      pub file-whole : t ≡ true → form.File n ≡ file_form s
-      file-whole y =
-          ap (λ (b : Bool). cond b (form.File n) form.Malformed) (sym y ∙ padded) ∙ sym (file-padded k l)
+      answered-if : (b : Bool) → file_as (then_some b n) ≡ cond b (form.File n) form.Malformed
+      answered-if true = refl
+      answered-if false = refl
 
-      pub file-spare : t ≡ false → form.Malformed ≡ file_form s
-      file-spare y =
-          ap (λ (b : Bool). cond b (form.File n) form.Malformed) (sym y ∙ padded) ∙ sym (file-padded k l)
-
--- ---- step 1
-module _ (s : List ℕ) where
-  pub form-short : length s < 16 → form.Malformed ≡ form_of s
-  unfolding form_of
-  form-short h = simp (lt-ltb (length s) 16 h)
-
-  module _ (h : 16 ≤ length s) {flag : ℕ} (e : flag ≡ be_nat 4 s) where
-    pub flag-large : 1 < flag → form.Malformed ≡ form_of s
-    unfolding form_of
-    flag-large k = simp (← e, le-ltb (length s) 16 h, lt-ltb 1 flag k)
-
-    module _ (k : flag ≤ 1) {t : ℕ} (q : t ≡ be_nat 4 (drop 12 s)) where
-      pub form-file : t ≡ 1 → {r : Form} → r ≡ file_form s → r ≡ form_of s
-      unfolding form_of
-      form-file y r = simp (← e, ← q, le-ltb (length s) 16 h, le-ltb 1 flag k, eq-eqb t 1 y, r)
-
-      pub form-bulk : 2 ≤ t → t ≤ 3 → length s ≡ 16 → form.Bulk ≡ form_of s
-      unfolding form_of
-      form-bulk y z l =
-          simp (← e, ← q, le-ltb (length s) 16 h, le-ltb 1 flag k, ne_eqb t 1 (λ x. omega arith), le-leb 2 t y, le-leb t 3 z, eq-eqb (length s) 16 l)
-
-      pub form-spare : 2 ≤ t → t ≤ 3 → (length s ≡ 16 → ⊥) → form.Malformed ≡ form_of s
-      unfolding form_of
-      form-spare y z l =
-          simp (← e, ← q, le-ltb (length s) 16 h, le-ltb 1 flag k, ne_eqb t 1 (λ x. omega arith), le-leb 2 t y, le-leb t 3 z, ne_eqb (length s) 16 l)
-
-      pub type-low : t < 1 → form.Malformed ≡ form_of s
-      unfolding form_of
-      type-low y = simp (← e, ← q, le-ltb (length s) 16 h, le-ltb 1 flag k, ne_eqb t 1 (λ x. omega arith), lt-leb 2 t (omega arith))
-
-      pub type-high : 3 < t → form.Malformed ≡ form_of s
-      unfolding form_of
-      type-high y = simp (← e, ← q, le-ltb (length s) 16 h, le-ltb 1 flag k, ne_eqb t 1 (λ x. omega arith), le-leb 2 t (omega arith), lt-leb t 3 y)
+      pub file-answered : file_as (then_some t n) ≡ file_form s
+      file-answered = answered-if t ∙ ap (λ (b : Bool). cond b (form.File n) form.Malformed) padded ∙ sym (file-padded k l)
 
 -- ---- a form fits the bytes
 pub record Fits (s : List ℕ) (n : ℕ) : Type 0 where
@@ -136,44 +79,69 @@ form-laid s =
     (λ _. by-test (Laid s) (leb 2 (be_nat 4 (drop 12 s)) && leb (be_nat 4 (drop 12 s)) 3) _ _
     (λ _. by-test (Laid s) (eqb (length s) 16) form.Bulk form.Malformed (λ _. ltb-false (length s) 16 h) (λ _. tt)) (λ _. tt))))
 
-pub bulk-fits : (s : List ℕ) → form_of s ≡ form.Bulk → 16 ≤ length s
-bulk-fits s e = rw e at (form-laid s)
-
 pub file-fits : (s : List ℕ) {n : ℕ} → form_of s ≡ form.File n → Fits s n
 file-fits s e = rw e at (form-laid s)
 
+-- what has a form has the numbers of step 2
+pub numbers-fit : (s : List ℕ) (f : declared.Form) → form_as (Some f) ≡ form_of s → 16 ≤ length s
+numbers-fit s laid.Bulk e = rw (sym e) at (form-laid s)
+numbers-fit s (laid.File n) e =
+    let h : Fits s n = file-fits s (sym e) in
+    omega (arith, h.within)
+
 -- ---- steps 1 to 3
-module _ (s : List ℕ) (r : Request) {layout iomode k : ℕ} (l : layout ≡ be_nat 4 (drop 4 s)) (i : iomode ≡ be_nat 4 (drop 8 s)) (e : k ≡ refusal_of layout iomode) where
-  number_is : refusal_of (be_nat 4 (drop 4 s)) (be_nat 4 (drop 8 s)) ≡ k
-  number_is = cc
-
-  pub passes : k ≡ 0 → r ≡ judged_in s r
-  unfolding judged_in unless
-  passes z = simp (number_is, eq-eqb k 0 z)
-
-  pub refuses : (k ≡ 0 → ⊥) → Refused k ≡ judged_in s r
-  unfolding judged_in unless
-  refuses z = simp (number_is, ne_eqb k 0 z)
-
--- a file's return that step 2 does not refuse, with the kind by the numbers of its stateid
-pub file-passes : (s : List ℕ) → 48 ≤ length s → ((k : ℕ) → get_or s k 0 < 256) → {layout iomode number n : ℕ} → layout ≡ be_nat 4 (drop 4 s) → iomode ≡ be_nat 4 (drop 8 s)
-    → number ≡ refusal_of layout iomode → number ≡ 0 → {t : Stateid} → t ≡ stateid_in s → {a : Kind} → a ≡ kind_of_numbers t → File a n ≡ judged_in s (File (kind_in s) n)
-unfolding kind_in
-file-passes s h b {n = n} l i e z p q =
-    ap (λ (k : Kind). File k n) (q ∙ ap kind_of_numbers p ∙ by-numbers s h b) ∙ passes s _ l i e z
+never-0 : (e : Status) → number e ≡ 0 → ⊥
+never-0 status.NoEnt z = omega arith
+never-0 status.Exist z = omega arith
+never-0 status.Inval z = omega arith
+never-0 status.NoSpc z = omega arith
+never-0 status.Stale z = omega arith
+never-0 status.Delay z = omega arith
+never-0 status.Grace z = omega arith
+never-0 status.OldStateid z = omega arith
+never-0 status.BadStateid z = omega arith
+never-0 status.NoGrace z = omega arith
+never-0 status.ReclaimBad z = omega arith
+never-0 status.BadXdr z = omega arith
+never-0 status.BadIomode z = omega arith
+never-0 status.UnknownLayoutType z = omega arith
 
 module _ (s : List ℕ) where
-  pub read-malformed : form_of s ≡ form.Malformed → Refused 10036 ≡ request_of s
+  pub read-malformed : (o : Option declared.Form) → form_as o ≡ form_of s → o ≡ None → (e : Status) → Err e ≡ ok_or o status.BadXdr → Refused (number e) ≡ request_of s
   unfolding request_in
-  read-malformed e = rw (as-tested s, e)
+  read-malformed o q n e k =
+      let malformed : form_of s ≡ form.Malformed = sym q ∙ ap form_as n in
+      let is : number e ≡ 10036 = ap code k ∙ ap (λ (x : Option declared.Form). code (ok_or x status.BadXdr)) n in
+      ap Refused is ∙ rw (as-tested s, malformed)
 
-  pub read-bulk : form_of s ≡ form.Bulk → {r : Request} → r ≡ judged_in s Bulk → r ≡ request_of s
-  unfolding request_in
-  read-bulk e q = rw (as-tested s, e) q
+  module _ {layout iomode : ℕ} (l : layout ≡ be_nat 4 (drop 4 s)) (i : iomode ≡ be_nat 4 (drop 8 s)) where
+    module _ (k : ℕ) (r : Request) (e : k ≡ refusal_of layout iomode) where
+      number_is : refusal_of (be_nat 4 (drop 4 s)) (be_nat 4 (drop 8 s)) ≡ k
+      number_is = cc
 
-  pub read-file : {n : ℕ} → form_of s ≡ form.File n → {r : Request} → r ≡ judged_in s (File (kind_in s) n) → r ≡ request_of s
-  unfolding request_in
-  read-file e q = rw (as-tested s, e) q
+      passes : k ≡ 0 → r ≡ judged_in s r
+      unfolding judged_in unless
+      passes z = simp (number_is, eq-eqb k 0 z)
+
+      refuses : (k ≡ 0 → ⊥) → Refused k ≡ judged_in s r
+      unfolding judged_in unless
+      refuses z = simp (number_is, ne_eqb k 0 z)
+
+    pub read-refused : (f : declared.Form) → form_as (Some f) ≡ form_of s → (e : Status) → number e ≡ refusal_of layout iomode → Refused (number e) ≡ request_of s
+    unfolding request_in
+    read-refused laid.Bulk q e k = rw (as-tested s, sym q) (refuses (number e) Bulk k (never-0 e))
+    read-refused (laid.File n) q e k = rw (as-tested s, sym q) (refuses (number e) (File (kind_in s) n) k (never-0 e))
+
+    pub read-bulk : form.Bulk ≡ form_of s → 0 ≡ refusal_of layout iomode → Bulk ≡ request_of s
+    unfolding request_in
+    read-bulk q k = rw (as-tested s, sym q) (passes 0 Bulk k refl)
+
+    -- with the kind by the numbers of its stateid
+    pub read-file : {n : ℕ} → form.File n ≡ form_of s → 0 ≡ refusal_of layout iomode → ((k : ℕ) → get_or s k 0 < 256) → {t : Stateid} → t ≡ stateid_in s → {a : Kind} → a ≡ kind_of_numbers t → File a n ≡ request_of s
+    unfolding request_in kind_in
+    read-file {n} q k b p g =
+        let h : Fits s n = file-fits s (sym q) in
+        ap (λ (x : Kind). File x n) (g ∙ ap kind_of_numbers p ∙ by-numbers s (omega (arith, h.within)) b) ∙ rw (as-tested s, sym q) (passes 0 (File (kind_in s) n) k refl)
 
 -- what holds of 10036 and of every number of step 2 holds of a refusal's number
 module _ (P : ℕ → Type 0) (malformed : P 10036) (refusal : (layout iomode : ℕ) → (refusal_of layout iomode ≡ 0 → ⊥) → P (refusal_of layout iomode)) where

@@ -1,15 +1,19 @@
 -- DEFINITION. The arguments of a LAYOUTRETURN (LAYOUTRETURN4args, RFC 8881) and steps 1 to 3 (Rules 3.1, 3.2, 3.7).
 --     Arguments, arguments     the structures, a line a field
 --     refusal_of                step 2
+--     Request, answer_of         the answer of steps 1 to 3, and what the code says of it
 --     request_of                the answer of steps 1 to 3
 --     number_of, kind_of         the same as numbers
 --     part_of, body_of           a part of a length from where a body begins; the body, as the part of the request where it lies
-use Rattle.std.specs.Prelude.{ℕ, ◌+◌, cond, ◌&&◌, List, [], ◌∷◌, length, take, drop, ◌==◌, nat_le, nat_lt}
+use Rattle.std.specs.Prelude.{ℕ, ◌+◌, cond, ◌&&◌, List, [], ◌∷◌, length, take, drop, ◌==◌, nat_le, nat_lt, Result, Ok, Err}
 use Rattle.statuses.specs.Names.{Bytes}
+use Rattle.statuses.specs.Numbers.{number as status_number}
+use Rattle.statuses.specs.declared.Status.{Status}
 use Rattle.xdr.specs.Reader.{Read, Got, Bad, Reader, ◌>>=◌, give, only, number, opaque, boolean, bounded}
 use Rattle.wire.specs.Stateid.{stateid_kind, kind_number}
-use Rattle.wire.specs.declared.request.Request.{Request}
-use Rattle.wire.specs.declared.request.Request.TheVariants.{Refused, Bulk, File}
+use Rattle.wire.specs.declared.request.Kind.{Kind}
+use Rattle.wire.specs.declared.request.Request as declared
+use Rattle.wire.specs.declared.request.Request.TheVariants as asks
 
 -- what is returned: a file's layout (return type 1), or all of a file system's or of the server's (2, 3)
 pub data Returned : Type 0 where
@@ -49,6 +53,18 @@ unfoldable pub refusal_of : ℕ → ℕ → ℕ
 refusal_of layout iomode = cond (layout == 4) (cond (nat_le 1 iomode && nat_le iomode 3) 0 10049) 10062
 
 -- ---- steps 1 to 3
+-- refused in step 1 or 2, with the number; return type 2 or 3, which is handed on; a file's return, with the kind of its stateid and the length of its body
+pub data Request : Type 0 where
+  Refused : ℕ → Request
+  Bulk : Request
+  File : Kind → ℕ → Request
+
+-- what the code answers
+abbrev pub answer_of : Result declared.Request Status → Request
+answer_of (Ok asks.Bulk) = Bulk
+answer_of (Ok (asks.File kind n)) = File kind n
+answer_of (Err status) = Refused (status_number status)
+
 abbrev pub asked : Returned → Request
 asked (of_file stateid body) = File (stateid_kind stateid) (length body)
 asked of_many = Bulk

@@ -1,20 +1,31 @@
 -- MODEL of the code: the tests of a request at the places of its fields. proofs/RequestModel.antt proves that they give `request_of`.
+--     file_as, form_as               what `file_laid_out` and `laid_out` answer, as a form
 --     file_form, form_of             step 1, as `file_laid_out` and `laid_out` answer it
 --     kind_in, judged_in             the stateid, layout type and iomode in their places
 --     kind_of_numbers                the kind of a stateid by its numbers, as `kind_of` tests them; proofs/Stateids.antt proves that it is `stateid_kind`
 --     request_in                    steps 1 to 3 from these
-use Rattle.std.specs.Prelude.{ℕ, ◌+◌, ◌-◌, ◌^◌, false, cond, ◌&&◌, List, length, take, drop, ◌==◌, nat_le, nat_lt}
+use Rattle.std.specs.Prelude.{ℕ, ◌+◌, ◌-◌, ◌^◌, false, cond, ◌&&◌, List, length, take, drop, ◌==◌, nat_le, nat_lt, Option, Some, None}
 use Rattle.xdr.specs.Be.{be_nat}
 use Rattle.xdr.specs.Reader.{same_bytes, zeros, padding}
 use Rattle.wire.specs.Stateid.{stateid_kind}
-use Rattle.wire.specs.Request.{refusal_of, unless}
-use Rattle.wire.specs.declared.request.Form.{Form}
-use Rattle.wire.specs.declared.request.Form.TheVariants as form
+use Rattle.wire.specs.Request.{Request, Refused, Bulk, File, refusal_of, unless}
+use Rattle.wire.specs.Form.{Form}
+use Rattle.wire.specs.Form as form
+use Rattle.wire.specs.declared.request.Form as declared
+use Rattle.wire.specs.declared.request.Form.TheVariants as laid
 use Rattle.wire.specs.declared.request.Kind.{Kind}
 use Rattle.wire.specs.declared.request.Kind.TheVariants.{Anonymous, Bypass, Current, Invalid, Ordinary}
-use Rattle.wire.specs.declared.request.Request.{Request}
-use Rattle.wire.specs.declared.request.Request.TheVariants.{Refused, Bulk, File}
 use Rattle.wire.specs.declared.stateid.Stateid.{Stateid}
+
+-- what the code says of step 1, for return type 1 and for any
+abbrev pub file_as : Option ℕ → Form
+file_as None = form.Malformed
+file_as (Some n) = form.File n
+
+abbrev pub form_as : Option declared.Form → Form
+form_as None = form.Malformed
+form_as (Some laid.Bulk) = form.Bulk
+form_as (Some (laid.File n)) = form.File n
 
 -- return type 1: at most 4,096 bytes of body, its padding, and nothing more
 unfoldable pub file_form : List ℕ → Form

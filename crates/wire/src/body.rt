@@ -6,17 +6,13 @@ ghost use Rattle.wire.specs.Request.{part_of, body_of};
 use crate::request::{Request, read};
 
 // The part of `len` bytes from where a body begins; empty where it is not all there.
+#[tactic(auto, unfolding(crate::specs::Request::part_of))]
 pub fn part(s: &[u8], len: usize) -> &[u8]
     ensures { result.now ≡ part_of len s.now }
 {
-    if s.len() < 52 {
-        return &s[..0];
-    }
-    if s.len() - 52 < len {
-        return &s[..0];
-    }
-    let end = 52 + len;
-    &s[52..end]
+    s.get(52..)
+        .and_then(|rest| rest.get(..len))
+        .unwrap_or(&s[..0])
 }
 
 // The body; empty where the request hands none back.
@@ -24,8 +20,8 @@ pub fn body(s: &[u8]) -> &[u8]
     ensures { result.now ≡ body_of s.now }
 {
     match read(s) {
-        Request::Refused(_) => &s[..0],
-        Request::Bulk => &s[..0],
-        Request::File { kind: _, len } => part(s, len),
+        Ok(Request::File { len, .. }) => part(s, len),
+        Ok(Request::Bulk) => &s[..0],
+        Err(_) => &s[..0],
     }
 }

@@ -2,11 +2,9 @@
 ghost use Rattle.std.specs.Prelude.{◌≡◌};
 ghost use Rattle.wire.specs.Stateid.{no_stateid, stateid_in, new_stateid, bad_other, has_other, raised_stateid};
 
-use xdr::fields::same;
-
 // The first 8 and the last 4 bytes of the `other`, and the seqid.
 #[repr(C)]
-#[derive(Clone, Copy)]
+#[derive(Clone, Copy, PartialEq, Eq)]
 pub struct Stateid {
     pub high: u64,
     pub low: u32,
@@ -25,7 +23,7 @@ impl Stateid {
         }
     }
 
-    // Whether this stateid has the `other` of `t`.
+    // Whether this stateid has the `other` of `t`, whatever their seqids: so no `==` of the whole.
     pub fn has_other(self, t: Stateid) -> bool
         ensures { result ≡ has_other t self }
     {
@@ -36,11 +34,9 @@ impl Stateid {
     pub fn raise(self) -> Stateid
         ensures { result ≡ raised_stateid self }
     {
-        let seqid = crate::seqid::raised(self.seqid);
         Stateid {
-            high: self.high,
-            low: self.low,
-            seqid,
+            seqid: crate::seqid::raised(self.seqid),
+            ..self
         }
     }
 }
@@ -58,7 +54,8 @@ pub fn in_request(request: &[u8]) -> Stateid
     Stateid { high, low, seqid }
 }
 
-// The first stateid of an `other`, with seqid 1; zeros where it is not 12 bytes.
+// The first stateid of an `other`, with seqid 1, which stands apart from its seqid there and here not, so that each is read by its places; zeros where it is not 12 bytes.
+#[tactic(auto, unfolding(crate::specs::Stateid::new_stateid))]
 pub fn begun(other: &[u8]) -> Stateid
     ensures { result ≡ new_stateid other.now }
 {
@@ -75,14 +72,9 @@ pub fn begun(other: &[u8]) -> Stateid
 }
 
 // Whether an `other` can't be a new stateid's: it is not 12 bytes, all zeros or all ones.
+#[tactic(auto, using(crate::proofs::Bytes::as_same), unfolding(crate::specs::Stateid::bad_other))]
 pub fn bad_other(other: &[u8]) -> bool
     ensures { result ≡ bad_other other.now }
 {
-    if other.len() != 12 {
-        return true;
-    }
-    if same(other, b"\x00\x00\x00\x00\x00\x00\x00\x00\x00\x00\x00\x00") {
-        return true;
-    }
-    same(other, b"\xff\xff\xff\xff\xff\xff\xff\xff\xff\xff\xff\xff")
+    other.len() != 12 || other[..] == [0; 12] || other[..] == [255; 12]
 }

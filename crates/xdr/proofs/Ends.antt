@@ -6,13 +6,12 @@ use mathlib.Core.List.{List, [], ◌∷◌}
 use mathlib.Core.Bool.{Bool, true, false, cond}
 use native.Mathlib.Omega.{arith}
 use borrow.Author.Tests.{leb-true, leb-false}
-use lib.ListN.{length, take, drop, length-drop, drop_of_length-le}
+use lib.ListN.{length, drop, length-drop, drop_of_length-le}
 use lib.Seq.{drop-drop}
-use lib.Dec.{ltb, leb, eqb}
+use lib.Dec.{ltb, leb}
 use Rattle.xdr.specs.Reader.{same_bytes, zeros, padding, Read, Got, Bad, Reader, onward, ◌>>=◌, give, only, number, opaque, boolean, bounded, in_turn, counted}
 use Rattle.xdr.specs.Past.{past_of}
-use Rattle.xdr.specs.declared.fields.Past.{Past}
-use Rattle.xdr.specs.declared.fields.Past.TheVariants as past
+use Rattle.std.specs.Prelude.{Option, Some, None}
 use Rattle.xdr.proofs.Readers.{by-test}
 
 -- ---- ends
@@ -95,11 +94,11 @@ pub counted-ends : {A : Type 0} (p : Reader A) → Ends p → Ends (counted p)
 counted-ends p h = then-ends (number-ends 4) (λ n. turn-ends p h n)
 
 -- ---- places
-place_of : ℕ → Past → ℕ
-place_of d past.Malformed = d
-place_of d (past.At e) = e
+place_of : ℕ → Option ℕ → ℕ
+place_of d None = d
+place_of d (Some e) = e
 
-malformed-no-place : {e : ℕ} → past.At e ≡ past.Malformed → ⊥
+malformed-no-place : {e : ℕ} → Some e ≡ None → ⊥
 unfolding place_of
 malformed-no-place {e} h =
     let p : e ≡ suc e = ap (place_of (suc e)) h in
@@ -111,14 +110,14 @@ pub record Reached {A : Type 0} (r : Read A) (t : List ℕ) : Type 0 where
   pub is : r ≡ Got value t
 
 module _ {A : Type 0} (s : List ℕ) (at : ℕ) where
-  pub reached : {e : ℕ} (r : Read A) → Leaves (drop at s) r → past.At e ≡ past_of (length s) r → Reached r (drop e s)
+  pub reached : {e : ℕ} (r : Read A) → Leaves (drop at s) r → Some e ≡ past_of (length s) r → Reached r (drop e s)
   unfolding place_of
   reached Bad l h = absurd (malformed-no-place h)
   reached {e} (Got a t) l h =
       let q : e ≡ length s - length t = ap (place_of 0) h in
       record { value = a; is = ap (Got a) (sym (end-of-end l (end-drop at s)).lies ∙ ap (λ (k : ℕ). drop k s) (sym q)) }
 
-  pub further : {e : ℕ} (r : Read A) → Leaves (drop at s) r → past.At e ≡ past_of (length s) r → at ≤ length s → (at ≤ e) × (e ≤ length s)
+  pub further : {e : ℕ} (r : Read A) → Leaves (drop at s) r → Some e ≡ past_of (length s) r → at ≤ length s → (at ≤ e) × (e ≤ length s)
   unfolding place_of
   further Bad l h g = absurd (malformed-no-place h)
   further {e} (Got a t) l h g =
@@ -126,16 +125,16 @@ module _ {A : Type 0} (s : List ℕ) (at : ℕ) where
       let k : length t ≤ length s - at = rw length-drop at (end-shorter l) in
       (omega arith, omega arith)
 
-pub unread : {A : Type 0} (n : ℕ) (r : Read A) → past.Malformed ≡ past_of n r → r ≡ Bad
+pub unread : {A : Type 0} (n : ℕ) (r : Read A) → None ≡ past_of n r → r ≡ Bad
 unread n Bad h = refl
 unread n (Got a t) h = absurd (malformed-no-place (sym h))
 
 -- a reader whose value does not matter, and then another
-module _ {A B : Type 0} {p : Reader A} (g : Ends p) (k : Reader B) (s : List ℕ) (at : ℕ) {r : Past} (i : r ≡ past_of (length s) (p (drop at s))) where
-  pub goes_on : {e : ℕ} → r ≡ past.At e → past_of (length s) (k (drop e s)) ≡ past_of (length s) ((p >>= λ _. k) (drop at s))
+module _ {A B : Type 0} {p : Reader A} (g : Ends p) (k : Reader B) (s : List ℕ) (at : ℕ) {r : Option ℕ} (i : r ≡ past_of (length s) (p (drop at s))) where
+  pub goes_on : {e : ℕ} → r ≡ Some e → past_of (length s) (k (drop e s)) ≡ past_of (length s) ((p >>= λ _. k) (drop at s))
   goes_on h = rw (reached s at (p (drop at s)) (g.leaves (drop at s)) (sym h ∙ i)).is
 
-  pub goes-nowhere : r ≡ past.Malformed → past.Malformed ≡ past_of (length s) ((p >>= λ _. k) (drop at s))
+  pub goes-nowhere : r ≡ None → None ≡ past_of (length s) ((p >>= λ _. k) (drop at s))
   goes-nowhere h = rw (unread (length s) (p (drop at s)) (sym h ∙ i))
 
 pub past-if : {A : Type 0} (n : ℕ) (b : Bool) (x y : Read A) → past_of n (cond b x y) ≡ cond b (past_of n x) (past_of n y)

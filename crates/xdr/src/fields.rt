@@ -1,75 +1,52 @@
 // Fields of variable size (RFC 4506). In order: the bytes that are left; the same bytes; padding; an opaque field. Paper 01: "Opaque padding is zero bytes".
-ghost use Rattle.std.specs.Prelude.{◌≡◌, false, cond, ◌-◌, length, drop};
+ghost use Rattle.std.specs.Prelude.{◌≡◌, ◌-◌, length, drop};
 ghost use Rattle.xdr.specs.Reader.{same_bytes, padding, bounded};
 ghost use Rattle.xdr.specs.Past.{past_of};
 
 use crate::be32;
 
-// The place past what has been read, or bytes that are not of the form.
-#[derive(Clone, Copy)]
-pub enum Past {
-    At(usize),
-    Malformed,
-}
-
 // The bytes from `at` on.
 pub fn left(s: &[u8], at: usize) -> usize
     ensures { result ≡ length s.now - at }
 {
-    if at < s.len() { s.len() - at } else { 0 }
+    s.len().saturating_sub(at)
 }
 
-// Whether both hold: a function of its own, so that the loop of `same` has no branch and the compiler can take several bytes at a time.
-fn both(a: bool, b: bool) -> bool
-    ensures { result ≡ cond a b false }
-{
-    a && b
-}
-
-// Whether two parts hold the same bytes. It looks at all of them.
+// Whether two parts hold the same bytes.
 pub fn same(a: &[u8], b: &[u8]) -> bool
     ensures { result ≡ same_bytes a.now b.now }
 {
-    if a.len() != b.len() {
-        return false;
-    }
-    let mut so = true;
-    let mut i = 0;
-    while i < a.len() {
-        so = both(so, a[i] == b[i]);
-        i += 1;
-    }
-    so
+    a == b
 }
 
-// How many zero bytes follow an opaque field of `n` bytes.
+// How many zero bytes follow an opaque field of `n` bytes, as the definition says it: n.next_multiple_of(4) - n may overflow.
 pub fn pad(n: usize) -> usize
     ensures { result ≡ padding n }
 {
     (4 - n % 4) % 4
 }
 
-// The place past an opaque field of at most `limit` bytes: its length, its bytes and its padding.
-pub fn past_opaque(s: &[u8], at: usize, limit: usize) -> Past
+// The place past an opaque field of at most `limit` bytes: its length, its bytes and its padding. None where the bytes are not of that form.
+// It ends with a test of its own and not `then_some`, by which the check of statistics records took up to 1.17 times gcc in place of 1.04, of 1.2 allowed.
+pub fn past_opaque(s: &[u8], at: usize, limit: usize) -> Option<usize>
     ensures { result ≡ past_of (length s.now) (bounded limit (drop at s.now)) }
 {
     let room = left(s, at);
     if room < 4 {
-        return Past::Malformed;
+        return None;
     }
     let n = be32(s, at) as usize;
     if limit < n {
-        return Past::Malformed;
+        return None;
     }
     let p = pad(n);
     if room - 4 < n + p {
-        return Past::Malformed;
+        return None;
     }
     let from = at + 4 + n;
     let end = from + p;
-    let zeros = [0u8; 4];
-    if same(&s[from..end], &zeros[..p]) {
-        return Past::At(end);
+    if !same(&s[from..end], &[0; 4][..p]) {
+        return None;
     }
-    Past::Malformed
+    Some(end)
 }

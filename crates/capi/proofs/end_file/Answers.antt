@@ -19,13 +19,13 @@ loop-i-preserved c =
     elim c.if-stays.branch [
       | then-stays w ↦
           let is : c.if-stays.f ≡ moved_to n x (emptied_at i f) = w.f-is ∙ ap (λ (y : Intent). with_intents (set (set f.intents i y) n w.settled.result) f) c.none.ensures ∙ ap (λ (y : Intent). with_intents (set (set f.intents i no_intent) n y) f) w.settled.ensures in
-          (ap (λ (k : ℕ). gathered (8 - (i + 1)) (i + 1) k c.if-stays.f) w.n-is ∙ ap (λ (g : File). gathered (8 - (i + 1)) (i + 1) (n + 1) g) is ∙ sym (turn-kept f i n c.loop-i-test.true (sym c.stays.ensures ∙ w.if-stays.true)) ∙ c.loop-i.invariant.0, omega arith, omega arith)
+          (ap (λ (k : ℕ). gathered (8 - (i + 1)) (i + 1) k c.if-stays.f) w.n-is ∙ ap (λ (g : File). gathered (8 - (i + 1)) (i + 1) (n + 1) g) is ∙ sym (turn-kept f i n (omega arith) (sym c.stays.ensures ∙ w.if-stays.true)) ∙ c.loop-i.invariant.0, omega arith)
       | else-stays+then-goes w ↦
           let is : c.if-stays.f ≡ with_mark true (emptied_at i f) = w.f-is ∙ ap (λ (y : Intent). with_mark true (with_intents (set f.intents i y) f)) c.none.ensures in
-          (ap (λ (k : ℕ). gathered (8 - (i + 1)) (i + 1) k c.if-stays.f) w.n-is ∙ ap (λ (g : File). gathered (8 - (i + 1)) (i + 1) n g) is ∙ sym (turn-lost f i n c.loop-i-test.true (sym c.stays.ensures ∙ w.if-stays.false) (sym w.goes.ensures ∙ w.if-goes.true)) ∙ c.loop-i.invariant.0, omega arith, omega arith)
+          (ap (λ (k : ℕ). gathered (8 - (i + 1)) (i + 1) k c.if-stays.f) w.n-is ∙ ap (λ (g : File). gathered (8 - (i + 1)) (i + 1) n g) is ∙ sym (turn-lost f i n (omega arith) (sym c.stays.ensures ∙ w.if-stays.false) (sym w.goes.ensures ∙ w.if-goes.true)) ∙ c.loop-i.invariant.0, omega arith)
       | else-stays+else-goes w ↦
           let is : c.if-stays.f ≡ emptied_at i f = w.f-is ∙ ap (λ (y : Intent). with_intents (set f.intents i y) f) c.none.ensures in
-          (ap (λ (k : ℕ). gathered (8 - (i + 1)) (i + 1) k c.if-stays.f) w.n-is ∙ ap (λ (g : File). gathered (8 - (i + 1)) (i + 1) n g) is ∙ sym (turn-free f i n c.loop-i-test.true (sym c.stays.ensures ∙ w.if-stays.false) (sym w.goes.ensures ∙ w.if-goes.false)) ∙ c.loop-i.invariant.0, omega arith, omega arith)
+          (ap (λ (k : ℕ). gathered (8 - (i + 1)) (i + 1) k c.if-stays.f) w.n-is ∙ ap (λ (g : File). gathered (8 - (i + 1)) (i + 1) n g) is ∙ sym (turn-free f i n (omega arith) (sym c.stays.ensures ∙ w.if-stays.false) (sym w.goes.ensures ∙ w.if-goes.false)) ∙ c.loop-i.invariant.0, omega arith)
     ]
 
 pub returns : goal.returns

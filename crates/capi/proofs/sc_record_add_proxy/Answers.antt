@@ -1,7 +1,8 @@
 -- Rests on the method of `File`, put back at the place that is sought.
-use Rattle.std.proofs.Common.{◌≡◌, length, rules}
+use Rattle.std.proofs.Common.{◌≡◌, length, get_or, ◌∙◌, rules}
 use Rattle.places.proofs.Loops.{mapped-length}
-use Rattle.files.specs.File.{proxy_added_file}
+use Rattle.files.specs.Answers.{answered_as}
+use Rattle.files.specs.File.{no_file, proxy_added_file}
 use Rattle.recovery.specs.Record.{add_proxy_of}
 use Rattle.capi.proofs.OnFile.{kept-so}
 use Rattle.capi.proofs.sc_record_add_proxy.Goals as goal
@@ -10,4 +11,7 @@ pub returns : goal.returns
 unfolding add_proxy_of
 returns c =
     let long : length c.args.r.now.files ≡ 64 = search (mapped-length, rules) in
-    kept-so c.args.file (proxy_added_file c.args.file c.args.r.now.head c.args.device.now) c.args.r.now long c.position-i.result c.position-i.ensures.0 c.add_proxy-s.result c.add_proxy-s.ensures
+    let r = c.args.r.now in
+    let i = c.position-i.result in
+    let so = kept-so c.args.file (proxy_added_file c.args.file r.head c.args.device.now) r long i c.position-i.ensures.0 (answered_as r.head (get_or r.files i no_file) c.add_proxy-s.result) c.add_proxy-s.ensures in
+    (c.put.ensures.0 ∙ so.0, c.put.ensures.1 ∙ so.1)

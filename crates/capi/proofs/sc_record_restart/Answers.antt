@@ -1,12 +1,18 @@
--- Rests on each file restarted, under the head that is decided.
-use Rattle.std.proofs.Common.{ap, ◌∙◌}
-use Rattle.files.specs.File.{restarted_file}
-use Rattle.recovery.specs.Record.{with_head, restart_of}
-use Rattle.capi.specs.Whole.{each_file}
-use Rattle.capi.specs.declared.Verdict.{Verdict}
+-- Rests on a file restarted, and on all of them.
+use Rattle.std.proofs.Common.{◌≡◌, true, length, refl, ap, ◌∙◌, arith, rules}
+use Rattle.places.proofs.Loops.{mapped-length}
+use Rattle.records.proofs.Each.{done-turn, done-all}
+use Rattle.files.specs.File.{no_file, restarted_file}
+use Rattle.recovery.specs.Record.{restart_of, with_files, with_grace}
 use Rattle.capi.proofs.sc_record_restart.Goals as goal
 
-pub returns-then-s-eq0 : goal.returns-then-s-eq0
-unfolding each_file restart_of
-returns-then-s-eq0 c =
-    (ap (λ (v : Verdict). v.status) c.restarting-s.ensures, c.restart_each.ensures ∙ ap (λ (v : Verdict). each_file restarted_file (with_head v.head c.args.r.now)) c.restarting-s.ensures)
+pub loop-f-preserved : goal.loop-f-preserved
+loop-f-preserved c =
+    let long : length c.args.r.now.files ≡ 64 = search (mapped-length, rules) in
+    done-turn restarted_file c.loop-f.f-index c.args.r.now.files no_file (omega (arith, long)) c.loop-f.f-items c.loop-f.invariant _ c.restarted.ensures
+
+pub returns : goal.returns
+unfolding restart_of
+returns c =
+    let long : length c.args.r.now.files ≡ 64 = search (mapped-length, rules) in
+    (refl, ap (λ fs. with_grace true (with_files fs c.args.r.now)) (c.loop-f.invariant ∙ done-all restarted_file c.loop-f.f-index c.args.r.now.files (omega (arith, long))))

@@ -5,9 +5,8 @@ use mathlib.Core.Path.{◌≡◌}
 use Rattle.flexfiles.specs.Handed.{first_at}
 use Rattle.flexfiles.proofs.first.Given as goal
 
-abbrev pub invariant-loop-devices : goal.invariant-loop-devices
-invariant-loop-devices l =
-    first_at l.s (record { at = l.at; records = l.records; devices = l.devices }) ≡ first_at l.s (record { at = l.initial.at; records = l.initial.records; devices = l.initial.devices })
+abbrev pub invariant-loop-c : goal.invariant-loop-c
+invariant-loop-c l = first_at l.s l.c ≡ first_at l.s l.fn.from
 
-abbrev pub decreases-loop-devices : goal.decreases-loop-devices
-decreases-loop-devices l = length l.s - l.at
+abbrev pub decreases-loop-c : goal.decreases-loop-c
+decreases-loop-c l = length l.s - l.c.at

@@ -1,18 +1,17 @@
--- By the laws of such a loop in `Loops` of places.
-use mathlib.Core.Path.{◌≡◌, ap}
+-- The place that is found is one of the eight.
+use Rattle.std.proofs.Common.{rules, ◌≡◌, sym, ◌∙◌, ◌<◌, length}
 use native.Mathlib.Omega.{arith}
-use lib.ListN.{length}
-use borrow.Author.Rules.{rules}
-use Rattle.places.proofs.Loops.{mapped-length, hit, miss}
-use Rattle.intents.specs.Intents.{no_intent, stateid_at}
+use Rattle.places.proofs.Loops.{mapped-length, found_below}
 use Rattle.intents.proofs.stateid_of.Goals as goal
 
-pub returns-then-is : goal.returns-then-is
-returns-then-is c =
+pub offset_bounds-intents-i : goal.offset_bounds-intents-i
+offset_bounds-intents-i c =
     let long : length c.args.intents ≡ 8 = search (mapped-length, rules) in
-    ap (stateid_at c.args.intents) (hit c.loop-i.invariant no_intent (omega (arith, long)) _ c.is.ensures c.if-is.true)
+    let below : c.in-Some.i < length c.args.intents = found_below _ _ _ (sym c.holding.ensures ∙ c.in-Some.is) in
+    omega (arith, long, below)
 
-pub loop-i-preserved : goal.loop-i-preserved
-loop-i-preserved c =
+pub bounds-intents-i : goal.bounds-intents-i
+bounds-intents-i c =
     let long : length c.args.intents ≡ 8 = search (mapped-length, rules) in
-    miss c.loop-i.invariant no_intent (omega (arith, long)) _ c.is.ensures c.if-is.false
+    let below : c.in-Some.i < length c.args.intents = found_below _ _ _ (sym c.holding.ensures ∙ c.in-Some.is) in
+    omega (arith, long, below)

@@ -1,28 +1,18 @@
--- By the laws of such a loop in `Loops` of places, and by `Counted` and `Sets` of places.
-use mathlib.Core.Path.{◌≡◌, sym, ◌∙◌}
-use native.Mathlib.Omega.{arith}
-use lib.ListN.{length}
-use borrow.Author.Rules.{rules}
-use Rattle.places.proofs.Loops.{mapped-length, hit, miss, over}
-use Rattle.places.proofs.Sets.{first-at, first-nothing}
-use Rattle.intents.specs.Intents.{no_intent}
-use Rattle.intents.proofs.Counted.{far}
+-- A test of each is std's `any`.
+use Rattle.std.proofs.Common.{rules, tests, sym, ◌∙◌}
+use Rattle.std.proofs.lemmas.Iterator.{YieldsList-from_slice}
+use Rattle.std.proofs.lemmas.Iterator.Search.{any_from_yields_List}
+use Rattle.places.proofs.Std.{any-std}
+use Rattle.intents.specs.Intents.{is_near, uses_other}
+use Rattle.intents.proofs.Near.{far}
 use Rattle.intents.proofs.uses.Goals as goal
 
-pub returns-then-not-any_near : goal.returns-then-not-any_near
-returns-then-not-any_near c = sym (far c.args.t _ (sym c.any_near.ensures ∙ c.if-not-any_near.true))
+pub returns-then-any : goal.returns-then-any
+returns-then-any c =
+    any_from_yields_List (uses_other c.args.t) _ _ c.any-then-any.result c.any-then-any.ensures.ran (YieldsList-from_slice c.args.intents (cc)) (λ x b q k. search (rules, tests))
+    ∙ any-std _ _
 
-pub returns-then-uses : goal.returns-then-uses
-returns-then-uses c =
-    let long : length c.args.intents ≡ 8 = search (mapped-length, rules) in
-    sym (first-at _ _ _ (sym (hit c.loop-i.invariant no_intent (omega (arith, long)) _ c.uses.ensures c.if-uses.true)))
-
-pub loop-i-preserved : goal.loop-i-preserved
-loop-i-preserved c =
-    let long : length c.args.intents ≡ 8 = search (mapped-length, rules) in
-    miss c.loop-i.invariant no_intent (omega (arith, long)) _ c.uses.ensures c.if-uses.false
-
-pub returns : goal.returns
-returns c =
-    let long : length c.args.intents ≡ 8 = search (mapped-length, rules) in
-    sym (first-nothing _ _ (sym (over c.loop-i.invariant (omega (arith, long)))))
+pub returns-else-any : goal.returns-else-any
+returns-else-any c =
+    let near = any_from_yields_List (is_near c.args.t) _ _ c.any.result c.any.ensures.ran (YieldsList-from_slice c.args.intents (cc)) (λ x b q k. search (rules, tests)) ∙ any-std _ _ in
+    c.if-any.false ∙ sym (far c.args.t c.args.intents (sym near ∙ c.if-any.false))

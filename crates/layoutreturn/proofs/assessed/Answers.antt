@@ -1,12 +1,13 @@
--- By the test of step 4.
-use borrow.Author.Tests.{eq-eqb, ne_eqb}
+-- By the claim of step 4.
+use Rattle.std.proofs.Common.{◌∙◌}
 use Rattle.layoutreturn.specs.OneWalk.{assessed_by}
+use Rattle.layoutreturn.proofs.Refusals.{refusal}
 use Rattle.layoutreturn.proofs.assessed.Goals as goal
 
-pub returns-then-c-ne0 : goal.returns-then-c-ne0
+pub returns-in-Err : goal.returns-in-Err
 unfolding assessed_by
-returns-then-c-ne0 c = rw (ne_eqb _ _ c.if-c-ne0.true) c.only.ensures
+returns-in-Err c = c.only.ensures ∙ rw (c.from.ensures, c.in-Err.is, refusal c.in-Err.status)
 
 pub returns : goal.returns
 unfolding assessed_by
-returns c = rw (eq-eqb _ _ c.if-c-ne0.false, ← c.assess-a.ensures) c.taken.ensures
+returns c = rw (c.in_default.is, ← c.assess-a.ensures) c.taken.ensures

@@ -1,10 +1,16 @@
--- By whether a body is read: what the calls promise is put together, and `OneWalk` says that it is the outcome.
-use mathlib.Core.Path.{sym, ◌∙◌}
-use Rattle.layoutreturn.proofs.OneWalk.{outcome-unread, outcome-assessed}
+-- Where a body is read, `OneWalk` says that what was assessed is the outcome.
+use Rattle.std.proofs.Common.{◌≡◌, refl, ap, ◌∙◌, Ok}
+use Rattle.layoutreturn.specs.Answers.{decision_as}
+use Rattle.layoutreturn.specs.LayoutReturn.{ReadBody, ReturnBody}
+use Rattle.layoutreturn.proofs.OneWalk.{outcome_assessed}
 use Rattle.layoutreturn.proofs.outcome_by.Goals as goal
 
-pub returns-then-not-reads : goal.returns-then-not-reads
-returns-then-not-reads c = c.of.ensures ∙ rw (c.only.ensures, c.status_of.ensures, c.none.ensures) (outcome-unread _ _ _ _ _ _ (sym c.reads.ensures ∙ c.if-not-reads.true))
+pub returns-in-ReadBody : goal.returns-in-ReadBody
+returns-in-ReadBody c =
+    let is : decision_as c.args.d ≡ ReadBody c.in-ReadBody.len = ap decision_as c.in-Ok.is ∙ ap (λ y. decision_as (Ok y)) c.in-ReadBody.is in
+    rw is (c.read_outcome.ensures ∙ outcome_assessed _ _ _ _ _ (ReadBody c.in-ReadBody.len) refl)
 
-pub returns : goal.returns
-returns c = c.of-2.ensures ∙ rw (c.raised_if-own.ensures, c.head_after-next.ensures, c.assessed-a.ensures, c.claimed-c.ensures, c.part-body.ensures, c.len_of.ensures, c.ordinary-returning.ensures) (outcome-assessed _ _ _ _ _ _ (sym c.reads.ensures ∙ c.if-not-reads.false))
+pub returns-in-ReturnBody : goal.returns-in-ReturnBody
+returns-in-ReturnBody c =
+    let is : decision_as c.args.d ≡ ReturnBody c.in-ReturnBody.len = ap decision_as c.in-Ok.is ∙ ap (λ y. decision_as (Ok y)) c.in-ReturnBody.is in
+    rw is (c.read_outcome-in-ReturnBody.ensures ∙ outcome_assessed _ _ _ _ _ (ReturnBody c.in-ReturnBody.len) refl)

@@ -1,8 +1,9 @@
--- put64 meets its contract by the law that two halves stored make the number stored.
-use Rattle.xdr.proofs.Be.{two-halves}
+-- put64 meets its contract: the bytes that std stores are those of the definition.
+use Rattle.std.proofs.Common.{◌∙◌}
+use Rattle.xdr.proofs.Be.{stored, high_first, length-bytes}
 use Rattle.xdr.proofs.put64.Goals as goal
 
 pub returns : goal.returns
 returns c =
     let a = c.args in
-    cc (two-halves a.d.now a.at a.x)
+    stored 8 a.at a.d.now c.requires (c.copy_from_slice.ensures.after ∙ c.to_be_bytes.ensures ∙ high_first 8 a.x) (length-bytes 8 a.x)

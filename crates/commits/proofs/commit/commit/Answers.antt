@@ -1,40 +1,37 @@
 -- commit meets its contract by the laws of its answers.
-use mathlib.Core.Path.{sym, ap, ◌∙◌}
-use lib.ListN.{length}
-use Rattle.extents.specs.declared.Verdict.{Verdict}
-use Rattle.extents.specs.declared.Verdict.TheVariants.{Accepted}
+use Rattle.std.proofs.Common.{rules, Err, ◌≡◌, sym, ap, ◌∙◌, length}
+use Rattle.extents.specs.Verdict.{Accepted, verdict_of}
 use Rattle.layouts.specs.declared.kinds.Kind.TheVariants.{Scsi}
 use Rattle.layouts.specs.Columns.{column_row}
 use Rattle.layouts.proofs.Bodies.{by-places}
 use Rattle.layouts.proofs.Rows.{passed}
-use Rattle.joining.specs.Merge.{columns_of, column_list}
-use Rattle.commits.specs.Commit.{commit_list, after_list}
+use Rattle.joining.specs.Merge.{columns_of}
 use Rattle.commits.proofs.Answers.{judged}
 use Rattle.commits.proofs.commit.commit.Goals as goal
 
 pub apply-requires-clause-offs_len_bound : goal.apply-requires-clause-offs_len_bound
 apply-requires-clause-offs_len_bound c =
     let a = c.args in
-    (passed Scsi (columns_of a.devs.now a.offs.now a.lens.now a.stos.now a.sts.now) c.in-Accepted.field-0 (sym c.check.ensures ∙ c.in-Accepted.is)).few
+    (passed Scsi (columns_of a.devs.now a.offs.now a.lens.now a.stos.now a.sts.now) c.in_ok-check.field-0 (sym c.in_ok-check.ensures)).few
 
 pub apply-requires-clause-even : goal.apply-requires-clause-even
 apply-requires-clause-even c =
     let a = c.args in
-    (passed Scsi (columns_of a.devs.now a.offs.now a.lens.now a.stos.now a.sts.now) c.in-Accepted.field-0 (sym c.check.ensures ∙ c.in-Accepted.is)).level
+    (passed Scsi (columns_of a.devs.now a.offs.now a.lens.now a.stos.now a.sts.now) c.in_ok-check.field-0 (sym c.in_ok-check.ensures)).level
 
 pub apply-requires-clause-sts_value : goal.apply-requires-clause-sts_value
 apply-requires-clause-sts_value c =
     let a = c.args in
-    let p = passed Scsi (columns_of a.devs.now a.offs.now a.lens.now a.stos.now a.sts.now) c.in-Accepted.field-0 (sym c.check.ensures ∙ c.in-Accepted.is) in
+    let p = passed Scsi (columns_of a.devs.now a.offs.now a.lens.now a.stos.now a.sts.now) c.in_ok-check.field-0 (sym c.in_ok-check.ensures) in
     by-places (column_row (columns_of a.devs.now a.offs.now a.lens.now a.stos.now a.sts.now)) (length a.offs.now) ∙ p.passes ∙ ap Accepted p.counted
 
-pub returns-in-Refused-clause-answered : goal.returns-in-Refused-clause-answered
-returns-in-Refused-clause-answered c =
+pub returns-in_err-check-clause-answered : goal.returns-in_err-check-clause-answered
+returns-in_err-check-clause-answered c =
     let a = c.args in
-    ap (λ (v : Verdict). after_list v (commit_list a.s.now a.block (column_list a.devs.now a.offs.now a.lens.now a.stos.now a.sts.now) (length a.d.now))) (sym c.in-Refused.is)
-    ∙ judged a.s.now a.block a.devs.now a.offs.now a.lens.now a.stos.now a.sts.now (length a.d.now) c.check.result c.check.ensures
+    let e : ◌≡◌ c.from_residual.result (Err c.in_err-check.field-0.0) = search rules in
+    rw e (judged a.s.now a.block a.devs.now a.offs.now a.lens.now a.stos.now a.sts.now (length a.d.now) (verdict_of (Err c.in_err-check.field-0.0)) c.in_err-check.ensures)
 
-pub returns-in-Accepted-clause-answered : goal.returns-in-Accepted-clause-answered
-returns-in-Accepted-clause-answered c =
+pub returns-clause-answered : goal.returns-clause-answered
+returns-clause-answered c =
     let a = c.args in
-    c.apply.ensures.answered ∙ judged a.s.now a.block a.devs.now a.offs.now a.lens.now a.stos.now a.sts.now (length a.d.now) (Accepted c.in-Accepted.field-0) (sym c.in-Accepted.is ∙ c.check.ensures)
+    c.apply.ensures.answered ∙ judged a.s.now a.block a.devs.now a.offs.now a.lens.now a.stos.now a.sts.now (length a.d.now) (Accepted c.in_ok-check.field-0) c.in_ok-check.ensures

@@ -10,9 +10,9 @@ pub returns : goal.returns
 returns c =
     let a = c.args in (
       record {
-        others = c.seek-other.ensures;
-        invalids = c.seek-invalid.ensures;
-        ranges = sought-at always (range_begin (range_at a.s.now)) (range_end (range_at a.s.now)) a.m 0 0 (λ b l. absurd (omega arith)) (λ l. (refl, c.requires.nonzero l)) c.range_at-range.result c.range_at-range.ensures;
+        others = c.seek.ensures;
+        invalids = c.seek-2.ensures;
+        ranges = sought-at always (range_begin (range_at a.ranges.list.now)) (range_end (range_at a.ranges.list.now)) a.ranges.count 0 0 (λ b l. absurd (omega arith)) (λ l. (refl, c.requires.nonzero l)) c.range_at.result c.range_at.ensures;
       },
       refl,
       refl,

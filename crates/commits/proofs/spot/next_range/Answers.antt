@@ -10,9 +10,9 @@ use Rattle.commits.proofs.spot.next_range.Goals as goal
 pub returns-then-x-p : goal.returns-then-x-p
 returns-then-x-p c =
     let a = c.args in
-    still-there always (range_begin (range_at a.s.now)) (range_end (range_at a.s.now)) a.m a.x a.p c.requires.left (omega (arith, c))
+    still-there always (range_begin (range_at a.ranges.list.now)) (range_end (range_at a.ranges.list.now)) a.ranges.count a.x a.p c.requires.left (omega (arith, c))
 
 pub returns : goal.returns
 returns c =
     let a = c.args in
-    sought-at always (range_begin (range_at a.s.now)) (range_end (range_at a.s.now)) a.m a.x (a.p.place + 1) (passed-by always (range_begin (range_at a.s.now)) (range_end (range_at a.s.now)) a.m a.x a.p c.requires.left (omega (arith, c))) (λ l. (refl, c.requires.x_bound l)) c.range_at.result c.range_at.ensures
+    sought-at always (range_begin (range_at a.ranges.list.now)) (range_end (range_at a.ranges.list.now)) a.ranges.count a.x (a.p.place + 1) (passed-by always (range_begin (range_at a.ranges.list.now)) (range_end (range_at a.ranges.list.now)) a.ranges.count a.x a.p c.requires.left (omega (arith, c))) (λ l. (refl, c.requires.x_bound l)) c.range_at.result c.range_at.ensures

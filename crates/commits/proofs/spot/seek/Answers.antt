@@ -10,10 +10,10 @@ pub returns-then-goes : goal.returns-then-goes
 returns-then-goes c =
     let a = c.args in
     let l = c.loop-i in
-    found_here (is_kind (number_in a.sts.now) a.inv) (number_in a.offs.now) (end_in a.offs.now a.lens.now) (length a.offs.now) a.x l.i (omega (arith, c)) l.invariant (sym c.goes.ensures ∙ (search))
+    found_here (is_kind (number_in a.rows.states.now) a.inv) (number_in a.rows.offsets.now) (end_in a.rows.offsets.now a.rows.lengths.now) (length a.rows.offsets.now) a.x l.i (omega (arith, c)) l.invariant (sym c.goes.ensures ∙ (search))
 
 pub returns : goal.returns
 returns c =
     let a = c.args in
     let l = c.loop-i in
-    none_here (is_kind (number_in a.sts.now) a.inv) (number_in a.offs.now) (end_in a.offs.now a.lens.now) (length a.offs.now) a.x l.i (omega arith) l.invariant
+    rw c.none.ensures (none_here (is_kind (number_in a.rows.states.now) a.inv) (number_in a.rows.offsets.now) (end_in a.rows.offsets.now a.rows.lengths.now) (length a.rows.offsets.now) a.x l.i (omega (arith, c)) l.invariant)

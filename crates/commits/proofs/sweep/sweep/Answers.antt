@@ -1,134 +1,90 @@
 -- sweep meets its contract by the turns.
-use mathlib.Core.Path.{sym, ap, ◌∙◌}
-use mathlib.Core.List.{List}
-use mathlib.Core.Bool.{cond}
-use Prim.Native.Nat.{ℕ}
-use native.Mathlib.Omega.{arith}
-use Rattle.joining.specs.Joiner.{Runs}
-use Rattle.joining.proofs.Pieces.{run-device, longer-forward, fed-longer, fed-started, wrote-longer, wrote-started}
+use Rattle.std.proofs.Common.{◌≡◌, cond, ap, ◌∙◌}
+use Rattle.joining.specs.Joiner.{stored}
+use Rattle.joining.proofs.Pieces.{stored-wrote}
 use Rattle.commits.proofs.Turns.{begin-asks, turns-begin, turns-end, turn-asks, move_asks, piece-asks, piece-feeds, turns-on, turns-over, turns-fewer}
-use Rattle.commits.proofs.sweep.sweep.Goals.{then-t+then-joins, then-t+else-joins, else-t}
+use Rattle.commits.proofs.sweep.sweep.Goals.{in-Some, in_default}
 use Rattle.commits.proofs.sweep.sweep.Goals as goal
 
 pub begin-p-requires-clause-tops : goal.begin-p-requires-clause-tops
-begin-p-requires-clause-tops c =
+begin-p-requires-clause-tops g c =
     let a = c.args in
-    (begin-asks a.s.now a.m a.devs.now a.offs.now a.lens.now a.stos.now a.sts.now c.requires.asked).1.0
+    (begin-asks a.ranges.list.now a.ranges.count a.rows.devices.now a.rows.offsets.now a.rows.lengths.now a.rows.storages.now a.rows.states.now c.requires.asked).1.0
 
 pub begin-p-requires-clause-nonzero : goal.begin-p-requires-clause-nonzero
-begin-p-requires-clause-nonzero c =
+begin-p-requires-clause-nonzero g c =
     let a = c.args in
-    (begin-asks a.s.now a.m a.devs.now a.offs.now a.lens.now a.stos.now a.sts.now c.requires.asked).1.1
+    (begin-asks a.ranges.list.now a.ranges.count a.rows.devices.now a.rows.offsets.now a.rows.lengths.now a.rows.storages.now a.rows.states.now c.requires.asked).1.1
 
 pub loop-p-init : goal.loop-p-init
-loop-p-init c =
+loop-p-init g c =
     let a = c.args in
-    let A = c.requires.asked in
-    rw c.no_run-runs.ensures (turns-begin a.s.now a.m a.devs.now a.offs.now a.lens.now a.stos.now a.sts.now A a.write a.d.now c.begin-p.result c.begin-p.ensures)
+    rw c.new-runs.ensures (turns-begin a.ranges.list.now a.ranges.count a.rows.devices.now a.rows.offsets.now a.rows.lengths.now a.rows.storages.now a.rows.states.now c.requires.asked g.P.Pass.writes a.d.now c.begin-p.result c.begin-p.ensures)
 
 pub next_turn-t-requires : goal.next_turn-t-requires
-next_turn-t-requires c =
+next_turn-t-requires g c =
     let a = c.args in
-    let A = c.requires.asked in
-    let l = c.loop-p in
-    turn-asks a.s.now a.m a.devs.now a.offs.now a.lens.now a.stos.now a.sts.now A l.invariant c.loop-p-test.true
+    turn-asks a.ranges.list.now a.ranges.count a.rows.devices.now a.rows.offsets.now a.rows.lengths.now a.rows.storages.now a.rows.states.now c.requires.asked c.loop-p.invariant c.loop-p-test.true
 
 pub piece-next-requires-clause-row_in_bounds : goal.piece-next-requires-clause-row_in_bounds
-piece-next-requires-clause-row_in_bounds c =
+piece-next-requires-clause-row_in_bounds g c =
     let a = c.args in
-    (piece-asks a.s.now a.m a.devs.now a.offs.now a.lens.now a.stos.now a.sts.now c.requires.asked c.loop-p.invariant c.loop-p-test.true c.next_turn-t.result c.next_turn-t.ensures c.if-t.true).0
+    (piece-asks a.ranges.list.now a.ranges.count a.rows.devices.now a.rows.offsets.now a.rows.lengths.now a.rows.storages.now a.rows.states.now c.requires.asked c.loop-p.invariant c.loop-p-test.true c.next_turn-t.result c.next_turn-t.ensures c.in-Some.part c.in-Some.is).0
 
 pub piece-next-requires-clause-lo_bound : goal.piece-next-requires-clause-lo_bound
-piece-next-requires-clause-lo_bound c =
+piece-next-requires-clause-lo_bound g c =
     let a = c.args in
-    (piece-asks a.s.now a.m a.devs.now a.offs.now a.lens.now a.stos.now a.sts.now c.requires.asked c.loop-p.invariant c.loop-p-test.true c.next_turn-t.result c.next_turn-t.ensures c.if-t.true).1
+    (piece-asks a.ranges.list.now a.ranges.count a.rows.devices.now a.rows.offsets.now a.rows.lengths.now a.rows.storages.now a.rows.states.now c.requires.asked c.loop-p.invariant c.loop-p-test.true c.next_turn-t.result c.next_turn-t.ensures c.in-Some.part c.in-Some.is).1
 
-pub joins-requires : goal.joins-requires
-joins-requires c =
+pub feed-step-requires : goal.feed-step-requires
+feed-step-requires g c =
     let a = c.args in
-    let A = c.requires.asked in
-    let l = c.loop-p in
-    let t = c.next_turn-t.result in
-    let et = c.next_turn-t.ensures in
-    let r : Runs = record { count = l.count; latest = l.runs } in
-    let u = c.piece-next.result in
-    let f = piece-feeds a.s.now a.m a.devs.now a.offs.now a.lens.now a.stos.now a.sts.now A l.invariant c.loop-p-test.true t et c.if-t.true u c.piece-next.ensures in
-    (run-device a.devs.now r u c.state_place-at.result c.state_place-at.ensures.0 f, f.device-there)
-
-pub put_longer-requires : goal.put_longer-requires
-put_longer-requires c =
-    let a = c.args in
-    let A = c.requires.asked in
-    let l = c.loop-p in
-    let t = c.next_turn-t.result in
-    let et = c.next_turn-t.ensures in
-    let r : Runs = record { count = l.count; latest = l.runs } in
-    let u = c.piece-next.result in
-    let f = piece-feeds a.s.now a.m a.devs.now a.offs.now a.lens.now a.stos.now a.sts.now A l.invariant c.loop-p-test.true t et c.if-t.true u c.piece-next.ensures in
-    rw c.longer-run.ensures (longer-forward a.devs.now r u c.state_place-at.result c.state_place-at.ensures.0 f (sym c.joins.ensures ∙ c.if-joins.true))
-
-pub overflow_add-count : goal.overflow_add-count
-overflow_add-count c =
-    let a = c.args in
-    let A = c.requires.asked in
-    let l = c.loop-p in
-    let t = c.next_turn-t.result in
-    let et = c.next_turn-t.ensures in
-    let r : Runs = record { count = l.count; latest = l.runs } in
-    let u = c.piece-next.result in
-    let f = piece-feeds a.s.now a.m a.devs.now a.offs.now a.lens.now a.stos.now a.sts.now A l.invariant c.loop-p-test.true t et c.if-t.true u c.piece-next.ensures in
-    omega (arith, f.few)
+    piece-feeds a.ranges.list.now a.ranges.count a.rows.devices.now a.rows.offsets.now a.rows.lengths.now a.rows.storages.now a.rows.states.now c.requires.asked c.loop-p.invariant c.loop-p-test.true c.next_turn-t.result c.next_turn-t.ensures c.in-Some.part c.in-Some.is c.piece-next.result c.piece-next.ensures
 
 pub moved-p-requires-clause-tops : goal.moved-p-requires-clause-tops
-moved-p-requires-clause-tops c =
+moved-p-requires-clause-tops g c =
     let a = c.args in
-    (move_asks a.s.now a.m a.devs.now a.offs.now a.lens.now a.stos.now a.sts.now c.requires.asked c.loop-p.invariant c.loop-p-test.true c.next_turn-t.result c.next_turn-t.ensures).1.0
+    (move_asks a.ranges.list.now a.ranges.count a.rows.devices.now a.rows.offsets.now a.rows.lengths.now a.rows.storages.now a.rows.states.now c.requires.asked c.loop-p.invariant c.loop-p-test.true c.next_turn-t.result c.next_turn-t.ensures).1.0
 
 pub moved-p-requires-clause-at_le_y : goal.moved-p-requires-clause-at_le_y
-moved-p-requires-clause-at_le_y c =
+moved-p-requires-clause-at_le_y g c =
     let a = c.args in
-    (move_asks a.s.now a.m a.devs.now a.offs.now a.lens.now a.stos.now a.sts.now c.requires.asked c.loop-p.invariant c.loop-p-test.true c.next_turn-t.result c.next_turn-t.ensures).1.1.1
+    (move_asks a.ranges.list.now a.ranges.count a.rows.devices.now a.rows.offsets.now a.rows.lengths.now a.rows.storages.now a.rows.states.now c.requires.asked c.loop-p.invariant c.loop-p-test.true c.next_turn-t.result c.next_turn-t.ensures).1.1.1
 
 pub loop-p-smaller : goal.loop-p-smaller
-loop-p-smaller c =
+loop-p-smaller g c =
     let a = c.args in
-    let A = c.requires.asked in
-    let l = c.loop-p in
-    let t = c.next_turn-t.result in
-    let et = c.next_turn-t.ensures in
-    turns-fewer a.s.now a.m a.devs.now a.offs.now a.lens.now a.stos.now a.sts.now A l.invariant c.loop-p-test.true t et c.moved-p.result c.moved-p.ensures
+    turns-fewer a.ranges.list.now a.ranges.count a.rows.devices.now a.rows.offsets.now a.rows.lengths.now a.rows.storages.now a.rows.states.now c.requires.asked c.loop-p.invariant c.loop-p-test.true c.next_turn-t.result c.next_turn-t.ensures c.moved-p.result c.moved-p.ensures
 
 pub loop-p-preserved : goal.loop-p-preserved
-loop-p-preserved c =
+loop-p-preserved g c =
     let a = c.args in
-    let A = c.requires.asked in
     let l = c.loop-p in
     let t = c.next_turn-t.result in
-    let et = c.next_turn-t.ensures in
-    let r : Runs = record { count = l.count; latest = l.runs } in
-    let q = c.if-t in
-    let devs = a.devs.now in
-    let more : Runs = record { count = q.count; latest = q.runs } in
+    let q = c.match-t in
+    let devs = a.rows.devices.now in
     elim q.branch [
-      | then-t+then-joins w ↦
+      | in-Some w ↦
           let u = w.piece-next.result in
-          let k = w.state_place-at.result in
-          let j = sym w.joins.ensures ∙ w.if-joins.true in
-          turns-on a.s.now a.m a.devs.now a.offs.now a.lens.now a.stos.now a.sts.now A l.invariant c.loop-p-test.true t et c.moved-p.result c.moved-p.ensures c.either-bare.result c.either-bare.ensures w.if-t.true u w.piece-next.ensures more (rw (w.runs-is, w.count-is) (fed-longer devs r u k w.state_place-at.ensures.0 j w.longer-run.result w.longer-run.ensures))
-          q.d (w.d-is ∙ w.put_longer.ensures ∙ ap (λ (z : List ℕ). cond a.write z l.d) (wrote-longer devs r u k w.state_place-at.ensures.0 j w.longer-run.result w.longer-run.ensures l.d))
-      | then-t+else-joins w ↦
-          let u = w.piece-next.result in
-          let k = w.state_place-at.result in
-          let j = sym w.joins.ensures ∙ w.if-joins.false in
-          turns-on a.s.now a.m a.devs.now a.offs.now a.lens.now a.stos.now a.sts.now A l.invariant c.loop-p-test.true t et c.moved-p.result c.moved-p.ensures c.either-bare.result c.either-bare.ensures w.if-t.true u w.piece-next.ensures more (rw (w.runs-is, w.count-is) (fed-started devs r u k w.state_place-at.ensures.0 j w.started.result w.started.ensures))
-          q.d (w.d-is ∙ w.put_started.ensures ∙ ap (λ (z : List ℕ). cond a.write z l.d) (wrote-started devs r u k w.state_place-at.ensures.0 j l.d))
-      | else-t w ↦ rw (w.d-is, w.runs-is, w.count-is) (turns-over a.s.now a.m a.devs.now a.offs.now a.lens.now a.stos.now a.sts.now A l.invariant c.loop-p-test.true t et c.moved-p.result c.moved-p.ensures c.either-bare.result c.either-bare.ensures w.if-t.false)
+          let step : w.put.new.d ≡ cond g.P.Pass.writes (stored devs w.feed-step.result u l.d) l.d = w.put.ensures in
+          rw (w.d-is, w.runs-is)
+          (turns-on a.ranges.list.now a.ranges.count devs a.rows.offsets.now a.rows.lengths.now a.rows.storages.now a.rows.states.now c.requires.asked l.invariant c.loop-p-test.true t c.next_turn-t.ensures w.in-Some.part w.in-Some.is u w.piece-next.ensures c.moved-p.result c.moved-p.ensures w.feed-step.new.self w.feed-step.ensures.runs
+          w.put.new.d (step ∙ ap (λ z. cond g.P.Pass.writes (stored devs z u l.d) l.d) w.feed-step.ensures.step ∙ ap (λ z. cond g.P.Pass.writes z l.d) (stored-wrote devs l.runs u l.d)))
+      | in_default w ↦
+          rw (w.d-is, w.runs-is)
+          (turns-over a.ranges.list.now a.ranges.count devs a.rows.offsets.now a.rows.lengths.now a.rows.storages.now a.rows.states.now c.requires.asked l.invariant c.loop-p-test.true t c.next_turn-t.ensures c.moved-p.result c.moved-p.ensures w.in_default.is)
     ]
 
-pub returns : goal.returns
-returns c =
+pub returns-then-bare : goal.returns-then-bare
+returns-then-bare g c =
     let a = c.args in
-    let A = c.requires.asked in
     let l = c.loop-p in
-    let t = turns-end a.s.now a.m a.devs.now a.offs.now a.lens.now a.stos.now a.sts.now A l.invariant c.requires.sts_in_bounds c.loop-p-test.false in
-    record { counted = t.0; bared = t.1; stored = t.2 }
+    let t = turns-end a.ranges.list.now a.ranges.count a.rows.devices.now a.rows.offsets.now a.rows.lengths.now a.rows.storages.now a.rows.states.now c.requires.asked l.invariant c.requires.sts_in_bounds c.loop-p-test.false in
+    (record { count = l.runs.count; bare = l.bare }, rw (c.at.ensures, c.if-bare.true), record { counted = t.0; bared = t.1; stored = t.2 })
+
+pub returns : goal.returns
+returns g c =
+    let a = c.args in
+    let l = c.loop-p in
+    let t = turns-end a.ranges.list.now a.ranges.count a.rows.devices.now a.rows.offsets.now a.rows.lengths.now a.rows.storages.now a.rows.states.now c.requires.asked l.invariant c.requires.sts_in_bounds c.loop-p-test.false in
+    (record { count = l.runs.count; bare = l.bare }, rw c.if-bare.false, record { counted = t.0; bared = t.1; stored = t.2 })

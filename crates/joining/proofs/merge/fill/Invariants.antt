@@ -1,5 +1,5 @@
 -- fill meets its contract by the turns of the pass that writes.
-use Rattle.std.proofs.Common.{◌-◌, length}
+use Rattle.std.proofs.Common.{length}
 use lib.Seq.{sets}
 use Rattle.joining.specs.Merge.{column_list}
 use Rattle.merging.specs.Merged.{merged}
@@ -9,7 +9,4 @@ use Rattle.joining.proofs.merge.fill.Given as goal
 
 abbrev pub invariant-loop-i : goal.invariant-loop-i
 invariant-loop-i l =
-    Filling l.devs l.offs l.lens l.stos l.sts (length l.offs) (length l.initial.d) (sets l.initial.d 4 (bytes_of (merged (column_list l.devs l.offs l.lens l.stos l.sts)))) l.d (record { count = l.count; latest = l.runs }) l.i
-
-abbrev pub decreases-loop-i : goal.decreases-loop-i
-decreases-loop-i l = length l.offs - l.i
+    Filling l.rows.devices.now l.rows.offsets.now l.rows.lengths.now l.rows.storages.now l.rows.states.now (length l.rows.offsets.now) (length l.initial.d) (sets l.initial.d 4 (bytes_of (merged (column_list l.rows.devices.now l.rows.offsets.now l.rows.lengths.now l.rows.storages.now l.rows.states.now)))) l.d l.runs l.i

@@ -1,15 +1,11 @@
--- put_device stores sixteen bytes as two eights.
-use Prim.Native.Nat.{◌+◌}
-use mathlib.Core.Path.{ap, ◌∙◌}
-use lib.ListN.{take, drop}
-use lib.Seq.{sets}
-use Rattle.statuses.specs.Names.{Bytes}
-use Rattle.layouts.proofs.Stores.{sixteen}
-use native.Mathlib.Omega.{arith}
+-- put_device: a part that is written anew is a run of stores.
+use Rattle.std.proofs.Common.{◌≡◌, ◌∙◌, ◌+◌, ◌-◌, ap, arith, take, drop}
+use Rattle.xdr.proofs.Be.{stored}
+use Rattle.layouts.proofs.Stores.{device-length}
 use Rattle.layouts.proofs.fields.put_device.Goals as goal
 
 pub returns : goal.returns
 returns c =
     let a = c.args in
-    c.copy8-2.ensures ∙ ap (λ (l : Bytes). sets l (a.at + 8) (take 8 (drop (a.from + 8) a.devices.now))) c.copy8.ensures
-    ∙ sixteen a.d.now a.at a.devices.now a.from (omega arith)
+    let sixteen : a.from + 16 - a.from ≡ 16 = omega arith in
+    stored 16 a.at a.d.now c.requires.0 (c.copy_from_slice.ensures.after ∙ ap (λ k. take k (drop a.from a.devices.now)) sixteen) (device-length a.devices.now a.from c.requires.1)

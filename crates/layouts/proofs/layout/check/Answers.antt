@@ -7,10 +7,10 @@ use Rattle.layouts.proofs.Bodies.{by-places, too_short, too_many, wrong-length, 
 use Rattle.layouts.proofs.layout.check.Goals as goal
 
 pub returns-then-s-lt4 : goal.returns-then-s-lt4
-returns-then-s-lt4 c = let a = c.args in too_short a.kind a.s.now (omega arith)
+returns-then-s-lt4 c = let a = c.args in rw c.at.ensures (too_short a.kind a.s.now (omega arith))
 
 pub returns-then-n-gt1024 : goal.returns-then-n-gt1024
-returns-then-n-gt1024 c = let a = c.args in too_many a.kind a.s.now c.be32-n.result c.be32-n.ensures (omega arith) (omega arith)
+returns-then-n-gt1024 c = let a = c.args in rw c.at-then-n-gt1024.ensures (too_many a.kind a.s.now c.be32-n.result c.be32-n.ensures (omega arith) (omega arith))
 
 pub body_size-requires : goal.body_size-requires
 body_size-requires c = size_fits c.args.kind c.be32-n.result (omega arith)
@@ -19,7 +19,7 @@ pub returns-then-s-body_size : goal.returns-then-s-body_size
 returns-then-s-body_size c =
     let a = c.args in
     let n = c.be32-n in
-    wrong-length a.kind a.s.now n.result n.ensures (omega arith) (omega arith) (λ e. c.if-s-body_size.true (e ∙ sym c.body_size.ensures))
+    rw c.at-then-s-body_size.ensures (wrong-length a.kind a.s.now n.result n.ensures (omega arith) (omega arith) (λ e. c.if-s-body_size.true (e ∙ sym c.body_size.ensures)))
 
 pub returns : goal.returns
 returns c =

@@ -1,14 +1,10 @@
 -- extent meets its contract by the law of a place by the numbers of the check.
+use Rattle.std.proofs.Common.{◌∙◌}
+use Rattle.extents.specs.Verdict.{verdict_of}
 use Rattle.layouts.proofs.Bodies.{by-numbers}
-use mathlib.Core.Path.{sym, ◌∙◌}
 use Rattle.layouts.proofs.layout.extent.Goals as goal
 
-pub returns-in-Accepted : goal.returns-in-Accepted
-returns-in-Accepted c =
+pub returns : goal.returns
+returns c =
     let a = c.args in
-    c.extent_in.ensures ∙ by-numbers a.kind a.s.now a.i _ (sym c.in-Accepted.is ∙ c.check.ensures)
-
-pub returns-in-Refused : goal.returns-in-Refused
-returns-in-Refused c =
-    let a = c.args in
-    c.extent_in-in-Refused.ensures ∙ by-numbers a.kind a.s.now a.i _ (sym c.in-Refused.is ∙ c.check.ensures)
+    c.extent_in.ensures ∙ by-numbers a.kind a.s.now a.i (verdict_of c.check.result) c.check.ensures

@@ -2,7 +2,7 @@
 use Rattle.listings.proofs.Texts.{refused-short, accepted-short, whole}
 use Rattle.listings.specs.Text.{text_of, listed, Listing, IsPrefixLen}
 use Rattle.layouts.specs.declared.kinds.Kind.{Kind}
-use Rattle.extents.specs.declared.Verdict.TheVariants.{Accepted, Refused}
+use Rattle.extents.specs.Verdict.{Accepted, Refused, rule_number}
 use Rattle.layouts.proofs.Bodies.{accepted}
 use Rattle.layouts.specs.Layout.{row_at, rows_of, check_body}
 use Rattle.listings.specs.Text.{accepted_text, refused_text, Put}
@@ -11,7 +11,7 @@ use Rattle.extents.proofs.Turns.{length-list_from}
 use borrow.Author.Tests.{lt-ltb, le-ltb}
 use lib.ListN.{length}
 use Prim.Native.Nat.{ℕ, ◌<◌, ◌≤◌}
-use mathlib.Core.Path.{◌≡◌, sym, ap, ◌∙◌}
+use mathlib.Core.Path.{◌≡◌, sym, ap}
 use native.Mathlib.Omega.{arith}
 use Rattle.listings.proofs.text.listing.Goals as goal
 
@@ -35,25 +35,25 @@ unfolding listed
 refused k s i j h room v p = whole k s p room (rw (le-ltb 65536 (length s) h) (ap (λ u. text_of k u s) v)) (refused-short i j)
 
 pub returns-then-s-gt65536-clause-listing : goal.returns-then-s-gt65536-clause-listing
-returns-then-s-gt65536-clause-listing c = (long c.args.kind c.args.s.now (omega arith) (omega arith) c.put_refused.ensures).0
+returns-then-s-gt65536-clause-listing c = (long c.args.kind c.args.s.now (omega arith) (omega arith) (rw c.at.ensures at c.put_refused.ensures)).0
 
 pub returns-then-s-gt65536-clause-prefix_len : goal.returns-then-s-gt65536-clause-prefix_len
-returns-then-s-gt65536-clause-prefix_len c = (long c.args.kind c.args.s.now (omega arith) (omega arith) c.put_refused.ensures).1
+returns-then-s-gt65536-clause-prefix_len c = (long c.args.kind c.args.s.now (omega arith) (omega arith) (rw c.at.ensures at c.put_refused.ensures)).1
 
 pub put_accepted-requires : goal.put_accepted-requires
 put_accepted-requires c =
     let a = c.args in
-    let v = sym c.check.ensures ∙ c.in-Accepted.is in
-    (omega arith, v, (accepted a.kind a.s.now c.in-Accepted.n v).few)
+    let v = sym c.in-Ok.ensures in
+    (omega arith, v, (accepted a.kind a.s.now c.in-Ok.n v).few)
 
-pub returns-in-Accepted-clause-listing : goal.returns-in-Accepted-clause-listing
-returns-in-Accepted-clause-listing c = (taken c.args.kind c.args.s.now c.in-Accepted.n (omega arith) (omega arith) (sym c.in-Accepted.is ∙ c.check.ensures) c.put_accepted.ensures).0
+pub returns-in-Ok-clause-listing : goal.returns-in-Ok-clause-listing
+returns-in-Ok-clause-listing c = (taken c.args.kind c.args.s.now c.in-Ok.n (omega arith) (omega arith) c.in-Ok.ensures c.put_accepted.ensures).0
 
-pub returns-in-Accepted-clause-prefix_len : goal.returns-in-Accepted-clause-prefix_len
-returns-in-Accepted-clause-prefix_len c = (taken c.args.kind c.args.s.now c.in-Accepted.n (omega arith) (omega arith) (sym c.in-Accepted.is ∙ c.check.ensures) c.put_accepted.ensures).1
+pub returns-in-Ok-clause-prefix_len : goal.returns-in-Ok-clause-prefix_len
+returns-in-Ok-clause-prefix_len c = (taken c.args.kind c.args.s.now c.in-Ok.n (omega arith) (omega arith) c.in-Ok.ensures c.put_accepted.ensures).1
 
-pub returns-in-Refused-clause-listing : goal.returns-in-Refused-clause-listing
-returns-in-Refused-clause-listing c = (refused c.args.kind c.args.s.now c.in-Refused.k c.in-Refused.i (omega arith) (omega arith) (sym c.in-Refused.is ∙ c.check.ensures) c.put_refused-in-Refused.ensures).0
+pub returns-in-Err-clause-listing : goal.returns-in-Err-clause-listing
+returns-in-Err-clause-listing c = (refused c.args.kind c.args.s.now (rule_number c.in-Err.refusal.rule) c.in-Err.refusal.place (omega arith) (omega arith) c.in-Err.ensures c.put_refused-in-Err.ensures).0
 
-pub returns-in-Refused-clause-prefix_len : goal.returns-in-Refused-clause-prefix_len
-returns-in-Refused-clause-prefix_len c = (refused c.args.kind c.args.s.now c.in-Refused.k c.in-Refused.i (omega arith) (omega arith) (sym c.in-Refused.is ∙ c.check.ensures) c.put_refused-in-Refused.ensures).1
+pub returns-in-Err-clause-prefix_len : goal.returns-in-Err-clause-prefix_len
+returns-in-Err-clause-prefix_len c = (refused c.args.kind c.args.s.now (rule_number c.in-Err.refusal.rule) c.in-Err.refusal.place (omega arith) (omega arith) c.in-Err.ensures c.put_refused-in-Err.ensures).1

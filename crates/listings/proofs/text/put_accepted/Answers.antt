@@ -1,15 +1,18 @@
 -- put_accepted stores the head and then the lines.
 use Rattle.listings.specs.Text.{accepted_text}
-use Rattle.listings.proofs.Texts.{kept, then, number-ends}
+use Rattle.listings.proofs.Texts.{long, and_then, number-ends}
 use native.Mathlib.Omega.{arith}
+use Rattle.std.proofs.Common.{rules}
 use Rattle.listings.proofs.text.put_accepted.Goals as goal
 
-pub put_lines-requires : goal.put_lines-requires
-put_lines-requires c =
-    let p = c.put_bytes-a.ensures in
-    let q = c.put_number-b.ensures in
-    (omega (arith, p.ends, kept p, number-ends c.args.n 10 q, kept q), c.requires.1)
+pub lines-requires : goal.lines-requires
+lines-requires c =
+    let p = c.bytes.ensures in
+    let q = c.number.ensures in
+    (omega (arith, p.put.ends, long p, number-ends c.args.n 10 q, long q), c.requires.1)
 
 pub returns : goal.returns
 unfolding accepted_text
-returns c = then c.put_bytes-a.ensures (then c.put_number-b.ensures c.put_lines.ensures)
+returns c =
+    let p = and_then c.bytes.ensures (and_then c.number.ensures c.lines.ensures) in
+    search (rules, p.put, p.same)

@@ -1,22 +1,25 @@
 -- put_refused stores its four parts, one after the other.
 use Rattle.listings.specs.Text.{refused_text}
-use Rattle.listings.proofs.Texts.{kept, then, number-ends}
+use Rattle.listings.proofs.Texts.{long, and_then, number-ends}
 use native.Mathlib.Omega.{arith}
+use Rattle.std.proofs.Common.{rules}
 use Rattle.listings.proofs.text.put_refused.Goals as goal
 
-pub put_bytes-c-requires : goal.put_bytes-c-requires
-put_bytes-c-requires c =
-    let p = c.put_bytes-a.ensures in
-    let q = c.put_number-b.ensures in
-    omega (arith, p.ends, kept p, number-ends c.args.k 32 q, kept q)
+pub bytes-requires-2 : goal.bytes-requires-2
+bytes-requires-2 c =
+    let p = c.bytes.ensures in
+    let q = c.number.ensures in
+    omega (arith, p.put.ends, long p, number-ends _ 32 q, long q)
 
-pub put_number-requires : goal.put_number-requires
-put_number-requires c =
-    let p = c.put_bytes-a.ensures in
-    let q = c.put_number-b.ensures in
-    let r = c.put_bytes-c.ensures in
-    omega (arith, p.ends, kept p, number-ends c.args.k 32 q, kept q, r.ends, kept r)
+pub number-requires-2 : goal.number-requires-2
+number-requires-2 c =
+    let p = c.bytes.ensures in
+    let q = c.number.ensures in
+    let r = c.bytes-2.ensures in
+    omega (arith, p.put.ends, long p, number-ends _ 32 q, long q, r.put.ends, long r)
 
 pub returns : goal.returns
 unfolding refused_text
-returns c = then c.put_bytes-a.ensures (then c.put_number-b.ensures (then c.put_bytes-c.ensures c.put_number.ensures))
+returns c =
+    let p = and_then c.bytes.ensures (and_then (rw c.from-rule.ensures at c.number.ensures) (and_then c.bytes-2.ensures c.number-2.ensures)) in
+    search (rules, p.put, p.same)

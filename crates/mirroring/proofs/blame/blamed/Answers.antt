@@ -1,7 +1,9 @@
 -- By the laws of `Assessing`, `Reports` of reports and `StatisticsWalk` of reports.
-use mathlib.Core.Path.{◌≡◌, sym, ◌∙◌}
+use mathlib.Core.Path.{◌≡◌, sym, ap, ◌∙◌}
 use native.Mathlib.Omega.{arith}
 use lib.ListN.{length}
+use Rattle.std.specs.Prelude.{Ok}
+use Rattle.reports.specs.ReportSteps.{entry_of}
 use Rattle.reports.proofs.Reports.{goes_on, fold-begins, fold-record, fold-statistics, fold-malformed}
 use Rattle.reports.proofs.StatisticsWalk.{tally-nothing}
 use Rattle.places.proofs.Loops.{mapped-length}
@@ -19,12 +21,12 @@ loop-at-init c =
 pub record_errors-x-requires : goal.record_errors-x-requires
 record_errors-x-requires c =
     let a = c.args in
-    omega (arith, goes_on a.body.now c.loop-at.c (sym c.next.ensures ∙ c.in-Record.is))
+    omega (arith, goes_on a.body.now c.loop-at.c (sym c.next.ensures ∙ ap entry_of (c.in-Ok-Record.is ∙ ap Ok c.in-Ok-Record.field-0-is)))
 
 pub loop-at-smaller : goal.loop-at-smaller
 loop-at-smaller c =
     let a = c.args in
-    omega (arith, goes_on a.body.now c.loop-at.c (sym c.next.ensures ∙ c.in-Record.is))
+    omega (arith, goes_on a.body.now c.loop-at.c (sym c.next.ensures ∙ ap entry_of (c.in-Ok-Record.is ∙ ap Ok c.in-Ok-Record.field-0-is)))
 
 pub loop-at-preserved : goal.loop-at-preserved
 loop-at-preserved c =
@@ -32,21 +34,21 @@ loop-at-preserved c =
     let l = c.loop-at in
     rw c.record_errors-x.ensures
     (rw (errors-change a.mirrors (change_in l.x)) at
-    (fold-record (with_error a.mirrors) (counted a.mirrors) (status_only 10036) (change_only (change_in l.x)) a.body.now l.c l.invariant (sym c.next.ensures ∙ c.in-Record.is)))
+    (fold-record (with_error a.mirrors) (counted a.mirrors) (status_only 10036) (change_only (change_in l.x)) a.body.now l.c l.invariant (sym c.next.ensures ∙ ap entry_of (c.in-Ok-Record.is ∙ ap Ok c.in-Ok-Record.field-0-is))))
 
-pub returns-in-Statistics : goal.returns-in-Statistics
-returns-in-Statistics c =
+pub returns-in-Ok-Statistics : goal.returns-in-Ok-Statistics
+returns-in-Ok-Statistics c =
     let long : length c.args.mirrors ≡ 5 = search (mapped-length, rules) in
     let s = c in
     let l = c.loop-at in
     settled_is s.args.mirrors long (change_in l.x) _
-    ∙ fold-statistics (with_error s.args.mirrors) (counted s.args.mirrors) (status_only 10036) (change_only (change_in l.x)) s.args.body.now l.c l.invariant (sym c.next.ensures ∙ c.in-Statistics.is)
+    ∙ fold-statistics (with_error s.args.mirrors) (counted s.args.mirrors) (status_only 10036) (change_only (change_in l.x)) s.args.body.now l.c l.invariant (sym c.next.ensures ∙ ap entry_of (c.in-Ok-Statistics.is ∙ ap Ok c.in-Ok-Statistics.field-0-is))
 
-pub returns-in-Malformed : goal.returns-in-Malformed
-returns-in-Malformed c =
+pub returns-in-Err : goal.returns-in-Err
+returns-in-Err c =
     let long : length c.args.mirrors ≡ 5 = search (mapped-length, rules) in
     let s = c in
     let l = c.loop-at in
     settled_is s.args.mirrors long (change_in l.x) _
     ∙ tally-nothing (counted s.args.mirrors) (status_only 10036) (change_only (change_in l.x)) s.args.body.now c.none.ensures
-    ∙ fold-malformed (with_error s.args.mirrors) (counted s.args.mirrors) (status_only 10036) (change_only (change_in l.x)) s.args.body.now l.c l.invariant (sym c.next.ensures ∙ c.in-Malformed.is)
+    ∙ fold-malformed (with_error s.args.mirrors) (counted s.args.mirrors) (status_only 10036) (change_only (change_in l.x)) s.args.body.now l.c l.invariant (sym c.next.ensures ∙ ap entry_of c.in-Err.is)

@@ -3,40 +3,45 @@ use mathlib.Core.Path.{◌≡◌, sym, ap, ◌∙◌}
 use native.Mathlib.Omega.{arith}
 use lib.ListN.{length}
 use Rattle.places.proofs.Loops.{mapped-length}
+use Rattle.std.specs.Prelude.{Ok, Err}
+use Rattle.std.proofs.lemmas.Result.{err_from_is_err_and}
+use Rattle.statuses.specs.declared.Status.{Status}
+use Rattle.reports.specs.StatisticsSteps.{item_of}
 use Rattle.reports.proofs.StatisticsWalk.{goes-forward, stated, tally-given, tally-end, tally-malformed}
-use Rattle.mirroring.specs.declared.blame.Tallied.{Tallied}
+use Rattle.mirroring.specs.Blame.{tallied}
 use Rattle.mirroring.proofs.Assessing.{adding-stated, told, untold, telling, told_is}
 use borrow.Author.Rules.{rules}
 use Rattle.mirroring.proofs.blame.tally.Goals as goal
 
-pub loop-high-smaller : goal.loop-high-smaller
-loop-high-smaller c =
+pub loop-y-smaller : goal.loop-y-smaller
+loop-y-smaller c =
     let a = c.args in
-    omega (arith, goes-forward a.body.now c.loop-high.c (sym c.next.ensures ∙ c.in-Given.is))
+    omega (arith, goes-forward a.body.now c.loop-y.c (sym c.next.ensures ∙ ap item_of (c.in_ok-y.was ∙ ap Ok c.in-Some.is)))
 
-pub loop-high-preserved : goal.loop-high-preserved
-loop-high-preserved c =
+pub loop-y-preserved : goal.loop-y-preserved
+loop-y-preserved c =
     let a = c.args in
-    let l = c.loop-high in
-    let e = sym c.next.ensures ∙ c.in-Given.is in
+    let l = c.loop-y in
+    let e = sym c.next.ensures ∙ ap item_of (c.in_ok-y.was ∙ ap Ok c.in-Some.is) in
     rw (c.add-t.ensures ∙ adding-stated a.mirrors l.t (stated a.body.now l.c e))
     (tally-given (telling a.mirrors) untold (told l.t) a.body.now l.c l.invariant e)
 
-pub returns-in-End : goal.returns-in-End
-returns-in-End c =
+pub returns : goal.returns
+returns c =
     let long : length c.args.mirrors ≡ 5 = search (mapped-length, rules) in
     let s = c in
-    let l = c.loop-high in
+    let l = c.loop-y in
     rw c.if-not-counts.false
-    (tally-end (telling s.args.mirrors) untold (told l.t) s.args.body.now l.c l.invariant (sym c.next.ensures ∙ c.in-End.is)
+    (tally-end (telling s.args.mirrors) untold (told l.t) s.args.body.now l.c l.invariant (sym c.next.ensures ∙ ap item_of (c.in_ok-y.was ∙ ap Ok c.in_default.is))
     ∙ told_is s.args.mirrors long _)
 
-pub returns-in-Malformed : goal.returns-in-Malformed
-returns-in-Malformed c =
+pub returns-in_err-y : goal.returns-in_err-y
+returns-in_err-y c =
     let long : length c.args.mirrors ≡ 5 = search (mapped-length, rules) in
     let s = c in
-    let l = c.loop-high in
+    let l = c.loop-y in
+    let e = err_from_is_err_and c.from_residual-in_err-y.result c.from_residual-in_err-y.ensures.1 in
     rw c.if-not-counts.false
-    (ap {B = Tallied} (λ t. record { status = 10036; totals = t }) c.none-nothing.ensures
-    ∙ tally-malformed (telling s.args.mirrors) untold (told l.t) s.args.body.now l.c l.invariant (sym c.next.ensures ∙ c.in-Malformed.is)
+    (ap tallied e.1 ∙ ap (λ (status : Status). tallied (Err status)) e.2
+    ∙ tally-malformed (telling s.args.mirrors) untold (told l.t) s.args.body.now l.c l.invariant (sym c.next.ensures ∙ ap item_of c.in_err-y.was)
     ∙ told_is s.args.mirrors long _)

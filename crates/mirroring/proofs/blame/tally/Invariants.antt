@@ -7,9 +7,9 @@ use Rattle.mirroring.specs.Totals.{no_totals}
 use Rattle.mirroring.proofs.Assessing.{told, untold, telling}
 use Rattle.mirroring.proofs.blame.tally.Given as goal
 
-abbrev pub invariant-loop-high : goal.invariant-loop-high
-invariant-loop-high l =
+abbrev pub invariant-loop-y : goal.invariant-loop-y
+invariant-loop-y l =
     tally (telling l.mirrors) untold (told l.t) (statistics_from l.body l.c) ≡ tally (telling l.mirrors) untold (told no_totals) (statistics_from l.body l.initial.c)
 
-abbrev pub decreases-loop-high : goal.decreases-loop-high
-decreases-loop-high l = length l.body - l.c.at
+abbrev pub decreases-loop-y : goal.decreases-loop-y
+decreases-loop-y l = length l.body - l.c.at

@@ -1,10 +1,12 @@
--- By what the search finds.
-use mathlib.Core.Path.{sym, ◌∙◌}
-use Rattle.places.proofs.Sets.{first-at, first-nothing}
+-- A test of each is std's `any`.
+use Rattle.std.proofs.Common.{rules, tests, ◌∙◌}
+use Rattle.std.proofs.lemmas.Iterator.{YieldsList-from_slice}
+use Rattle.std.proofs.lemmas.Iterator.Search.{any_from_yields_List}
+use Rattle.places.proofs.Std.{any-std}
+use Rattle.mirroring.specs.Mirrors.{is_at}
 use Rattle.mirroring.proofs.mirrors.stands.Goals as goal
 
-pub returns-in-At : goal.returns-in-At
-returns-in-At c = sym (first-at _ _ _ (sym c.place.ensures ∙ c.in-At.is))
-
-pub returns-in-Nothing : goal.returns-in-Nothing
-returns-in-Nothing c = sym (first-nothing _ _ (sym c.place.ensures ∙ c.in-Nothing.is))
+pub returns : goal.returns
+returns c =
+    any_from_yields_List (is_at c.args.high c.args.low) _ _ c.any.result c.any.ensures.ran (YieldsList-from_slice c.args.mirrors (cc)) (λ x b q k. search (rules, tests))
+    ∙ any-std _ _

@@ -14,7 +14,7 @@ loop-i-init c = mapping-none _ _
 pub loop-i-preserved : goal.loop-i-preserved
 loop-i-preserved c =
     let long : length c.args.mirrors ≡ 5 = search (mapped-length, rules) in
-    mapping-more c.loop-i.invariant no_mirror (omega (arith, long)) _ (c.blame-n.ensures ∙ ap (λ b. blamed_if b (get_or c.loop-i.ms c.loop-i.i no_mirror)) c.test.ensures)
+    mapping-more c.loop-i.invariant no_mirror (omega (arith, long)) _ (c.blame.ensures ∙ ap (λ b. blamed_if b (get_or c.loop-i.ms c.loop-i.i no_mirror)) c.test.ensures)
 
 pub returns : goal.returns
 returns c =

@@ -1,11 +1,7 @@
 -- `Downwards` holds at the loop's head.
-use Prim.Native.Nat.{◌≤◌}
 use Rattle.mirroring.specs.Source.{ordinary}
 use Rattle.mirroring.proofs.Sourcing.{Downwards}
 use Rattle.mirroring.proofs.source.highest.Given as goal
 
 abbrev pub invariant-loop-i : goal.invariant-loop-i
-invariant-loop-i l = (l.i ≤ 4) × Downwards (ordinary l.mirrors) l.i
-
-abbrev pub decreases-loop-i : goal.decreases-loop-i
-decreases-loop-i l = l.i
+invariant-loop-i l = Downwards (ordinary l.mirrors) l.i

@@ -1,21 +1,12 @@
--- By the laws of such a loop in `Loops` of places.
-use mathlib.Core.Path.{◌≡◌}
-use native.Mathlib.Omega.{arith}
-use lib.ListN.{length}
-use borrow.Author.Rules.{rules}
-use Rattle.places.proofs.Loops.{mapped-length, counting-none, counting-skip, counting_more}
-use Rattle.files.specs.File.{no_file}
+-- Those that are counted are what a filter leaves.
+use Rattle.std.proofs.Common.{length, rules, tests, ap, ◌∙◌}
+use Rattle.std.proofs.lemmas.Iterator.{YieldsList-from_slice}
+use Rattle.std.proofs.lemmas.Iterator.Consumers.{YieldsList-at, YieldsList-from_filter, count_from_yields_List}
+use Rattle.places.proofs.Std.{chosen-filter}
+use Rattle.recovery.specs.Record.{is_wanted}
 use Rattle.recovery.proofs.listing.counted.Goals as goal
 
-pub loop-i-init : goal.loop-i-init
-loop-i-init c = (omega arith, counting-none _ _)
-
-pub loop-i-preserved-then-not-has : goal.loop-i-preserved-then-not-has
-loop-i-preserved-then-not-has c =
-    let long : length c.args.files ≡ 64 = search (mapped-length, rules) in
-    (omega arith, counting-skip c.loop-i.invariant.1 no_file (omega (arith, long)) _ c.has.ensures c.if-not-has.true)
-
-pub loop-i-preserved : goal.loop-i-preserved
-loop-i-preserved c =
-    let long : length c.args.files ≡ 64 = search (mapped-length, rules) in
-    (omega arith, counting_more c.loop-i.invariant.1 no_file (omega (arith, long)) _ c.has.ensures c.if-not-has.false)
+pub returns : goal.returns
+returns c =
+    count_from_yields_List c.filter.result _ c.count.ensures.ran (YieldsList-from_filter _ (is_wanted c.args.which) (YieldsList-at c.filter.ensures.source (YieldsList-from_slice c.args.files.now cc)) c.filter.ensures.closure (λ x b q k. search (rules, tests)))
+    ∙ ap length (chosen-filter _ _)

@@ -5,6 +5,3 @@ use Rattle.recovery.proofs.record.entered.Given as goal
 
 abbrev pub invariant-loop-i : goal.invariant-loop-i
 invariant-loop-i l = Raising (enter l.x l.initial.fs) l.x l.fs l.i
-
-abbrev pub decreases-loop-i : goal.decreases-loop-i
-decreases-loop-i l = l.i

@@ -1,24 +1,12 @@
--- By the laws of such a loop in `Loops` of places, and by `Sets` of places.
-use mathlib.Core.Path.{◌≡◌, sym}
-use native.Mathlib.Omega.{arith}
-use lib.ListN.{length}
-use borrow.Author.Rules.{rules}
-use Rattle.places.proofs.Loops.{mapped-length, hit, miss, over}
-use Rattle.places.proofs.Sets.{first-at, first-nothing}
-use Rattle.files.specs.File.{no_file}
+-- A test of each is std's `any`.
+use Rattle.std.proofs.Common.{rules, tests, ◌∙◌}
+use Rattle.std.proofs.lemmas.Iterator.{YieldsList-from_slice}
+use Rattle.std.proofs.lemmas.Iterator.Search.{any_from_yields_List}
+use Rattle.places.proofs.Std.{any-std}
+use Rattle.files.specs.File.{uses_stateid}
 use Rattle.recovery.proofs.record.in_use.Goals as goal
-
-pub returns-then-uses : goal.returns-then-uses
-returns-then-uses c =
-    let long : length c.args.files ≡ 64 = search (mapped-length, rules) in
-    sym (first-at _ _ _ (sym (hit c.loop-k.invariant no_file (omega (arith, long)) _ c.uses.ensures c.if-uses.true)))
-
-pub loop-k-preserved : goal.loop-k-preserved
-loop-k-preserved c =
-    let long : length c.args.files ≡ 64 = search (mapped-length, rules) in
-    miss c.loop-k.invariant no_file (omega (arith, long)) _ c.uses.ensures c.if-uses.false
 
 pub returns : goal.returns
 returns c =
-    let long : length c.args.files ≡ 64 = search (mapped-length, rules) in
-    sym (first-nothing _ _ (sym (over c.loop-k.invariant (omega (arith, long)))))
+    any_from_yields_List (uses_stateid c.args.t) _ _ c.any.result c.any.ensures.ran (YieldsList-from_slice c.args.files (cc)) (λ x b q k. search (rules, tests))
+    ∙ any-std _ _

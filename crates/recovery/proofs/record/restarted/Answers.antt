@@ -4,18 +4,17 @@ use native.Mathlib.Omega.{arith}
 use lib.ListN.{length}
 use borrow.Author.Rules.{rules}
 use Rattle.places.proofs.Loops.{mapped-length, mapping-none, mapping-more, mapped}
-use Rattle.files.specs.File.{no_file}
 use Rattle.recovery.proofs.record.restarted.Goals as goal
 
-pub loop-i-init : goal.loop-i-init
-loop-i-init c = mapping-none _ _
+pub loop-f-init : goal.loop-f-init
+loop-f-init c = mapping-none _ _
 
-pub loop-i-preserved : goal.loop-i-preserved
-loop-i-preserved c =
+pub loop-f-preserved : goal.loop-f-preserved
+loop-f-preserved c =
     let long : length c.args.files ≡ 64 = search (mapped-length, rules) in
-    mapping-more c.loop-i.invariant no_file (omega (arith, long)) _ c.restarted-g.ensures
+    mapping-more c.loop-f.invariant _ (omega (arith, long)) _ c.restarted.ensures
 
 pub returns : goal.returns
 returns c =
     let long : length c.args.files ≡ 64 = search (mapped-length, rules) in
-    mapped c.loop-i.invariant (omega (arith, long))
+    mapped c.loop-f.invariant (omega (arith, long))

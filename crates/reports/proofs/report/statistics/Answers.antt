@@ -1,5 +1,7 @@
 -- By the laws of `Reports`.
-use mathlib.Core.Path.{sym, ◌∙◌}
+use mathlib.Core.Path.{sym, ap, ◌∙◌}
+use Rattle.std.specs.Prelude.{Ok}
+use Rattle.reports.specs.ReportSteps.{entry_of}
 use Rattle.reports.proofs.Reports.{goes_on, past-begins, past-record, past-statistics, past-malformed}
 use native.Mathlib.Omega.{arith}
 use Rattle.reports.proofs.report.statistics.Goals as goal
@@ -11,22 +13,22 @@ pub loop-after-smaller : goal.loop-after-smaller
 loop-after-smaller c =
     let s = c.args.s.now in
     let l = c.loop-after in
-    omega (arith, goes_on s l.c (sym c.next.ensures ∙ c.in-Record.is))
+    omega (arith, goes_on s l.c (sym c.next.ensures ∙ ap entry_of (c.in-Ok-Record.is ∙ ap Ok c.in-Ok-Record.field-0-is)))
 
 pub loop-after-preserved : goal.loop-after-preserved
 loop-after-preserved c =
     let s = c.args.s.now in
     let l = c.loop-after in
-    past-record s l.c l.invariant (sym c.next.ensures ∙ c.in-Record.is)
+    past-record s l.c l.invariant (sym c.next.ensures ∙ ap entry_of (c.in-Ok-Record.is ∙ ap Ok c.in-Ok-Record.field-0-is))
 
-pub returns-in-Statistics : goal.returns-in-Statistics
-returns-in-Statistics c =
+pub returns-in-Ok-Statistics : goal.returns-in-Ok-Statistics
+returns-in-Ok-Statistics c =
     let s = c.args.s.now in
     let l = c.loop-after in
-    past-statistics s l.c l.invariant (sym c.next.ensures ∙ c.in-Statistics.is)
+    past-statistics s l.c l.invariant (sym c.next.ensures ∙ ap entry_of (c.in-Ok-Statistics.is ∙ ap Ok c.in-Ok-Statistics.field-0-is))
 
-pub returns-in-Malformed : goal.returns-in-Malformed
-returns-in-Malformed c =
+pub returns-in-Err : goal.returns-in-Err
+returns-in-Err c =
     let s = c.args.s.now in
     let l = c.loop-after in
-    past-malformed s l.c l.invariant (sym c.next.ensures ∙ c.in-Malformed.is) c.none.ensures
+    past-malformed s l.c l.invariant (sym c.next.ensures ∙ ap entry_of c.in-Err.is) c.none.ensures

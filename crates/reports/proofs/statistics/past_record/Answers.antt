@@ -1,19 +1,19 @@
 -- Rests on what the code's tests say of a record.
-use Rattle.reports.proofs.StatisticsWalk.{record-short, record-long}
+use Rattle.reports.proofs.StatisticsWalk.{record-short, record-long, record-within}
 use native.Mathlib.Omega.{arith}
 use Rattle.reports.proofs.statistics.past_record.Goals as goal
 
-pub returns-then-s-lt80 : goal.returns-then-s-lt80
-returns-then-s-lt80 c =
+pub returns-then-left-lt80-clause-place : goal.returns-then-left-lt80-clause-place
+returns-then-left-lt80-clause-place c =
     let a = c.args in
     record-short a.s.now a.at (omega arith)
 
-pub returns-then-s-at : goal.returns-then-s-at
-returns-then-s-at c =
-    let a = c.args in
-    record-short a.s.now a.at (omega arith)
-
-pub returns : goal.returns
-returns c =
+pub returns-clause-place : goal.returns-clause-place
+returns-clause-place c =
     let a = c.args in
     record-long a.s.now a.at (omega arith) c.past_update.ensures
+
+pub returns-clause-within : goal.returns-clause-within
+returns-clause-within c =
+    let a = c.args in
+    record-within a.s.now a.at (omega arith) c.past_update.ensures

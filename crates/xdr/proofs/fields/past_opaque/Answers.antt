@@ -1,5 +1,6 @@
 -- Rests on the laws of an opaque field.
 use Rattle.xdr.proofs.Opaques.{opaque-short, opaque-large, opaque-cut, opaque-past, opaque-unpadded}
+use Rattle.std.proofs.Common.{◌∙◌}
 use native.Mathlib.Omega.{arith}
 use Rattle.xdr.proofs.fields.past_opaque.Goals as goal
 
@@ -18,12 +19,12 @@ returns-then-room-n c =
     let a = c.args in
     opaque-cut a.s.now a.at a.limit (omega arith) c.be32-n.ensures (omega arith) c.pad-p.ensures (omega arith)
 
-pub returns-then-same : goal.returns-then-same
-returns-then-same c =
-    let a = c.args in
-    opaque-past a.s.now a.at a.limit (omega arith) c.be32-n.ensures (omega arith) c.pad-p.ensures (omega arith) c.same.ensures c.if-same.true
-
 pub returns : goal.returns
 returns c =
     let a = c.args in
-    opaque-unpadded a.s.now a.at a.limit (omega arith) c.be32-n.ensures (omega arith) c.pad-p.ensures (omega arith) c.same.ensures c.if-same.false
+    opaque-past a.s.now a.at a.limit (omega arith) c.be32-n.ensures (omega arith) c.pad-p.ensures (omega arith) c.same.ensures c.if-not-same.false
+
+pub returns-then-not-same : goal.returns-then-not-same
+returns-then-not-same c =
+    let a = c.args in
+    opaque-unpadded a.s.now a.at a.limit (omega arith) c.be32-n.ensures (omega arith) c.pad-p.ensures (omega arith) c.same.ensures c.if-not-same.true

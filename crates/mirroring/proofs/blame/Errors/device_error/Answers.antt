@@ -10,4 +10,4 @@ use Rattle.mirroring.proofs.blame.Errors.device_error.Goals as goal
 pub blame-requires : goal.blame-requires
 blame-requires c =
     let long : length c.args.mirrors ≡ 5 = search (mapped-length, rules) in
-    omega (arith, long, found_within _ _ _ (sym c.place.ensures ∙ c.in-At.is))
+    omega (arith, long, found_within _ _ _ (sym c.place.ensures ∙ c.in-Some.is))

@@ -1,10 +1,11 @@
 -- By the laws of `Summing`.
-use mathlib.Core.Path.{◌≡◌}
+use mathlib.Core.Path.{◌≡◌, refl}
 use lib.ListN.{length}
 use Rattle.places.proofs.Loops.{mapped-length}
 use Rattle.mirroring.proofs.Summing.{both-none, both-more, both-all, Held}
 use native.Mathlib.Omega.{arith}
 use borrow.Author.Rules.{rules}
+use Rattle.mirroring.proofs.totals.Totals.add.Goals.{then-is, else-is}
 use Rattle.mirroring.proofs.totals.Totals.add.Goals as goal
 
 pub loop-i-init : goal.loop-i-init
@@ -17,8 +18,10 @@ pub loop-i-preserved : goal.loop-i-preserved
 loop-i-preserved c =
     let read_held : Held c.args.self.read = record { bytes = search rules; over = search rules } in
     let written_held : Held c.args.self.written = record { bytes = search rules; over = search rules } in
-    let s = c in
-    both-more c.loop-i.invariant read_held written_held (omega arith) _ c.is.ensures _ c.with-t.ensures
+    elim c.if-is.branch [
+      | then-is w ↦ both-more c.loop-i.invariant read_held written_held (omega arith) _ c.is.ensures _ (rw (w.t-is, w.if-is.true) w.with-t.ensures)
+      | else-is w ↦ both-more c.loop-i.invariant read_held written_held (omega arith) _ c.is.ensures _ (rw (w.t-is, w.if-is.false) refl)
+    ]
 
 pub returns : goal.returns
 returns c =

@@ -1,10 +1,6 @@
 -- The loop counts place by place: `Counting-both` holds at its head.
-use Prim.Native.Nat.{◌-◌}
 use Rattle.mirroring.proofs.Summing.{Counting-both}
 use Rattle.mirroring.proofs.totals.Totals.add.Given as goal
 
 abbrev pub invariant-loop-i : goal.invariant-loop-i
-invariant-loop-i l = Counting-both l.mirrors l.high l.low l.read l.written l.initial.t l.t l.i
-
-abbrev pub decreases-loop-i : goal.decreases-loop-i
-decreases-loop-i l = 5 - l.i
+invariant-loop-i l = Counting-both l.m-items l.high l.low l.read l.written l.initial.t l.t l.i

@@ -17,4 +17,4 @@ unfolding end_of
 returns c =
     let long : length c.args.self.files ≡ 64 = search (mapped-length, rules) in
     let a = c.args in
-    c.answered-2.ensures ∙ rw (not-false _ c.if-not-self.false, c.ended-r.ensures, ended-counts a.self.files a.self.head long)
+    c.answered-2.ensures ∙ rw (not-false _ c.if-not-self.false, c.ended.ensures, ended-counts a.self.files a.self.head long)

@@ -1,8 +1,0 @@
--- By the place that `place` answers and the answer of the file there.
-use mathlib.Core.Path.{◌∙◌}
-use Rattle.recovery.specs.Record.{add_proxy_of}
-use Rattle.recovery.proofs.record.Record.add_proxy.Goals as goal
-
-pub returns : goal.returns
-unfolding add_proxy_of
-returns c = c.stored.ensures ∙ rw (c.add_proxy-a.ensures, c.place-i.ensures.0)
