@@ -1,7 +1,7 @@
 -- An intent that ends where the intents lie: what is done is `left_out`, as crate files has it.
 use Rattle.std.proofs.Common.{◌≡◌, ℕ, suc, ◌+◌, ◌-◌, ◌<◌, ◌≤◌, List, [], ◌∷◌, ◌++◌, length, get_or, take, drop, set, sym, refl, ap, ◌∙◌, append-nil, arith, length-drop, drop_of_length-le, take_all, drop-cons}
 use Rattle.std.specs.List.{copy_within}
-use Rattle.records.proofs.Drawn.{drawn}
+use Rattle.records.proofs.Moved.{moved}
 use Rattle.places.specs.Places.{pull, left_out}
 
 module _ {A : Type 0} (e : A) where
@@ -19,7 +19,7 @@ module _ {A : Type 0} (e : A) where
       let next : suc at ≡ at + 1 = omega arith in
       let here : drop at xs ≡ get_or xs at e ∷ drop (at + 1) xs = drop-cons xs at e (omega (arith, l, long)) ∙ ap (λ k. get_or xs at e ∷ drop k xs) next in
       ap (λ k. set (copy_within xs (at + 1) k at) 7 e) (sym end) ∙ ap (λ k. set (copy_within xs (at + 1) (at + 1 + (7 - at)) at) k e) (sym last)
-      ∙ drawn e e xs at (7 - at) (omega (arith, long, l))
+      ∙ moved e e xs at (7 - at) (omega (arith, long, l))
       ∙ ap (λ zs. take at xs ++ zs) (rw (take_all (7 - at) (drop (at + 1) xs) (omega (arith, left)), drop_of_length-le (drop (at + 1) xs) {i = 7 - at} (omega (arith, left))) (sym (ap (pull e) here ∙ pulled-out (get_or xs at e) (drop (at + 1) xs))))
 
   -- past the last place nothing ends

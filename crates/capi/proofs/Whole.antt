@@ -1,10 +1,14 @@
 -- What a call that changes more than one file does is what the definitions of crate recovery say of it, in this order: a fresh record; restart and the end of grace; register; forget.
-use Rattle.std.proofs.Common.{◌≡◌, ℕ, zero, suc, ◌+◌, ◌-◌, ◌<◌, ◌≤◌, not, Bool, true, false, cond, eqb, leb, List, [], ◌∷◌, ◌++◌, map, length, get_or, take, drop, set, replicate, sym, refl, ap, ◌∙◌, subst, arith, length-drop, take_all, take-suc, drop-cons}
+use Rattle.std.proofs.Common.{◌≡◌, ℕ, zero, suc, ◌+◌, ◌-◌, ◌<◌, ◌≤◌, max, Bool, true, false, cond, eqb, ltb, leb, List, [], ◌∷◌, ◌++◌, map, length, get_or, take, drop, set, replicate, sym, refl, ap, ◌∙◌, subst, append-nil, arith, length-append, length-drop, drop_of_length-le, length-take-le, take_all, take-suc, drop-cons, ltb-false, ltb-true, lt-ltb, eqb-true}
+use Rattle.std.proofs.Math.Nat.{max-eq_left, max-eq_right}
+use Rattle.std.proofs.lemmas.Bool.{leb-true, leb-false}
+use lib.Seq.{append_snoc, get_or_at, set-append_seam}
 use Rattle.records.proofs.Headed.{if-called}
-use Rattle.records.proofs.Drawn.{drawn}
-use Rattle.walks.proofs.Find.{few, sought as found_sought}
+use Rattle.records.proofs.Drawn.{draws}
+use Rattle.records.proofs.Slid.{slides}
+use Rattle.walks.proofs.Find.{sought as found_sought}
 use Rattle.std.specs.Option.{unwrap_or}
-use Rattle.std.specs.List.{position, position_or_len, copy_within}
+use Rattle.std.specs.List.{position}
 use Rattle.records.proofs.Each.{done, done-new, done-turn, done-all}
 use Rattle.records.proofs.Tallied.{tallied as tallies, tallied-more}
 use Rattle.std.proofs.lemmas.List.{map-append}
@@ -21,7 +25,7 @@ use Rattle.recovery.specs.Record.{Answered, fresh_as, with_files, with_head, pla
 use Rattle.recovery.specs.declared.record.Record.{Record}
 use Rattle.recovery.proofs.Tallying.{ended-counts}
 use Rattle.capi.specs.Place.{sought_in}
-use Rattle.capi.specs.Whole.{ending, emptied_file, ended_each, admitted_of, entered_files}
+use Rattle.capi.specs.Whole.{Verdict, verdict, ending, forget_verdict, emptied_file, ended_each, admitted_of, entered_files, slid, last_in, last_sought, pulled_files}
 use Rattle.capi.proofs.Places.{sought, sought-place}
 use Rattle.std.specs.Prelude.{Option, Some, None}
 
@@ -172,40 +176,173 @@ registered-so n m r h = rw (sought-place n r h) (by-phase r.head.grace refl)
     by-phase false g = by-list (enrolled_of m).good refl g
 
 -- ---- forget
--- those after the first up to a free place, m of them, and the place that the last of them leaves
-pulled-is : (x : File) (ys : List File) → pulled (x ∷ ys) ≡ take (position_or_len is_vacant ys) ys ++ blank_file ∷ drop (position_or_len is_vacant ys) ys
-unfolding pulled
-pulled-is x [] = refl
-pulled-is x (y ∷ ys) = by (is_vacant y) (pulled-is y ys)
+-- what the turns of `slide` make, those before it being done
+module _ {A : Type 0} (none : A) where
+  slides-after : (p : List A) (x : A) (ys : List A) → slides none (length ys) (length p) (p ++ x ∷ ys) ≡ p ++ slid (x ∷ ys)
+  unfolding slid
+  slides-after p x [] = refl
+  slides-after p x (y ∷ ys) =
+      ap (λ (zs : List A). slides none (length ys) (suc (length p)) zs) (ap (λ (z : A). set (p ++ x ∷ y ∷ ys) (length p) z) next ∙ set-append_seam p x (y ∷ ys) y)
+      ∙ ap (λ (n : ℕ). slides none (length ys) n (p ++ y ∷ y ∷ ys)) (sym (one_more y))
+      ∙ ap (λ (zs : List A). slides none (length ys) (length (p ++ (y ∷ []))) zs) (sym (append_snoc p y (y ∷ ys)))
+      ∙ slides-after (p ++ (y ∷ [])) y ys ∙ append_snoc p y (slid (y ∷ ys))
+    where
+      one_more : (z : A) → length (p ++ (z ∷ [])) ≡ suc (length p)
+      one_more z = let e : length (p ++ (z ∷ [])) ≡ length p + 1 = length-append p (z ∷ []) in omega (arith, e)
+
+      next : get_or (p ++ x ∷ y ∷ ys) (suc (length p)) none ≡ y
+      next = ap (λ (zs : List A). get_or zs (suc (length p)) none) (sym (append_snoc p x (y ∷ ys))) ∙ get_or_at (p ++ (x ∷ [])) y ys none (suc (length p)) (one_more x)
+
+  pub slid-so : (xs : List A) → slides none (length xs - 1) 0 xs ≡ slid xs
+  unfolding slid
+  slid-so [] = refl
+  slid-so (x ∷ xs) = let e : suc (length xs) - 1 ≡ length xs = omega arith in rw e (slides-after [] x xs)
+
+pub slid-long : {A : Type 0} (xs : List A) → length (slid xs) ≡ length xs
+unfolding slid
+slid-long [] = refl
+slid-long (x ∷ []) = refl
+slid-long (x ∷ y ∷ ys) = ap suc (slid-long (y ∷ ys))
+
+-- how many files follow the first before a free place
+abbrev run : List File → ℕ
+run [] = 0
+run (x ∷ []) = 0
+run (x ∷ y ∷ ys) = cond (is_vacant y) 0 (suc (run (y ∷ ys)))
+
+run-below : (x : File) (ys : List File) → run (x ∷ ys) < length (x ∷ ys)
+run-below x [] = omega arith
+run-below x (y ∷ ys) = by (is_vacant y) (run-below y ys)
   where
-    m : ℕ
-    m = position_or_len is_vacant ys
+    by : (b : Bool) → run (y ∷ ys) < suc (length ys) → cond b 0 (suc (run (y ∷ ys))) < suc (suc (length ys))
+    by true l = omega arith
+    by false l = omega (arith, l)
 
-    by : (b : Bool) → pulled (y ∷ ys) ≡ take (position_or_len is_vacant ys) ys ++ blank_file ∷ drop (position_or_len is_vacant ys) ys
-        → cond b (blank_file ∷ y ∷ ys) (y ∷ pulled (y ∷ ys)) ≡ take (cond (not b) (1 + position_or_len is_vacant ys) 0) (y ∷ ys) ++ blank_file ∷ drop (cond (not b) (1 + position_or_len is_vacant ys) 0) (y ∷ ys)
+-- the run slid down, with its last place emptied
+run-pulled : (x : File) (ys : List File) → set (slid (take (suc (run (x ∷ ys))) (x ∷ ys)) ++ drop (suc (run (x ∷ ys))) (x ∷ ys)) (run (x ∷ ys)) blank_file ≡ pulled (x ∷ ys)
+unfolding slid pulled
+run-pulled x [] = refl
+run-pulled x (y ∷ ys) = by (is_vacant y) (run-pulled y ys)
+  where
+    at : Bool → ℕ
+    at b = cond b 0 (suc (run (y ∷ ys)))
+
+    by : (b : Bool) → set (slid (take (suc (run (y ∷ ys))) (y ∷ ys)) ++ drop (suc (run (y ∷ ys))) (y ∷ ys)) (run (y ∷ ys)) blank_file ≡ pulled (y ∷ ys)
+        → set (slid (take (suc (at b)) (x ∷ y ∷ ys)) ++ drop (suc (at b)) (x ∷ y ∷ ys)) (at b) blank_file ≡ cond b (blank_file ∷ y ∷ ys) (y ∷ pulled (y ∷ ys))
     by true e = refl
-    by false e = let q : 1 + position_or_len is_vacant ys ≡ suc (position_or_len is_vacant ys) = omega arith in rw q (ap (◌∷◌ y) e)
+    by false e = ap (◌∷◌ y) e
 
--- m of the files after the one that goes stand before a free place
-pub pulled-so : (fs : List File) (at m : ℕ) → length fs ≡ 64 → at < 64 → m ≡ position_or_len is_vacant (drop (at + 1) fs) → set (copy_within fs (at + 1) (at + 1 + m) at) (at + 1 + m - 1) blank_file ≡ without_file at fs
-pulled-so fs at m long l is =
-    let left : length (drop (at + 1) fs) ≡ 64 - (at + 1) = length-drop (at + 1) fs ∙ omega (arith, long) in
-    let last : at + m ≡ at + 1 + m - 1 = omega arith in
-    let next : suc at ≡ at + 1 = omega arith in
-    let here : drop at fs ≡ get_or fs at no_file ∷ drop (at + 1) fs = drop-cons fs at no_file (omega (arith, l, long)) ∙ ap (λ k. get_or fs at no_file ∷ drop k fs) next in
-    ap (λ k. set (copy_within fs (at + 1) (at + 1 + m) at) k blank_file) (sym last)
-    ∙ drawn blank_file no_file fs at m (omega (arith, long, l, left, is, few is_vacant (drop (at + 1) fs)))
-    ∙ ap (λ k. take at fs ++ (take k (drop (at + 1) fs) ++ blank_file ∷ drop k (drop (at + 1) fs))) is
-    ∙ ap (λ zs. take at fs ++ zs) (sym (ap pulled here ∙ pulled-is (get_or fs at no_file) (drop (at + 1) fs)))
+-- what it answers is no place before the one it began at
+last-from : (fs : List File) (t i : ℕ) → i ≤ last_in fs t i
+unfolding last_in
+last-from fs zero i = omega arith
+last-from fs (suc t) i = by (is_vacant (get_or fs (i + 1) no_file)) (last-from fs t (i + 1))
+  where
+    by : (b : Bool) → i + 1 ≤ last_in fs t (i + 1) → i ≤ cond b i (last_in fs t (i + 1))
+    by true h = omega arith
+    by false h = omega (arith, h)
 
+pub last-past : (r : Record) (at : ℕ) → at ≤ last_sought r at
+unfolding last_sought
+last-past r at = last-from r.files (63 - at) at
+
+-- a turn: it stops before a free place, or goes on; and where no turn is left
+module _ (fs : List File) (n i : ℕ) (below : i < n) where
+  one-turn : last_in fs (n - i) i ≡ cond (is_vacant (get_or fs (i + 1) no_file)) i (last_in fs (n - (i + 1)) (i + 1))
+  unfolding last_in
+  one-turn = let e : n - i ≡ suc (n - (i + 1)) = omega (arith, below) in ap (λ t. last_in fs t i) e
+
+  pub last-stops : is_vacant (get_or fs (i + 1) no_file) ≡ true → last_in fs (n - i) i ≡ i
+  last-stops h = one-turn ∙ ap (λ b. cond b i (last_in fs (n - (i + 1)) (i + 1))) h
+
+  pub last-goes : is_vacant (get_or fs (i + 1) no_file) ≡ false → last_in fs (n - i) i ≡ last_in fs (n - (i + 1)) (i + 1)
+  last-goes h = one-turn ∙ ap (λ b. cond b i (last_in fs (n - (i + 1)) (i + 1))) h
+
+pub last-over : (fs : List File) (n i : ℕ) → n ≤ i → last_in fs (n - i) i ≡ i
+unfolding last_in
+last-over fs n i h = let e : n - i ≡ 0 = omega (arith, h) in ap (λ t. last_in fs t i) e
+
+-- where no turn is left of the loop that began at the place at: it has come to the place i, and answers m
+pub last-none : (r : Record) (at i m : ℕ) → m ≡ max at 63 → (at ≤ 63 → i ≤ 63) → 63 ≤ i → last_in r.files (63 - i) i ≡ last_sought r at → m ≡ last_sought r at
+unfolding last_sought
+last-none r at i m is few all so = by (leb at 63) refl
+  where
+    by : (b : Bool) → leb at 63 ≡ b → m ≡ last_in r.files (63 - at) at
+    by true e =
+        let low : at ≤ 63 = leb-true at 63 e in
+        let end : i ≡ 63 = omega (arith, few low, all) in
+        is ∙ max-eq_right low ∙ sym end ∙ sym (last-over r.files 63 i all) ∙ so
+    by false e =
+        let high : 63 < at = leb-false at 63 e in
+        is ∙ max-eq_left (omega (arith, high)) ∙ sym (last-over r.files 63 at (omega (arith, high)))
+
+last-run : (fs : List File) (t i : ℕ) → i + suc t ≡ length fs → last_in fs t i ≡ i + run (drop i fs)
+unfolding last_in
+last-run fs zero i e =
+    let none_left : length fs ≤ suc i = omega (arith, e) in
+    rw (drop-cons fs i no_file (omega (arith, e)), drop_of_length-le fs none_left) (omega arith)
+last-run fs (suc t) i e =
+    let n : i + 1 ≡ suc i = omega arith in
+    rw (n, last-run fs t (suc i) (omega (arith, e)), drop-cons fs i no_file (omega (arith, e)), drop-cons fs (suc i) no_file (omega (arith, e))) (by (is_vacant (get_or fs (suc i) no_file)) (run (get_or fs (suc i) no_file ∷ drop (suc (suc i)) fs)))
+  where
+    by : (b : Bool) (m : ℕ) → cond b i (suc i + m) ≡ i + cond b 0 (suc m)
+    by true m = omega arith
+    by false m = omega arith
+
+pub set_past : {A : Type 0} (e : A) (p zs : List A) (n : ℕ) → set (p ++ zs) (length p + n) e ≡ p ++ set zs n e
+set_past e [] zs n = let q : 0 + n ≡ n = omega arith in rw q refl
+set_past e (x ∷ p) zs n = let q : suc (length p) + n ≡ suc (length p + n) = omega arith in rw q (ap (◌∷◌ x) (set_past e p zs n))
+
+pub pulled-so : (r : Record) (at : ℕ) (v : Verdict) → length r.files ≡ 64 → with_files (draws 64 blank_file slid r.files at (last_sought r at)) r ≡ pulled_files r at v
+unfolding last_sought pulled_files pulled last_in
+pulled-so r at v long = by (ltb at 64) refl
+  where
+    fs : List File
+    fs = r.files
+
+    inside : at < 64 → with_files (draws 64 blank_file slid fs at (last_in fs (63 - at) at)) r ≡ with_files (without_file at fs) r
+    inside l =
+        let here : drop at fs ≡ get_or fs at no_file ∷ drop (suc at) fs = drop-cons fs at no_file (omega (arith, l, long)) in
+        let m : ℕ = run (drop at fs) in
+        let far : last_in fs (63 - at) at ≡ at + m = last-run fs (63 - at) at (omega (arith, l, long)) in
+        let few : m < length (drop at fs) = subst (λ (zs : List File). run zs < length zs) (sym here) (run-below (get_or fs at no_file) (drop (suc at) fs)) in
+        let left : length (drop at fs) ≡ length fs - at = length-drop at fs in
+        let k : at + m + 1 - at ≡ suc m = omega arith in
+        let front : length (take at fs) ≡ at = length-take-le at fs (omega (arith, l, long)) in
+        rw (far, lt-ltb (at + m) 64 (omega (arith, few, left, long, l)), k)
+        (ap (λ zs. with_files zs r) (ap (λ (n : ℕ). set (take at fs ++ (slid (take (suc m) (drop at fs)) ++ drop (suc m) (drop at fs))) (n + m) blank_file) (sym front)
+        ∙ set_past blank_file (take at fs) (slid (take (suc m) (drop at fs)) ++ drop (suc m) (drop at fs)) m
+        ∙ ap (λ zs. take at fs ++ zs) (subst (λ (zs : List File). set (slid (take (suc (run zs)) zs) ++ drop (suc (run zs)) zs) (run zs) blank_file ≡ pulled zs) (sym here) (run-pulled (get_or fs at no_file) (drop (suc at) fs)))))
+
+    by : (b : Bool) → ltb at 64 ≡ b → with_files (draws 64 blank_file slid fs at (last_in fs (63 - at) at)) r ≡ with_files (without_file at fs) r
+    by true e = inside (ltb-true at 64 e)
+    by false e =
+        let l : 64 ≤ at = ltb-false at 64 e in
+        let z : 63 - at ≡ 0 = omega (arith, l) in
+        let k : length fs ≤ at = omega (arith, long, l) in
+        rw (z, e, take_all at fs k, drop_of_length-le fs k, append-nil)
+
+-- the record once a call has been answered v
+abbrev pub after-pulling : Record → ℕ → Verdict → Record
+after-pulling r at v = with_head v.head (if-called (eqb v.status 0) (pulled_files r at v) r)
+
+pub forgotten-so : (n : ℕ) (r : Record) → length r.files ≡ 64
+    → Same (forget_verdict n r.head (get_or r.files (sought_in n r) no_file)).status (after-pulling r (sought_in n r) (forget_verdict n r.head (get_or r.files (sought_in n r) no_file))) (forget_of n r)
+unfolding pulled_files forget_of
+forgotten-so n r h = rw (sought-place n r h) (by (eqb (forgettable n r.head (file_at n r)) 0) refl)
+  where
+    by : (b : Bool) → eqb (forgettable n r.head (file_at n r)) 0 ≡ b → Same (forget_verdict n r.head (file_at n r)).status (after-pulling r (place_in n r) (forget_verdict n r.head (file_at n r))) (forget_of n r)
+    by true e = rw e (eqb-true _ _ e, refl)
+    by false e = rw e (refl, refl)
+
+-- the same in two, by the status s that is answered: the file that goes, and the record as it was
 module _ (n : ℕ) (r : Record) (long : length r.files ≡ 64) (s : ℕ) (is : s ≡ forgettable n r.head (get_or r.files (sought_in n r) no_file)) where
-  judged : s ≡ forgettable n r.head (file_at n r)
-  judged = is ∙ ap (λ i. forgettable n r.head (get_or r.files i no_file)) (sought-place n r long)
+  answered : Same s (with_head r.head (if-called (eqb s 0) (pulled_files r (sought_in n r) (verdict s r.head)) r)) (forget_of n r)
+  answered = subst (λ (k : ℕ). Same k (with_head r.head (if-called (eqb k 0) (pulled_files r (sought_in n r) (verdict k r.head)) r)) (forget_of n r)) (sym is) (forgotten-so n r long)
 
-  pub forgotten-so : s ≡ 0 → Same 0 (with_files (without_file (sought_in n r) r.files) r) (forget_of n r)
-  unfolding forget_of
-  forgotten-so e = rw (sought-place n r long, sym judged ∙ e) (refl, refl)
+  pub freed-so : s ≡ 0 → Same 0 (pulled_files r (sought_in n r) (verdict 0 r.head)) (forget_of n r)
+  unfolding pulled_files
+  freed-so e = subst (λ (k : ℕ). Same k (with_head r.head (if-called (eqb k 0) (pulled_files r (sought_in n r) (verdict k r.head)) r)) (forget_of n r)) e answered
 
   pub kept-so : eqb s 0 ≡ false → Same s r (forget_of n r)
-  unfolding forget_of
-  kept-so e = rw (← judged, e) (refl, refl)
+  kept-so e = subst (λ (b : Bool). Same s (with_head r.head (if-called b (pulled_files r (sought_in n r) (verdict s r.head)) r)) (forget_of n r)) e answered

@@ -1,11 +1,10 @@
 -- MODEL. LAYOUTRETURN in place, parted before any file is looked up: what is known of a request by what was decided; a request whose body, of so many bytes, is
 -- read, or an ordinary return, on its file's place; and what one that is accepted changes there. proofs/Parting.antt proves them together equal to `layoutreturn_of` and
 -- `reply_after` of crate recovery.
-use Rattle.std.specs.Prelude.{ℕ, cond, map, slice_index_or, slice_set, Result, Ok, Err}
+use Rattle.std.specs.Prelude.{ℕ, cond, slice_index_or, slice_set, Result, Ok, Err}
 use Rattle.statuses.specs.Names.{Bytes, Client, FileNumber}
 use Rattle.wire.specs.declared.stateid.Stateid.{Stateid}
-use Rattle.intents.specs.Intents.{stated_if}
-use Rattle.files.specs.File.{no_file, with_intents}
+use Rattle.files.specs.File.{no_file}
 use Rattle.files.specs.declared.file.File.{File}
 use Rattle.files.specs.declared.head.Head.{Head}
 use Rattle.layoutreturn.specs.LayoutReturn.{handed_on_code, outcome_by, Decision, Answered, HandedOn, ReadBody, ReturnBody}
@@ -40,9 +39,6 @@ returned_in n len c s r =
 unfoldable pub stateid_for : FileNumber → ℕ → Client → Bytes → Record → Stateid
 stateid_for n len c s r = (outcome_in n len c s r (file_at n r)).stateid
 
--- ---- what a return that is accepted changes: the client's stateid in each intent of the file f, whatever its place; and the file at the place i
-unfoldable pub raised_each : File → ℕ → Settled → File
-raised_each f i o = with_intents (map (stated_if o.client o.stateid) f.intents) f
-
+-- ---- what a return that is accepted changes: the file at the place i
 unfoldable pub changed_files : Record → ℕ → Settled → Record
 changed_files r i o = with_files (slice_set r.files i (settled_file (slice_index_or r.files i no_file) o)) r

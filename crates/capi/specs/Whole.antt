@@ -1,10 +1,9 @@
--- MODEL. Calls that change more than one file, as the code in place makes them: what such a call answers, and what becomes of the files. In this order: restart,
+-- MODEL. Calls that change more than one file, as the code in place makes them: what such a call answers, and what becomes of the files. In this order:
 -- the end of grace and a fresh record; register; forget. proofs/Whole.antt proves them equal to the definitions of crate recovery.
-use Rattle.std.specs.Prelude.{ℕ, zero, suc, ◌+◌, ◌-◌, Bool, true, false, cond, not, List, [], ◌∷◌, map, nat_le, slice_index_or, slice_set, Result, Ok, Err}
+use Rattle.std.specs.Prelude.{ℕ, zero, suc, ◌+◌, ◌-◌, true, false, cond, List, [], ◌∷◌, slice_index_or, slice_set, Result, Ok, Err}
 use Rattle.statuses.specs.Names.{Bytes, Status, FileNumber}
 use Rattle.statuses.specs.Numbers.{number}
 use Rattle.statuses.specs.declared.Status.{Status as Refusal}
-use Rattle.walks.specs.Seek.{seek}
 use Rattle.mirroring.specs.Mirrors.{enrolled_of, Enrolled}
 use Rattle.intents.specs.Intents.{no_intent, is_kept, is_lost, stayed_intent}
 use Rattle.intents.specs.declared.Intent.{Intent}
@@ -23,24 +22,12 @@ pub record Verdict : Type 0 where
 abbrev pub verdict : Status → Head → Verdict
 verdict s h = record { status = s; head = h }
 
-abbrev pub in_phase : Bool → Head → Head
-in_phase g h = record { waiting = h.waiting; offered = h.offered; grace = g; old = h.old }
-
 -- as the end of grace begins: no file is counted
 abbrev pub ending : Head → Head
 ending h = record { waiting = 0; offered = 0; grace = false; old = h.old }
 
-abbrev pub restart_verdict : Head → Verdict
-restart_verdict h = verdict 0 (in_phase true h)
-
-abbrev pub end_verdict : Head → Verdict
-end_verdict h = cond h.grace (verdict 0 (ending h)) (verdict 10033 h)
-
 abbrev pub emptied_file : File → File
 emptied_file f = blank_file
-
-unfoldable pub each_file : (File → File) → Record → Record
-each_file g r = with_files (map g r.files) r
 
 -- a file's intents at the end of grace, in t turns from the place i on, when n stay so far: the place is emptied, one that stays goes to the place n, and one
 -- that is lost marks the file
@@ -76,15 +63,6 @@ admitted_of n h s f = cond h.grace (refused_with 10013 h) (admitted_by n h (enro
 abbrev pub admitted_as : Head → Result File Refusal → FileAnswered
 admitted_as h (Ok x) = file_answered 0 h x
 admitted_as h (Err s) = refused_with (number s) h
-
-abbrev pub is_vacant_place : Bool → FileNumber → FileNumber → Bool
-is_vacant_place used number key = not used
-
-unfoldable pub room_sought : FileNumber → Record → ℕ
-room_sought key r = seek is_vacant no_file r.files 63 0
-
-abbrev pub is_below : FileNumber → FileAnswered → Bool
-is_below n s = nat_le n s.file.number
 
 unfoldable pub entered_files : Record → ℕ → FileAnswered → Record
 entered_files r at s = with_files (enter s.file r.files) r

@@ -1,21 +1,20 @@
--- The k elements after the place at moved down over it, as `copy_within` does, and the place that the last of them leaves emptied.
-use Rattle.std.proofs.Common.{◌≡◌, ℕ, suc, ◌+◌, ◌-◌, ◌≤◌, List, ◌∷◌, ◌++◌, length, get_or, set, take, drop, sym, ap, ◌∙◌, arith, append_assoc, drop-cons, length-append, length-drop, length-take-le}
-use Rattle.std.specs.List.{copy_within}
-use Rattle.std.proofs.lemmas.List.{drop-drop}
-use lib.Seq.{set_at}
+-- The elements from the place at up to the place i moved down by Slide, and the place i emptied, of a list of n: what the code makes where i is a place, and where it is none.
+use Rattle.std.proofs.Common.{◌≡◌, ℕ, ◌+◌, ◌-◌, ◌<◌, ◌≤◌, ltb, List, ◌++◌, set, take, drop, sym, ap, ◌∙◌, lt-ltb, le-ltb}
+use Rattle.records.proofs.Headed.{if-called}
 
-module _ {X : Type 0} (e d : X) (xs : List X) (at k : ℕ) (long : at + 1 + k ≤ length xs) where
-  abbrev after : List X
-  after = drop (at + 1) xs
+module _ {X : Type 0} (n : ℕ) (empty : X) (Slide : List X → List X) where
+  abbrev slid-in : List X → ℕ → ℕ → List X
+  slid-in xs at k = take at xs ++ (Slide (take k (drop at xs)) ++ drop k (drop at xs))
 
-  pub drawn : set (copy_within xs (at + 1) (at + 1 + k) at) (at + k) e ≡ take at xs ++ (take k after ++ e ∷ drop k after)
-  drawn =
-      let few : at + 1 + k - (at + 1) ≡ k = omega arith in
-      let left : length after ≡ length xs - (at + 1) = length-drop (at + 1) xs in
-      let front : length (take at xs ++ take k after) ≡ at + k =
-      length-append (take at xs) (take k after) ∙ omega (arith, length-take-le at xs (omega (arith, long)), length-take-le k after (omega (arith, long, left))) in
-      let next : suc (at + k) ≡ at + 1 + k = omega arith in
-      rw (few, drop-cons xs (at + k) d (omega (arith, long)))
-      (set_at (take at xs ++ take k after) (get_or xs (at + k) d) (drop (suc (at + k)) xs) e (at + k) front
-      ∙ append_assoc (take at xs) (take k after) (e ∷ drop (suc (at + k)) xs)
-      ∙ ap (λ zs. take at xs ++ (take k after ++ e ∷ zs)) (ap (λ n. drop n xs) next ∙ sym (drop-drop k (at + 1) xs)))
+  abbrev pub draws : List X → ℕ → ℕ → List X
+  draws xs at i = if-called (ltb i n) (set (slid-in xs at (i + 1 - at)) i empty) xs
+
+  module _ (xs : List X) (at i : ℕ) where
+    pub drawn : (ys : List X) (x : X) → i < n → ys ≡ Slide (take (i + 1 - at) (drop at xs)) → x ≡ empty → set (take at xs ++ (ys ++ drop (i + 1 - at) (drop at xs))) i x ≡ draws xs at i
+    drawn ys x l slid freed =
+        ap (λ zs. set (take at xs ++ (zs ++ drop (i + 1 - at) (drop at xs))) i x) slid
+        ∙ ap (set (slid-in xs at (i + 1 - at)) i) freed
+        ∙ ap (λ b. if-called b (set (slid-in xs at (i + 1 - at)) i empty) xs) (sym (lt-ltb i n l))
+
+    pub not-drawn : n ≤ i → xs ≡ draws xs at i
+    not-drawn l = ap (λ b. if-called b (set (slid-in xs at (i + 1 - at)) i empty) xs) (sym (le-ltb i n l))

@@ -1,7 +1,9 @@
 -- Laws of the loops over the array of a record, for the list that the array holds; the proofs of crate capi cite them. What a loop does:
 --     Each       each element changed
 --     Tallied    each element changed, and counted into what is carried
---     Drawn      a part of the list moves down by one place, and its last place is emptied
+--     Slid       each element moves down over the one before it
+--     Drawn      the same of a part of the list, of which the last place is emptied
+--     Moved      a part of the list moves down by one place, as `copy_within` does, and its last place is emptied
 -- And beside them:
 --     Headed     what is done where a call is accepted
 --     Lists      a test that is known to hold
@@ -9,4 +11,6 @@ pub mod Drawn
 pub mod Each
 pub mod Headed
 pub mod Lists
+pub mod Moved
+pub mod Slid
 pub mod Tallied

@@ -1,14 +1,11 @@
--- Rests on the files after the one that goes, moved down up to the first free place.
-use Rattle.std.proofs.Common.{◌≡◌, ◌+◌, ◌-◌, ℕ, length, get_or, set, drop, refl, ap, ◌∙◌, length-drop, take_all, arith, rules}
-use Rattle.std.specs.Option.{unwrap_or}
-use Rattle.std.specs.List.{position, position_or_len}
+-- Rests on what is decided of the file at the place that is sought, and done to the files.
+use Rattle.std.proofs.Common.{◌≡◌, ℕ, length, get_or, refl, ap, ◌∙◌, rules}
 use Rattle.places.proofs.Loops.{mapped-length}
-use Rattle.walks.proofs.Find.{found}
-use Rattle.files.specs.File.{no_file, is_vacant, forgettable}
-use Rattle.recovery.specs.Record.{with_files, without_file}
+use Rattle.files.specs.File.{no_file, forgettable}
 use Rattle.statuses.specs.Numbers.{number}
 use Rattle.layoutreturn.proofs.Refusals.{refusal}
-use Rattle.capi.proofs.Whole.{forgotten-so, kept-so, pulled-so}
+use Rattle.capi.specs.Whole.{verdict, pulled_files}
+use Rattle.capi.proofs.Whole.{freed-so, kept-so}
 use Rattle.capi.proofs.sc_record_forget.Goals as goal
 
 pub returns-in-Err : goal.returns-in-Err
@@ -23,13 +20,6 @@ pub returns : goal.returns
 returns c =
     let long : length c.args.r.now.files ≡ 64 = search (mapped-length, rules) in
     let r = c.args.r.now in
-    let i = c.position-i.result in
     let is = c.in_default.ensures ∙ ap (λ j. forgettable c.args.file r.head (get_or r.files j no_file)) c.position-i.ensures.0 in
-    let so = forgotten-so c.args.file r long 0 is refl in
-    let left : length (drop (i + 1) r.files) ≡ 64 - (i + 1) = length-drop (i + 1) r.files ∙ omega (arith, long) in
-    let m : c.unwrap_or.result ≡ position_or_len is_vacant (drop (i + 1) r.files) = c.unwrap_or.ensures ∙ ap (λ o. unwrap_or o (64 - (i + 1))) c.free.ensures ∙ ap (λ fs. unwrap_or (position is_vacant fs) (64 - (i + 1))) (take_all (64 - (i + 1)) (drop (i + 1) r.files) (omega (arith, left))) ∙ found is_vacant (drop (i + 1) r.files) (64 - (i + 1)) left in (
-      so.0,
-      ap (λ fs. with_files fs r) (ap (λ fs. set fs (i + 1 + c.unwrap_or.result - 1) c.blank.result) c.copy_within.ensures.after ∙ ap (set _ (i + 1 + c.unwrap_or.result - 1)) c.blank.ensures
-          ∙ pulled-so r.files i c.unwrap_or.result long c.position-i.ensures.1 m ∙ ap (λ (j : ℕ). without_file j r.files) c.position-i.ensures.0)
-          ∙ so.1,
-    )
+    let so = freed-so c.args.file r long 0 is refl in
+    (so.0, c.pull.ensures ∙ ap (λ (j : ℕ). pulled_files r j (verdict 0 r.head)) c.position-i.ensures.0 ∙ so.1)
