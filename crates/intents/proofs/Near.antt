@@ -1,12 +1,28 @@
--- Where no place has the first 8 bytes of an `other`, none has the `other`.
-use mathlib.Core.Path.{◌≡◌, refl}
-use mathlib.Core.Bool.{Bool, true, false, cond}
-use mathlib.Core.List.{List, [], ◌∷◌}
+-- Whether one of a list passes, by what was seen of those before the place i and those from it on: a turn, and where no turn is left. Then: where no place has the first 8 bytes of an `other`, none has the `other`.
+use Rattle.std.proofs.Common.{◌≡◌, refl, Bool, true, false, cond, ◌||◌, ℕ, suc, ◌+◌, ◌<◌, ◌≤◌, List, [], ◌∷◌, length, get_or, drop, arith, drop-cons, drop_of_length-le}
 use Rattle.places.specs.Lists.{any}
 use Rattle.places.proofs.Sets.{first-no, rest-no}
 use Rattle.wire.specs.declared.stateid.Stateid.{Stateid}
 use Rattle.intents.specs.Intents.{is_near, is_stated, uses_other}
 use Rattle.intents.specs.declared.Intent.{Intent}
+
+module _ {A : Type 0} (p : A → Bool) (xs : List A) (i : ℕ) (b : Bool) where
+  pub any-turn : (d : A) (r : Bool) → i < length xs → r ≡ p (get_or xs i d) → cond b true (any p (drop i xs)) ≡ cond (b || r) true (any p (drop (i + 1) xs))
+  unfolding any
+  any-turn d r l is = let n : i + 1 ≡ suc i = omega arith in rw (n, is, drop-cons xs i d l) (by b (p (get_or xs i d)) (any p (drop (suc i) xs)))
+    where
+      by : (b c r : Bool) → cond b true (cond c true r) ≡ cond (b || c) true r
+      by true c r = refl
+      by false true r = refl
+      by false false r = refl
+
+  pub any-over : length xs ≤ i → cond b true (any p (drop i xs)) ≡ b
+  unfolding any
+  any-over l = rw (drop_of_length-le xs l) (by b)
+    where
+      by : (b : Bool) → cond b true false ≡ b
+      by true = refl
+      by false = refl
 
 far-one : (t : Stateid) (x : Intent) → is_near t x ≡ false → uses_other t x ≡ false
 far-one t x e = rw e (by x.taken (is_stated x.stateid))

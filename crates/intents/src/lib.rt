@@ -252,11 +252,22 @@ pub fn stateid_of(intents: [Intent; 8], client: u64) -> Stateid
     }
 }
 
-// Whether one of the intents has the `other` of `t`; most files are passed by its first 8 bytes, which are counted without a branch: `any` takes 1.6 times the instructions.
+// Whether a place has the first 8 bytes of the `other` of `t`: without a branch, and by the index, since an iterator borrows the array, which is then copied.
+fn any_near(intents: [Intent; 8], t: Stateid) -> bool
+    ensures { result ≡ any (is_near t) intents }
+{
+    let mut near = false;
+    for i in 0..8 {
+        near |= intents[i].near(t);
+    }
+    near
+}
+
+// Whether one of the intents has the `other` of `t`; most files are passed by its first 8 bytes.
 pub fn uses(intents: [Intent; 8], t: Stateid) -> bool
     ensures { result ≡ any (uses_other t) intents }
 {
-    intents.iter().filter(|x| x.near(t)).count() != 0 && intents.iter().any(|x| x.uses(t))
+    any_near(intents, t) && intents.iter().any(|x| x.uses(t))
 }
 
 // The intents once the client has the stateid `t`.

@@ -53,14 +53,12 @@ fn skip_rest<R: Read>(input: &mut R) -> Result<usize, Failed>
     Err(too_many(done))
 }
 
-// Writes all of buf, or up to where a write fails or moves none.
+// Writes all of buf, or up to where a write fails or moves none: the last write, of nothing, says that the text is out.
 fn write_all<W: Write>(output: &mut W, buf: &[u8]) -> Result<(), Failed> {
     let mut done: usize = 0;
     for _turn in 0..MOST_CALLS {
-        if done == buf.len() {
-            return Ok(());
-        }
         match output.write(&buf[done..]) {
+            Ok(0) if done == buf.len() => return Ok(()),
             Ok(0) => return Err(Failed {
                 after: done,
                 why: Error::from(ErrorKind::WriteZero),

@@ -4,7 +4,7 @@ use mathlib.Core.List.{List, [], ◌∷◌}
 use mathlib.Core.Bool.{Bool, true, false, cond}
 use Prim.Native.Nat.{ℕ, ◌+◌}
 use native.Mathlib.Omega.{arith}
-use Rattle.std.specs.Prelude.{Option, Some, None, length, position, filter, ◌||◌}
+use Rattle.std.specs.Prelude.{Option, Some, None, position, filter, ◌||◌}
 use Rattle.std.specs.List.{position_from, list_any}
 use Rattle.std.proofs.lemmas.Iterator.Adapters.{position_from-zero}
 use Rattle.places.specs.Lists.{any, chosen}
@@ -45,13 +45,3 @@ pub chosen-filter : {A : Type 0} (p : A → Bool) (xs : List A) → filter p xs 
 unfolding chosen
 chosen-filter p [] = refl
 chosen-filter {A} p (x ∷ xs) = ap {B = List A} (λ t. cond (p x) (x ∷ t) t) (chosen-filter p xs)
-
--- where none is counted, none passes
-pub uncounted : {A : Type 0} (p : A → Bool) (xs : List A) → length (filter p xs) ≡ 0 → any p xs ≡ false
-unfolding any
-uncounted p [] e = refl
-uncounted p (x ∷ xs) e = by (p x) (uncounted p xs) e
-  where
-    by : (b : Bool) → (length (filter p xs) ≡ 0 → any p xs ≡ false) → length (cond b (x ∷ filter p xs) (filter p xs)) ≡ 0 → cond b true (any p xs) ≡ false
-    by true f e = absurd (omega (arith, e))
-    by false f e = f e
