@@ -6,9 +6,9 @@
 --     plus-node, plus-keeps, plus-came, minus-was, minus-out, minus-keeps, minus-same, some-empty, empty-some     the same of a node that is known to be in a set
 --     one_shl, shr_is, or_is, shifted_is, xor_is, clear_is, zero_is, and_is     what the code computes is what the definitions say
 use mathlib.Core.Path.{◌≡◌, refl, sym, ap, ap₂, ◌∙◌, subst}
-use mathlib.Core.Bool.{Bool, true, false, not, cond, ◌&&◌, ◌||◌, xor, false≢true, or-true, or-false, and-true, and-false}
+use mathlib.Core.Bool.{Bool, true, false, not, cond, ◌&&◌, ◌||◌, xor, false≢true, or-true, and-true, and-false}
 use Prim.Native.Nat.{ℕ, zero, suc, ◌+◌, ◌-◌, ◌*◌, ◌/◌, ◌%◌, ◌^◌, ◌<◌, ◌≤◌, min, max, suc-le-suc}
-use native.Mathlib.Nat.{zero-lt-suc, mod-lt, pow-suc, one-mul, mod-eq_of_lt, le_of_suc-le-suc, not-suc-le-zero, eq-or-lt_of_le}
+use native.Mathlib.Nat.{zero-lt-suc, pow-suc, one-mul, mod-eq_of_lt, le_of_suc-le-suc, not-suc-le-zero, eq-or-lt_of_le}
 use native.Mathlib.Numerals.{add-one}
 use native.Mathlib.Omega.{arith}
 use lib.Arith.{digits_div, digits_mod, digits_lt}
