@@ -1,7 +1,8 @@
 -- LAYOUTRETURN parted before any file is looked up is what the definition of crate recovery says of it, in this order: the file, changed in place where the return is
 -- accepted; at the place that is sought; by the phase; where a file is wanted; where none is.
-use Rattle.std.proofs.Common.{◌≡◌, ℕ, Bool, true, false, cond, eqb, ltb, List, map, length, get_or, set, Result, Ok, Err, is_ok, sym, refl, ap, ◌∙◌}
-use lib.Seq.{set-get_or}
+use Rattle.std.proofs.Common.{◌≡◌, ℕ, ◌<◌, ◌≤◌, Bool, true, false, cond, eqb, ltb, List, map, length, get_or, set, Result, Ok, Err, is_ok, sym, refl, ap, ◌∙◌, arith}
+use lib.Seq.{set-get_or, set_out, set-set}
+use Rattle.std.proofs.lemmas.List.{get_or-set_same}
 use Rattle.places.proofs.Sets.{true-false}
 use Rattle.records.proofs.Headed.{if-called}
 use Rattle.mirroring.specs.Totals.{no_totals}
@@ -36,6 +37,23 @@ module _ (f : File) (o : Settled) (g : File) (is : g ≡ blamed_file o.marks o.b
   pub settled-reported : is_stated o.stateid ≡ false → g ≡ settled_file f o
   unfolding raised_file
   settled-reported e = is ∙ rw e
+
+-- so the file at the place i, of which g is with the report and h with the stateid raised too; past the last place nothing is done
+module _ (r : Record) (i : ℕ) (o : Settled) (long : length r.files ≡ 64) where
+  module _ (below : i < 64) (g : File) (is : g ≡ blamed_file o.marks o.blamed (get_or r.files i no_file)) where
+    pub changed-raised : (h : File) → h ≡ with_intents (map (stated_if o.client o.stateid) (get_or (set r.files i g) i no_file).intents) (get_or (set r.files i g) i no_file) → is_stated o.stateid ≡ true → with_files (set (set r.files i g) i h) r ≡ changed_files r i o
+    unfolding changed_files
+    changed-raised h made e =
+        ap (λ fs. with_files fs r) (set-set r.files i g h ∙ ap (set r.files i) (made ∙ ap (λ (f : File). with_intents (map (stated_if o.client o.stateid) f.intents) f) (get_or-set_same r.files i g no_file (omega (arith, long, below)))
+        ∙ settled-raised (get_or r.files i no_file) o g is e))
+
+    pub changed-reported : is_stated o.stateid ≡ false → with_files (set r.files i g) r ≡ changed_files r i o
+    unfolding changed_files
+    changed-reported e = ap (λ (f : File). with_files (set r.files i f) r) (settled-reported (get_or r.files i no_file) o g is e)
+
+  pub changed-past : 64 ≤ i → r ≡ changed_files r i o
+  unfolding changed_files
+  changed-past h = sym (ap (λ fs. with_files fs r) (set_out r.files i (settled_file (get_or r.files i no_file) o) (omega (arith, long, h))))
 
 -- ---- where it is refused, the file stays
 abbrev pub after-change : Record → ℕ → Settled → Record

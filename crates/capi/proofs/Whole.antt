@@ -39,6 +39,12 @@ all-emptied (f ∷ fs) (suc n) e = ap (◌∷◌ blank_file) (all-emptied fs n (
 pub fresh-so : (e : Edition) (r : Record) → length r.files ≡ 64 → with_head (fresh_head e) (with_files (map emptied_file r.files) r) ≡ fresh_as e
 fresh-so e r long = ap (λ fs. record { files = fs; head = fresh_head e }) (all-emptied r.files 64 long)
 
+-- ---- each file changed by g: a turn, of which r is the record and f the new file
+pub each-turn : (g : File → File) (old r : Record) (i : ℕ) (f : File) → i < length old.files → r ≡ with_files (done g i old.files) old → f ≡ g (get_or r.files i no_file) → with_files (set r.files i f) r ≡ with_files (done g (i + 1) old.files) old
+each-turn g old r i f l is made =
+    ap (λ (z : Record). with_files (set r.files i f) z) is
+    ∙ ap (λ fs. with_files fs old) (done-turn g i old.files no_file l r.files (ap (λ (z : Record). z.files) is) f made)
+
 -- ---- the end of grace: what a call answers, and the record afterwards
 abbrev Same : ℕ → Record → Answered → Type 0
 Same s r a = (s ≡ a.status) × (r ≡ a.after)

@@ -104,11 +104,11 @@ line-more k [] r = append-nil (line_of k r)
 line-more k (a ∷ l) r = rw (line-more k l r, append_assoc)
 
 -- where a number's text and a line end
-pub number-ends : (x b : ℕ) {t u : Text} → Adds t (number_text x b) u → u.at ≤ t.at + 21
-number-ends x b p = omega (arith, p.put.ends, length-number x b)
+pub number-ends : (x b : ℕ) {d e : List ℕ} {at r : ℕ} → Put d at (number_text x b) e r → r ≤ at + 21
+number-ends x b p = omega (arith, p.ends, length-number x b)
 
-pub line-ends : (k : Kind) (x : Row) {t u : Text} → Adds t (line_of k x) u → u.at ≤ t.at + 105
-line-ends k x p = omega (arith, p.put.ends, length-line k x)
+pub line-ends : (k : Kind) (x : Row) {d e : List ℕ} {at r : ℕ} → Put d at (line_of k x) e r → r ≤ at + 105
+line-ends k x p = omega (arith, p.ends, length-line k x)
 
 -- ---- the whole text
 length-lines : (k : Kind) (rs : List Row) → length (lines_of k rs) ≤ 105 * length rs

@@ -4,22 +4,22 @@
 --     has-plus, has-minus, plus-lt, minus-lt  a node put in or taken out, and the others; both are masks of 32 nodes
 --     empty-each, each-empty, within-each, each_within     what the two tests say of each node
 --     plus-node, plus-keeps, plus-came, minus-was, minus-out, minus-keeps, minus-same, some-empty, empty-some     the same of a node that is known to be in a set
---     shr_is, or_is, clear_is, zero_is, and_is     what the code computes is what the definitions say
+--     one_shl, shr_is, or_is, shifted_is, xor_is, clear_is, zero_is, and_is     what the code computes is what the definitions say
 use mathlib.Core.Path.{◌≡◌, refl, sym, ap, ap₂, ◌∙◌, subst}
-use mathlib.Core.Bool.{Bool, true, false, not, cond, ◌&&◌, ◌||◌, false≢true, or-true, or-false, and-true, and-false}
-use Prim.Native.Nat.{ℕ, zero, suc, ◌+◌, ◌-◌, ◌*◌, ◌/◌, ◌%◌, ◌^◌, ◌<◌, ◌≤◌, min, suc-le-suc}
-use native.Mathlib.Nat.{zero-lt-suc, mod-lt, pow-suc, le_of_suc-le-suc, not-suc-le-zero, eq-or-lt_of_le}
+use mathlib.Core.Bool.{Bool, true, false, not, cond, ◌&&◌, ◌||◌, xor, false≢true, or-true, and-true, and-false}
+use Prim.Native.Nat.{ℕ, zero, suc, ◌+◌, ◌-◌, ◌*◌, ◌/◌, ◌%◌, ◌^◌, ◌<◌, ◌≤◌, min, max, suc-le-suc}
+use native.Mathlib.Nat.{zero-lt-suc, pow-suc, one-mul, mod-eq_of_lt, le_of_suc-le-suc, not-suc-le-zero, eq-or-lt_of_le}
 use native.Mathlib.Numerals.{add-one}
 use native.Mathlib.Omega.{arith}
 use lib.Arith.{digits_div, digits_mod, digits_lt}
 use lib.Dec.{eqb, leb}
-use lib.Pow.{pow_pos, shr_lt}
-use lib.Bits.{bit_and, bit_or, or_lt, and_lt}
+use lib.Pow.{pow_pos, pow-lt, shr_lt}
+use lib.Bits.{bit_and, bit_or, bit_xor, or_lt, xor_lt, and_lt}
 use borrow.Author.Tests.{leb-true, leb-false, eqb-true, eqb-false, eq-eqb, ne_eqb, not-true, not-false}
 use mathlib.Core.Logic.{◌≢◌, ◌⊎◌, inl, inr, ⊎_elim}
 use Rattle.std.specs.Int.{w32}
 use Rattle.std.proofs.lemmas.Nat.{and_le_l}
-use Rattle.std.proofs.lemmas.Nat.Bits.{bit_at_lowest, bit_at-suc, bit_at-zero, bit_at-lt, bit_at_above, shr_and_one, bit_at_and, bit_at_set_same, bit_at_set_other, bit_at_clear_same, bit_at_clear_other, same_from_bits_below}
+use Rattle.std.proofs.lemmas.Nat.Bits.{bit_at_lowest, bit_at-suc, bit_at-zero, bit_at-lt, bit_at_above, shr_and_one, bit_at_and, bit_at_or, bit_at_xor, bit_at-pow_same, bit_at-pow_other, bit_at_clear_same, bit_at_clear_other, same_from_bits_below}
 use Rattle.masks.specs.Mask.{digit, has, set_of, all, plus, minus, empty, within}
 
 two_pos : zero < 2
@@ -238,15 +238,65 @@ by-node P node itself others k = by (eqb k node) refl
     by true e = subst P (sym (eqb-true k node e)) itself
     by false e = others k (eqb-false k node e)
 
--- `m | 1 << node`
-pub or_is : (m node : ℕ) → m < 2 ^ 32 → node < 32 → bit_or m (1 * 2 ^ node % 2 ^ 32) ≡ plus m node
-unfolding plus has
-or_is m node hm hn =
-    let set : ℕ = bit_or m (1 * 2 ^ node % 2 ^ 32) in
-    is_set 32 set (λ k. has m k || eqb k node) (or_lt 32 m (1 * 2 ^ node % 2 ^ 32) hm (mod-lt (1 * 2 ^ node) (pow_pos 32)))
-    (λ k _. by-node (λ k. has set k ≡ (has m k || eqb k node)) node
-    (ap (λ (x : ℕ). eqb x 1) (bit_at_set_same w32 m node hn) ∙ sym (rw (eq-eqb node node refl) (or-true (has m node))))
-    (λ k ne. ap (λ (x : ℕ). eqb x 1) (bit_at_set_other w32 m node hn k ne) ∙ sym (rw (ne_eqb k node ne) (or-false (has m k)))) k)
+-- `1 << node`
+pub one_shl : (w k : ℕ) → k < w → (1 * 2 ^ k) % 2 ^ w ≡ 2 ^ k
+one_shl w k h = ap (λ (x : ℕ). x % 2 ^ w) (one-mul (2 ^ k)) ∙ mod-eq_of_lt (pow-lt h)
+
+-- the node alone
+has-pow : (node k : ℕ) → has (2 ^ node) k ≡ eqb k node
+unfolding has
+has-pow node = by-node (λ k. has (2 ^ node) k ≡ eqb k node) node
+    (ap (λ (x : ℕ). eqb x 1) (bit_at-pow_same node) ∙ sym (eq-eqb node node refl))
+    (λ k ne. ap (λ (x : ℕ). eqb x 1) (bit_at-pow_other node k ne) ∙ sym (ne_eqb k node ne))
+
+-- a digit of either, and of one alone
+most-one : (x y : ℕ) → x < 2 → y < 2 → eqb (max x y) 1 ≡ (eqb x 1 || eqb y 1)
+most-one zero zero hx hy = refl
+most-one zero (suc zero) hx hy = refl
+most-one zero (suc (suc y)) hx hy = absurd (omega arith)
+most-one (suc zero) zero hx hy = refl
+most-one (suc zero) (suc zero) hx hy = refl
+most-one (suc zero) (suc (suc y)) hx hy = absurd (omega arith)
+most-one (suc (suc x)) y hx hy = absurd (omega arith)
+
+odd-one : (x y : ℕ) → x < 2 → y < 2 → eqb ((x + y) % 2) 1 ≡ xor (eqb x 1) (eqb y 1)
+unfolding xor
+odd-one zero zero hx hy = refl
+odd-one zero (suc zero) hx hy = refl
+odd-one zero (suc (suc y)) hx hy = absurd (omega arith)
+odd-one (suc zero) zero hx hy = refl
+odd-one (suc zero) (suc zero) hx hy = refl
+odd-one (suc zero) (suc (suc y)) hx hy = absurd (omega arith)
+odd-one (suc (suc x)) y hx hy = absurd (omega arith)
+
+has-or : (a b k : ℕ) → has (bit_or a b) k ≡ (has a k || has b k)
+unfolding has
+has-or a b k = ap (λ (x : ℕ). eqb x 1) (bit_at_or a b k) ∙ most-one (digit a k) (digit b k) (bit_at-lt a k) (bit_at-lt b k)
+
+has-xor : (a b k : ℕ) → has (bit_xor a b) k ≡ xor (has a k) (has b k)
+unfolding has
+has-xor a b k = ap (λ (x : ℕ). eqb x 1) (bit_at_xor a b k) ∙ odd-one (digit a k) (digit b k) (bit_at-lt a k) (bit_at-lt b k)
+
+-- `m | b` with b the node alone, and so `m | 1 << node`
+pub or_is : (m node : ℕ) → m < 2 ^ 32 → node < 32 → bit_or m (2 ^ node) ≡ plus m node
+unfolding plus
+or_is m node hm hn = is_set 32 (bit_or m (2 ^ node)) (λ k. has m k || eqb k node) (or_lt 32 m (2 ^ node) hm (pow-lt hn)) (λ k _. has-or m (2 ^ node) k ∙ ap (λ (b : Bool). has m k || b) (has-pow node k))
+
+pub shifted_is : (m node : ℕ) → m < 2 ^ 32 → node < 32 → bit_or m (1 * 2 ^ node % 2 ^ 32) ≡ plus m node
+shifted_is m node hm hn = ap (bit_or m) (one_shl 32 node hn) ∙ or_is m node hm hn
+
+-- `(m | b) ^ b` with b the node alone
+pub xor_is : (m node : ℕ) → m < 2 ^ 32 → node < 32 → bit_xor (bit_or m (2 ^ node)) (2 ^ node) ≡ minus m node
+unfolding minus xor
+xor_is m node hm hn =
+    is_set 32 (bit_xor (bit_or m (2 ^ node)) (2 ^ node)) (λ k. has m k && not (eqb k node)) (xor_lt 32 (bit_or m (2 ^ node)) (2 ^ node) (or_lt 32 m (2 ^ node) hm (pow-lt hn)) (pow-lt hn))
+    (λ k _. has-xor (bit_or m (2 ^ node)) (2 ^ node) k ∙ ap₂ xor (has-or m (2 ^ node) k ∙ ap (λ (b : Bool). has m k || b) (has-pow node k)) (has-pow node k) ∙ either-less (has m k) (eqb k node))
+  where
+    either-less : (a b : Bool) → xor (a || b) b ≡ (a && not b)
+    either-less true true = refl
+    either-less true false = refl
+    either-less false true = refl
+    either-less false false = refl
 
 -- `m & !(1 << node)`
 pub clear_is : (m node : ℕ) → m < 2 ^ 32 → node < 32 → bit_and m (2 ^ 32 - 1 - 1 * 2 ^ node % 2 ^ 32) ≡ minus m node

@@ -16,7 +16,7 @@ pub fn test(mask: u32, node: u32) -> bool
 }
 
 // The set with the node.
-#[tactic(auto, using(crate::proofs::Laws::or_is))]
+#[tactic(auto, using(crate::proofs::Laws::shifted_is))]
 pub fn with(mask: u32, node: u32) -> u32
     requires { node < 32 }
     ensures { result ≡ plus mask node }

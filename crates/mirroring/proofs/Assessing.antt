@@ -6,7 +6,6 @@ use mathlib.Core.Bool.{Bool, true, false, cond, not}
 use Prim.Native.Nat.{ℕ}
 use native.Mathlib.Omega.{arith}
 use lib.ListN.{length}
-use Rattle.std.specs.Prelude.{Ok, Err}
 use Rattle.statuses.specs.Numbers.{number}
 use Rattle.statuses.specs.declared.Status as refusal
 use Rattle.statuses.specs.declared.Status.TheVariants.{NoEnt, Exist, Inval, NoSpc, Stale, Delay, Grace, OldStateid, BadStateid, NoGrace, ReclaimBad, BadXdr, BadIomode, UnknownLayoutType}
@@ -18,7 +17,7 @@ use Rattle.reports.specs.Walk.{Given, Stated}
 use Rattle.mirroring.specs.Devices.{device_of}
 use Rattle.mirroring.specs.Totals.{no_totals}
 use Rattle.mirroring.specs.TotalsSteps.{mirror_totals, added_totals}
-use Rattle.mirroring.specs.Blame.{status_only, change_only, with_change, with_error_of, with_error, changed_of, changed, with_totals, errors_assessed, assessment_of, Tallied, tallied, tallied_of, settled_of}
+use Rattle.mirroring.specs.Blame.{status_only, change_only, with_change, with_error_of, with_error, changed_of, changed, with_totals, errors_assessed, assessment_of, Tallied, tallied_of, settled_of}
 use Rattle.mirroring.specs.declared.mirrors.Mirror.{Mirror}
 use Rattle.mirroring.specs.declared.blame.Change.{Change}
 use Rattle.mirroring.specs.declared.blame.Assessment.{Assessment}
@@ -117,7 +116,7 @@ passed_is ms Malformed = refl
 
 -- ---- both put together
 -- a refusal is not 0
-refused-some : (s : refusal.Status) → number s ≡ 0 → ⊥
+pub refused-some : (s : refusal.Status) → number s ≡ 0 → ⊥
 refused-some NoEnt e = omega (arith, e)
 refused-some Exist e = omega (arith, e)
 refused-some Inval e = omega (arith, e)
@@ -134,18 +133,18 @@ refused-some BadIomode e = omega (arith, e)
 refused-some UnknownLayoutType e = omega (arith, e)
 
 module _ (ms : List Mirror) (x : Change) where
-  pub both-refused : (p : Report) (s : refusal.Status) → tallied (Err s) ≡ tallied_of ms (not x.unknown) p → status_only (number s) ≡ settled_of ms x p
+  pub both-refused : (p : Report) {t : Tallied} → t ≡ tallied_of ms (not x.unknown) p → (t.status ≡ 0 → ⊥) → status_only t.status ≡ settled_of ms x p
   unfolding tallied_of settled_of
-  both-refused (Whole xs ys) s e = absurd (refused-some s (ap (λ (u : Tallied). u.status) e))
-  both-refused Malformed s e = ap (λ (u : Tallied). status_only u.status) e
+  both-refused (Whole xs ys) {t} e z = absurd (z (ap (λ (u : Tallied). u.status) e))
+  both-refused Malformed {t} e z = ap (λ (u : Tallied). status_only u.status) e
 
-  pub both-settled : (p : Report) (t : Totals) → tallied (Ok t) ≡ tallied_of ms (not x.unknown) p → with_totals t (change_only x) ≡ settled_of ms x p
+  pub both-settled : (p : Report) {t : Tallied} → t ≡ tallied_of ms (not x.unknown) p → t.status ≡ 0 → with_totals t.totals (change_only x) ≡ settled_of ms x p
   unfolding tallied_of settled_of
-  both-settled (Whole xs ys) t e =
+  both-settled (Whole xs ys) {t} e z =
       ap (λ (u : Tallied). with_totals u.totals (change_only x)) e
       ∙ ap (λ (u : Totals). with_totals u (change_only x)) (by x.unknown (mirror_totals ms (Whole [] ys)))
     where
       by : (b : Bool) (u : Totals) → cond (not b) u no_totals ≡ cond b no_totals u
       by true u = refl
       by false u = refl
-  both-settled Malformed t e = let z : ◌≡◌ {A = ℕ} 0 10036 = ap (λ (u : Tallied). u.status) e in absurd (omega arith)
+  both-settled Malformed {t} e z = absurd (omega (arith, sym (ap (λ (u : Tallied). u.status) e) ∙ z))

@@ -1,6 +1,6 @@
 -- The steps of a cursor visit the error records of a report, in their order, and come to its statistics records: from each cursor on, the report is what
 -- stands at the cursor and then the report from the next cursor on. Each step goes forward, within the bytes.
--- In order: a device error that is all there; what a step takes; the records from a cursor on; that law; the place of the statistics records; a caller's fold; the walk as a list.
+-- In order: a step where no record is left; a device error that is all there; what a step takes; the records from a cursor on; that law; the place of the statistics records; a caller's fold; the walk as a list.
 use Prim.Native.Nat.{ℕ, zero, suc, ◌+◌, ◌-◌, ◌*◌, ◌≤◌, ◌<◌}
 use mathlib.Core.Path.{◌≡◌, refl, sym, ap, ◌∙◌}
 use mathlib.Core.List.{List, [], ◌∷◌, ◌++◌}
@@ -9,7 +9,7 @@ use native.Mathlib.Omega.{arith}
 use lib.ListN.{length, drop, length-drop}
 use lib.Seq.{drop-drop}
 use lib.Dec.{ltb, eqb}
-use borrow.Author.Tests.{le-ltb, ne_eqb, ltb-true, ltb-false, eqb-false}
+use borrow.Author.Tests.{le-ltb, eq-eqb, ne_eqb, ltb-true, ltb-false, eqb-false}
 use Rattle.xdr.specs.Be.{be_nat}
 use Rattle.xdr.specs.Reader.{Read, Got, Bad, Reader, onward, ◌>>=◌, give, in_turn}
 use Rattle.xdr.specs.Past.{past_of}
@@ -28,6 +28,12 @@ use Rattle.reports.proofs.Cursors.{rows-begin, same-cursor}
 use Rattle.reports.proofs.ReportModel.{device-row, device-row-cut, no-record-read, record-cut, record-at, none_named, before-records, as_read}
 use Rattle.xdr.proofs.Readers.{by-test}
 use Rattle.reports.proofs.StatisticsWalk.{only-statistics, tail-begins, tally-rest}
+
+-- ---- a step where no record is left
+module _ (s : List ℕ) (c : Cursor) where
+  pub no_record : c.left ≡ 0 → {t : Cursor} → t ≡ cursor_at s c.at → Statistics t ≡ next_at s c
+  unfolding next_at
+  no_record z e = simp (eq-eqb c.left 0 z, e)
 
 -- ---- a device error whose bytes are all there
 module _ (s : List ℕ) (at : ℕ) where

@@ -9,7 +9,7 @@ pub lines-requires : goal.lines-requires
 lines-requires c =
     let p = c.bytes.ensures in
     let q = c.number.ensures in
-    (omega (arith, p.put.ends, long p, number-ends c.args.n 10 q, long q), c.requires.1)
+    (omega (arith, p.put.ends, long p, number-ends c.args.n 10 q.put, long q), c.requires.1)
 
 pub returns : goal.returns
 unfolding accepted_text

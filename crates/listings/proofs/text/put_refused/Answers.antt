@@ -9,14 +9,14 @@ pub bytes-requires-2 : goal.bytes-requires-2
 bytes-requires-2 c =
     let p = c.bytes.ensures in
     let q = c.number.ensures in
-    omega (arith, p.put.ends, long p, number-ends _ 32 q, long q)
+    omega (arith, p.put.ends, long p, number-ends _ 32 q.put, long q)
 
 pub number-requires-2 : goal.number-requires-2
 number-requires-2 c =
     let p = c.bytes.ensures in
     let q = c.number.ensures in
     let r = c.bytes-2.ensures in
-    omega (arith, p.put.ends, long p, number-ends _ 32 q, long q, r.put.ends, long r)
+    omega (arith, p.put.ends, long p, number-ends _ 32 q.put, long q, r.put.ends, long r)
 
 pub returns : goal.returns
 unfolding refused_text

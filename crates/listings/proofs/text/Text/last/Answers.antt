@@ -8,7 +8,7 @@ use Rattle.listings.proofs.text.Text.last.Goals as goal
 pub number-requires-in-Rdma-2 : goal.number-requires-in-Rdma-2
 number-requires-in-Rdma-2 c =
     let p = c.number-in-Rdma.ensures in
-    omega (arith, number-ends c.args.state 32 p, long p)
+    omega (arith, number-ends c.args.state 32 p.put, long p)
 
 pub returns-in-Scsi : goal.returns-in-Scsi
 unfolding last_of

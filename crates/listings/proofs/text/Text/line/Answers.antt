@@ -8,14 +8,14 @@ pub number-requires-2 : goal.number-requires-2
 number-requires-2 c =
     let e = c.args.e in
     let p = c.number.ensures in
-    omega (arith, number-ends e.offset 32 p, long p)
+    omega (arith, number-ends e.offset 32 p.put, long p)
 
 pub number-requires-3 : goal.number-requires-3
 number-requires-3 c =
     let e = c.args.e in
     let p = c.number.ensures in
     let q = c.number-2.ensures in
-    omega (arith, number-ends e.offset 32 p, long p, number-ends e.len 32 q, long q)
+    omega (arith, number-ends e.offset 32 p.put, long p, number-ends e.len 32 q.put, long q)
 
 pub last-requires : goal.last-requires
 last-requires c =
@@ -23,7 +23,7 @@ last-requires c =
     let p = c.number.ensures in
     let q = c.number-2.ensures in
     let r = c.number-3.ensures in
-    omega (arith, number-ends e.offset 32 p, long p, number-ends e.len 32 q, long q, number-ends e.storage 32 r, long r)
+    omega (arith, number-ends e.offset 32 p.put, long p, number-ends e.len 32 q.put, long q, number-ends e.storage 32 r.put, long r)
 
 pub returns : goal.returns
 unfolding line_of

@@ -36,6 +36,6 @@ loop-i-preserved c =
     let e : got_of m.i (Ok c.unwrap-got.result) ≡ got k m.i (row_at k s m.i) = ap (got_of m.i) (sym c.unwrap-got.ensures) ∙ c.extent_in.ensures ∙ given k s a.n m.i c.requires.1 c.loop-i-test.true in
     let r : Row = record { extent = c.unwrap-got.result.extent; handle = c.unwrap-got.result.handle } in
     let same : r ≡ row_at k s m.i = ap (λ x. record { extent = x.extent; handle = x.handle }) e in (
-      omega (arith, line-ends k r p),
+      omega (arith, line-ends k r p.put),
       rw (add-one, one_more (row_at k s) m.i 0, zero-add, line-more k (list_from (row_at k s) m.i 0) (row_at k s m.i)) (and_then m.invariant.1 (said_so (ap (line_of k) same) p)),
     )
