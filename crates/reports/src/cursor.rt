@@ -3,8 +3,6 @@
 ghost use Rattle.std.specs.Prelude.{◌≡◌};
 ghost use Rattle.reports.specs.Cursors.{nowhere, cursor_at};
 
-use xdr::fields::left;
-
 // Where the next byte is, and the records still to come.
 #[derive(Clone, Copy)]
 pub struct Cursor {
@@ -28,7 +26,7 @@ impl Cursor {
     pub fn begin(s: &[u8], at: usize) -> Cursor
         ensures { result ≡ cursor_at s.now at }
     {
-        if left(s, at) < 4 {
+        if s.len() < 4 || s.len() - 4 < at {
             return Cursor::none(s);
         }
         Cursor {

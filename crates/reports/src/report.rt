@@ -10,7 +10,6 @@ ghost use Rattle.statuses.specs.Numbers.{code};
 use crate::cursor::Cursor;
 use crate::{Malformed, statistics};
 use statuses::Status;
-use xdr::fields::left;
 
 // What stands at a cursor.
 #[derive(Clone, Copy)]
@@ -43,6 +42,7 @@ pub fn start(s: &[u8]) -> Cursor
 
 // What stands at the cursor. Each step takes at least 36 bytes, whatever the counts say: the device errors are passed by their count. A record without any
 // has an answer of its own, so that where the next one stands does not wait for the count to be read.
+// The bounds here and in `device` are the length less the bytes that are read, which a walk takes once, and not what is left, which each step takes anew.
 #[tactic(auto, unfolding(crate::specs::ReportSteps::next_at))]
 pub fn next(s: &[u8], c: Cursor) -> Result<Entry, Malformed>
     ensures { entry_of result ≡ next_at s.now c }
@@ -51,8 +51,11 @@ pub fn next(s: &[u8], c: Cursor) -> Result<Entry, Malformed>
     if c.left == 0 {
         return Ok(Entry::Statistics(Cursor::begin(s, at)));
     }
-    let room = left(s, at);
-    if room < 36 {
+    if s.len() < 36 {
+        return Err(Malformed);
+    }
+    let last = s.len() - 36;
+    if last < at {
         return Err(Malformed);
     }
     let devices = xdr::be32(s, at + 32);
@@ -68,7 +71,7 @@ pub fn next(s: &[u8], c: Cursor) -> Result<Entry, Malformed>
             },
         });
     }
-    if room - 36 < size {
+    if last - at < size {
         return Err(Malformed);
     }
     Ok(Entry::Record {
@@ -86,7 +89,7 @@ pub fn next(s: &[u8], c: Cursor) -> Result<Entry, Malformed>
 pub fn device(s: &[u8], at: usize) -> Option<DeviceError>
     ensures { reading_of result ≡ device_at s.now at }
 {
-    if left(s, at) < 24 {
+    if s.len() < 24 || s.len() - 24 < at {
         return None;
     }
     Some(DeviceError {
