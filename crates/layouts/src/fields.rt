@@ -41,6 +41,7 @@ impl Kind {
     }
 
     // How many bytes the count and n extents take.
+    #[tactic(auto, unfolding(crate::specs::Layout::body_size))]
     pub(crate) fn body_size(self, n: usize) -> usize
         requires { body_size self n < 2 ^ 64 }
         ensures { result ≡ body_size self n }

@@ -4,7 +4,7 @@ ghost use Rattle.std.specs.Prelude.{◌≡◌, []};
 ghost use Rattle.extents.specs.Extents.{number_of, place_of};
 ghost use Rattle.extents.specs.Verdict.{verdict_of};
 ghost use Rattle.layouts.specs.declared.kinds.Kind.TheVariants.{Scsi};
-ghost use Rattle.layouts.specs.Layout.{check_body, extent_in, GaveC};
+ghost use Rattle.layouts.specs.Layout.{check_body, extent_in, verdict_by, GaveC};
 ghost use Rattle.layouts.specs.Columns.{WroteC};
 
 use extents::Refusal;
@@ -23,6 +23,19 @@ pub fn numbers(answer: Result<usize, Refusal>, place: &mut u64) -> u32
         Err(refusal) => {
             *place = refusal.place as u64;
             refusal.rule.into()
+        }
+    }
+}
+
+// The same of an answer whose refusal is two numbers, whatever they are.
+pub fn any_numbers(answer: Result<usize, (u32, usize)>, place: &mut u64) -> u32
+    ensures { (result ≡ number_of (verdict_by answer)) × (place.new ≡ place_of (verdict_by answer)) }
+{
+    match answer {
+        Ok(n) => numbers(Ok(n), place),
+        Err((rule, at)) => {
+            *place = at as u64;
+            rule
         }
     }
 }
