@@ -1,5 +1,5 @@
 // One file of the record (paper 01, "The recovery record"; 02, Tickets 7 and 13): what it holds, and the calls on one file. A call tests for itself whether this is
-// the file of the number that it is given, gets what stands beside the files, and answers the status and both afterwards. Then what a report, a
+// the file of the number that it is given, gets what stands beside the files, and answers both afterwards, or its refusal alone. Then what a report, a
 // restart and the end of grace do to a file, and what the lists ask of one.
 ghost use Rattle.std.specs.Prelude.{◌≡◌, true, false, MatchResult};
 ghost use Rattle.statuses.specs.Numbers.{code};
@@ -239,8 +239,8 @@ impl File {
     pub fn forget(self, number: u64, head: Head) -> Result<(), Status>
         ensures { code result ≡ forgettable number head self }
     {
-        head.out_of_grace()?;
-        self.named(number)?;
+        head.out_of_grace()?; // Or 10013.
+        self.named(number)?; // Or 70.
         let xs = self.intents;
         if self.marked || intents::busy(xs) {
             return Err(Status::Delay);

@@ -15,6 +15,11 @@ decision_as (Ok (ReadBody len)) = model.ReadBody len
 decision_as (Ok (ReturnBody len)) = model.ReturnBody len
 decision_as (Err s) = model.Answered (number s)
 
+-- what is handed in, where what is answered is any number, of a status or not
+abbrev pub numbered_as : Result Decision ℕ → model.Decision
+numbered_as (Ok d) = decision_as (Ok d)
+numbered_as (Err k) = model.Answered k
+
 -- a body of so many bytes is read, by an ordinary return or another
 abbrev pub body_of : Bool → ℕ → model.Decision
 body_of b len = cond b (model.ReturnBody len) (model.ReadBody len)

@@ -9,7 +9,7 @@ ghost use Rattle.mirroring.specs.Blame.{status_only};
 ghost use Rattle.intents.specs.Intents.{is_stated, stated_if};
 ghost use Rattle.files.specs.File.{blamed_file};
 ghost use Rattle.statuses.specs.Numbers.{code};
-ghost use Rattle.layoutreturn.specs.Answers.{decision_as, claim_as, body_of};
+ghost use Rattle.layoutreturn.specs.Answers.{decision_as, numbered_as, claim_as, body_of};
 ghost use Rattle.layoutreturn.specs.LayoutReturn.{phase_of, decision_of, outcome_with, outcome_of, by_age, by_stateid, outcome_by, reply_by, file_after};
 ghost use Rattle.layoutreturn.specs.OneWalk.{assessed_outcome, late_on, anonymous_claim, ordinary_claim, claim_by, taken_by, assessed_by, raised_if};
 ghost use Rattle.layoutreturn.specs.Settled.{refused_as, accepted_as};
@@ -257,22 +257,22 @@ fn read_outcome(
     Outcome::of(next, client, own, a)
 }
 
-// The outcome of what was decided; the file is asked only where the body is read.
+// The outcome of what was decided, or of the number that is answered, whatever it is; the file is asked only where the body is read.
 #[tactic(auto, unfolding(crate::specs::LayoutReturn::outcome_by))]
 fn outcome_by(
-    d: Result<Decision, Status>,
+    d: Result<Decision, u32>,
     f: File,
     number: u64,
     head: Head,
     client: u64,
     request: &[u8],
 ) -> Outcome
-    ensures { result ≡ outcome_by number head client request.now f (decision_as d) }
+    ensures { result ≡ outcome_by number head client request.now f (numbered_as d) }
 {
     let decision = match d {
         Ok(decision) => decision,
         Err(status) => {
-            return Outcome::unread(u32::from(status), head, client);
+            return Outcome::unread(status, head, client);
         }
     };
     match decision {
@@ -293,7 +293,7 @@ pub fn reply(status: u32, t: Stateid, lent: &mut [u8])
 
 // The outcome, with its reply.
 pub fn answer(
-    d: Result<Decision, Status>,
+    d: Result<Decision, u32>,
     f: File,
     number: u64,
     head: Head,
@@ -301,7 +301,7 @@ pub fn answer(
     request: &[u8],
     lent: &mut [u8],
 ) -> Outcome
-    ensures { (result ≡ outcome_by number head client request.now f (decision_as d)) × (lent.new ≡ reply_by result.status result.stateid lent.old) }
+    ensures { (result ≡ outcome_by number head client request.now f (numbered_as d)) × (lent.new ≡ reply_by result.status result.stateid lent.old) }
 {
     let o = outcome_by(d, f, number, head, client, request);
     let t = o.stateid;

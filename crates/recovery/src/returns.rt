@@ -1,6 +1,6 @@
 // LAYOUTRETURN on the record (paper 01, "LAYOUTRETURN"): what it answers, the record afterwards, and the reply.
 ghost use Rattle.std.specs.Prelude.{◌≡◌, ◌<◌};
-ghost use Rattle.layoutreturn.specs.Answers.{decision_as};
+ghost use Rattle.layoutreturn.specs.Answers.{decision_as, numbered_as};
 ghost use Rattle.recovery.specs.LayoutReturn.{place_for, layoutreturn_of, reply_after};
 
 use crate::record::Record;
@@ -19,10 +19,20 @@ pub struct Returned {
     pub after: Record,
 }
 
+// What was decided, with the number that is answered in place of a refusal.
+fn numbered(d: Result<Decision, Status>) -> Result<Decision, u32>
+    ensures { numbered_as result ≡ decision_as d }
+{
+    match d {
+        Ok(decision) => Ok(decision),
+        Err(status) => Err(u32::from(status)),
+    }
+}
+
 impl Record {
     // Where a file is wanted, its place; else the last place.
-    fn place_for(self, d: Result<Decision, Status>, file: u64) -> usize
-        ensures { (result ≡ place_for file self (decision_as d)) × (result < 64) }
+    fn place_for(self, d: Result<Decision, u32>, file: u64) -> usize
+        ensures { (result ≡ place_for file self (numbered_as d)) × (result < 64) }
     {
         let Ok(decision) = d else {
             return 63;
@@ -44,7 +54,8 @@ impl Record {
         ensures { (result ≡ layoutreturn_of file client request.now reply.old self) × (reply.new ≡ reply_after file client request.now reply.old self) }
     {
         let head = self.head;
-        let d = layoutreturn::decide(head, request, reply.len());
+        let decided = layoutreturn::decide(head, request, reply.len());
+        let d = numbered(decided);
         let i = self.place_for(d, file);
         let f = self.files[i];
         let o = layoutreturn::answer(d, f, file, head, client, request, reply);
