@@ -1,5 +1,7 @@
 -- Whether one of a list passes, by what was seen of those before the place i and those from it on: a turn, and where no turn is left. Then: where no place has the first 8 bytes of an `other`, none has the `other`.
-use Rattle.std.proofs.Common.{◌≡◌, refl, Bool, true, false, cond, ◌||◌, ℕ, suc, ◌+◌, ◌<◌, ◌≤◌, List, [], ◌∷◌, length, get_or, drop, arith, drop-cons, drop_of_length-le}
+use Rattle.std.proofs.Common.{◌≡◌, refl, Bool, true, false, cond, not, eqb, ◌||◌, ℕ, suc, ◌+◌, ◌<◌, ◌≤◌, List, [], ◌∷◌, length, get_or, drop, arith, drop-cons, drop_of_length-le}
+use borrow.Author.Tests.{ne_eqb}
+use mir.Val.{bool_byte}
 use Rattle.places.specs.Lists.{any}
 use Rattle.places.proofs.Sets.{first-no, rest-no}
 use Rattle.wire.specs.declared.stateid.Stateid.{Stateid}
@@ -23,6 +25,23 @@ module _ {A : Type 0} (p : A → Bool) (xs : List A) (i : ℕ) (b : Bool) where
       by : (b : Bool) → cond b true false ≡ b
       by true = refl
       by false = refl
+
+-- one more is counted where a place passes: so many are no more than before or one more, and some are counted where some were or it passes
+pub one-most : (r : Bool) (k : ℕ) → k ≡ bool_byte r → k ≤ 1
+one-most true k is = omega (arith, is)
+one-most false k is = omega (arith, is)
+
+pub counted-on : (n k : ℕ) (r : Bool) → k ≡ bool_byte r → (not (eqb n 0) || r) ≡ not (eqb (n + k) 0)
+counted-on n k true is = let some : eqb (n + k) 0 ≡ false = ne_eqb (n + k) 0 (λ e. omega (arith, is, e)) in rw some (by (not (eqb n 0)))
+  where
+    by : (b : Bool) → (b || true) ≡ true
+    by true = refl
+    by false = refl
+counted-on n k false is = let none : n + k ≡ n = omega (arith, is) in rw none (by (not (eqb n 0)))
+  where
+    by : (b : Bool) → (b || false) ≡ b
+    by true = refl
+    by false = refl
 
 far-one : (t : Stateid) (x : Intent) → is_near t x ≡ false → uses_other t x ≡ false
 far-one t x e = rw e (by x.taken (is_stated x.stateid))

@@ -252,15 +252,16 @@ pub fn stateid_of(intents: [Intent; 8], client: u64) -> Stateid
     }
 }
 
-// Whether a place has the first 8 bytes of the `other` of `t`: without a branch, and by the index, since an iterator borrows the array, which is then copied.
+// Whether a place has the first 8 bytes of the `other` of `t`: they are counted in a byte, without a branch, and by the index, since an iterator borrows the array,
+// which is then copied: by `any` the search through all files takes 1.6 times the instructions.
 fn any_near(intents: [Intent; 8], t: Stateid) -> bool
     ensures { result ≡ any (is_near t) intents }
 {
-    let mut near = false;
+    let mut n: u8 = 0;
     for i in 0..8 {
-        near |= intents[i].near(t);
+        n += u8::from(intents[i].near(t));
     }
-    near
+    n != 0
 }
 
 // Whether one of the intents has the `other` of `t`; most files are passed by its first 8 bytes.

@@ -1,19 +1,29 @@
 -- Rests on a turn, and on where no turn is left.
-use Rattle.std.proofs.Common.{◌≡◌, refl, sym, ◌∙◌, length, arith, rules}
+use Rattle.std.proofs.Common.{◌≡◌, ◌+◌, ◌≤◌, true, cond, not, eqb, drop, refl, sym, ap, ◌∙◌, length, arith, rules}
+use Rattle.places.specs.Lists.{any}
 use Rattle.places.proofs.Loops.{mapped-length}
 use Rattle.intents.specs.Intents.{no_intent, is_near}
-use Rattle.intents.proofs.Near.{any-turn, any-over}
+use Rattle.intents.proofs.Near.{any-turn, any-over, one-most, counted-on}
 use Rattle.intents.proofs.any_near.Goals as goal
 
 pub loop-i-init : goal.loop-i-init
-loop-i-init c = refl
+loop-i-init c = (refl, omega arith)
 
 pub loop-i-preserved : goal.loop-i-preserved
 loop-i-preserved c =
     let long : length c.args.intents ≡ 8 = search (mapped-length, rules) in
-    sym (any-turn (is_near c.args.t) c.args.intents c.loop-i.i c.loop-i.near no_intent c.near-near.result (omega (arith, long, c.loop-i-test.true)) c.near-near.ensures) ∙ c.loop-i.invariant
+    let one : c.from-n.result ≤ 1 = one-most c.near.result c.from-n.result c.from-n.ensures in (
+      ap (λ b. cond b true (any (is_near c.args.t) (drop (c.loop-i.i + 1) c.args.intents))) (sym (counted-on c.loop-i.n c.from-n.result c.near.result c.from-n.ensures))
+          ∙ sym (any-turn (is_near c.args.t) c.args.intents c.loop-i.i (not (eqb c.loop-i.n 0)) no_intent c.near.result (omega (arith, long, c.loop-i-test.true)) c.near.ensures) ∙ c.loop-i.invariant.0,
+      omega (arith, one, c.loop-i.invariant.1),
+    )
+
+pub overflow_add-n : goal.overflow_add-n
+overflow_add-n c =
+    let one : c.from-n.result ≤ 1 = one-most c.near.result c.from-n.result c.from-n.ensures in
+    omega (arith, one, c.loop-i.invariant.1, c.loop-i-test.true)
 
 pub returns : goal.returns
 returns c =
     let long : length c.args.intents ≡ 8 = search (mapped-length, rules) in
-    sym (any-over (is_near c.args.t) c.args.intents c.loop-i.i c.loop-i.near (omega (arith, long, c.loop-i-test.false))) ∙ c.loop-i.invariant
+    sym (any-over (is_near c.args.t) c.args.intents c.loop-i.i (not (eqb c.loop-i.n 0)) (omega (arith, long, c.loop-i-test.false))) ∙ c.loop-i.invariant.0
