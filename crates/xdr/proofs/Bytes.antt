@@ -47,12 +47,12 @@ differ a b h = by (same_bytes a b) refl
     by false e = refl
 
 -- pair by pair, as the library compares slices
-pub pairs-same : (a b : List ℕ) → pointwise eqb a b ≡ same_bytes a b
+pub pairs_same : (a b : List ℕ) → pointwise eqb a b ≡ same_bytes a b
 unfolding same_bytes
-pairs-same [] [] = refl
-pairs-same [] (y ∷ b) = refl
-pairs-same (x ∷ a) [] = refl
-pairs-same (x ∷ a) (y ∷ b) = rw (pairs-same a b)
+pairs_same [] [] = refl
+pairs_same [] (y ∷ b) = refl
+pairs_same (x ∷ a) [] = refl
+pairs_same (x ∷ a) (y ∷ b) = rw (pairs_same a b)
 
 some-zeros : (m n : ℕ) → take m (zeros (m + n)) ≡ zeros m
 some-zeros zero n = refl

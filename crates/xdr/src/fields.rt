@@ -13,6 +13,7 @@ pub fn left(s: &[u8], at: usize) -> usize
 }
 
 // Whether two parts hold the same bytes.
+#[tactic(auto, using(crate::proofs::Bytes::pairs_same))]
 pub fn same(a: &[u8], b: &[u8]) -> bool
     ensures { result ≡ same_bytes a.now b.now }
 {
