@@ -135,16 +135,11 @@ pub fn stated(t: Stateid) -> bool
     t.seqid != 0
 }
 
-// The place of the client's intent; by the index, since an iterator borrows the array, which is then copied in a LAYOUTRETURN.
+// The place of the client's intent.
 pub fn holding(intents: [Intent; 8], client: u64) -> Option<usize>
     ensures { result ≡ first (is_intent client) intents }
 {
-    for i in 0..8 {
-        if intents[i].is(client) {
-            return Some(i);
-        }
-    }
-    None
+    intents.iter().position(|x| x.is(client))
 }
 
 // Whether the client has an intent.
@@ -247,14 +242,16 @@ pub fn unreclaimed(intents: [Intent; 8]) -> [Intent; 8]
     places::each(intents, |x| x.forget_reclaim())
 }
 
-// The client's stateid, or none.
+// The client's stateid, or none; read where it is found, since an array that is read at a place not known beforehand is copied first.
 pub fn stateid_of(intents: [Intent; 8], client: u64) -> Stateid
     ensures { result ≡ stateid_at intents (first (is_intent client) intents) }
 {
-    match holding(intents, client) {
-        Some(i) => intents[i].stateid,
-        None => Stateid::none(),
+    for i in 0..8 {
+        if intents[i].is(client) {
+            return intents[i].stateid;
+        }
     }
+    Stateid::none()
 }
 
 // Whether a place has the first 8 bytes of the `other` of `t`: they are counted in a byte, without a branch, and by the index, since an iterator borrows the array,

@@ -1,17 +1,23 @@
--- The place that is found is one of the eight.
-use Rattle.std.proofs.Common.{rules, ◌≡◌, sym, ◌∙◌, ◌<◌, length}
-use native.Mathlib.Omega.{arith}
-use Rattle.places.proofs.Loops.{mapped-length, found_below}
+-- By the laws of such a loop in `Loops` of places.
+use Rattle.std.proofs.Common.{◌≡◌, ap, ◌∙◌, length, arith, rules}
+use Rattle.places.proofs.Loops.{mapped-length, searching, hit, miss, over}
+use Rattle.intents.specs.Intents.{no_intent, is_intent, stateid_at}
 use Rattle.intents.proofs.stateid_of.Goals as goal
 
-pub offset_bounds-intents-i : goal.offset_bounds-intents-i
-offset_bounds-intents-i c =
-    let long : length c.args.intents ≡ 8 = search (mapped-length, rules) in
-    let below : c.in-Some.i < length c.args.intents = found_below _ _ _ (sym c.holding.ensures ∙ c.in-Some.is) in
-    omega (arith, long, below)
+pub loop-i-init : goal.loop-i-init
+loop-i-init c = searching (is_intent c.args.client) c.args.intents
 
-pub bounds-intents-i : goal.bounds-intents-i
-bounds-intents-i c =
+pub returns-then-is : goal.returns-then-is
+returns-then-is c =
     let long : length c.args.intents ≡ 8 = search (mapped-length, rules) in
-    let below : c.in-Some.i < length c.args.intents = found_below _ _ _ (sym c.holding.ensures ∙ c.in-Some.is) in
-    omega (arith, long, below)
+    ap (stateid_at c.args.intents) (hit c.loop-i.invariant no_intent (omega (arith, long, c.loop-i-test.true)) _ c.is.ensures c.if-is.true)
+
+pub loop-i-preserved : goal.loop-i-preserved
+loop-i-preserved c =
+    let long : length c.args.intents ≡ 8 = search (mapped-length, rules) in
+    miss c.loop-i.invariant no_intent (omega (arith, long, c.loop-i-test.true)) _ c.is.ensures c.if-is.false
+
+pub returns : goal.returns
+returns c =
+    let long : length c.args.intents ≡ 8 = search (mapped-length, rules) in
+    c.none.ensures ∙ ap (stateid_at c.args.intents) (over c.loop-i.invariant (omega (arith, long, c.loop-i-test.false)))
