@@ -135,11 +135,16 @@ pub fn stated(t: Stateid) -> bool
     t.seqid != 0
 }
 
-// The place of the client's intent.
+// The place of the client's intent; by the index, since an iterator borrows the array, which is then copied in a LAYOUTRETURN.
 pub fn holding(intents: [Intent; 8], client: u64) -> Option<usize>
     ensures { result ≡ first (is_intent client) intents }
 {
-    intents.iter().position(|x| x.is(client))
+    for i in 0..8 {
+        if intents[i].is(client) {
+            return Some(i);
+        }
+    }
+    None
 }
 
 // Whether the client has an intent.
