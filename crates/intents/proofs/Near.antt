@@ -2,7 +2,9 @@
 use Rattle.std.proofs.Common.{◌≡◌, refl, Bool, true, false, cond, not, eqb, ◌||◌, ℕ, suc, ◌+◌, ◌<◌, ◌≤◌, List, [], ◌∷◌, length, get_or, drop, arith, drop-cons, drop_of_length-le}
 use borrow.Author.Tests.{ne_eqb}
 use mir.Val.{bool_byte}
+use Rattle.std.specs.Prelude.{Option, Some, None}
 use Rattle.places.specs.Lists.{any}
+use Rattle.places.specs.Places.{first, bump, is_found}
 use Rattle.places.proofs.Sets.{first-no, rest-no}
 use Rattle.wire.specs.declared.stateid.Stateid.{Stateid}
 use Rattle.intents.specs.Intents.{is_near, is_stated, uses_other}
@@ -42,6 +44,17 @@ counted-on n k false is = let none : n + k ≡ n = omega (arith, is) in rw none 
     by : (b : Bool) → (b || false) ≡ b
     by true = refl
     by false = refl
+
+-- one passes where the first that passes is found
+pub found-any : {A : Type 0} (p : A → Bool) (xs : List A) → any p xs ≡ is_found (first p xs)
+unfolding any first
+found-any p [] = refl
+found-any p (x ∷ xs) = by (p x) (first p xs) (any p xs) (found-any p xs)
+  where
+    by : (b : Bool) (o : Option ℕ) (a : Bool) → a ≡ is_found o → cond b true a ≡ is_found (cond b (Some 0) (bump o))
+    by true o a e = refl
+    by false (Some k) a e = e
+    by false None a e = e
 
 far-one : (t : Stateid) (x : Intent) → is_near t x ≡ false → uses_other t x ≡ false
 far-one t x e = rw e (by x.taken (is_stated x.stateid))

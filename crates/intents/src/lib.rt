@@ -2,7 +2,7 @@
 // has one (02, Ticket 13). First one place, then the eight.
 #![tactic(auto)]
 
-ghost use Rattle.std.specs.Prelude.{◌≡◌, map, get_or, set, replicate};
+ghost use Rattle.std.specs.Prelude.{◌≡◌, Bool, map, get_or, set, replicate};
 ghost use Rattle.places.specs.Lists.{any, chosen, fill};
 ghost use Rattle.places.specs.Places.{first, is_found, left_out};
 ghost use Rattle.intents.specs.Intents.{no_intent, intent_of, is_intent, is_free, is_kept, is_lost, stayed_intent, reclaimed_if, unreclaimed_intent, first_taken, is_stated, uses_other, is_near, stateid_at, stated_if};
@@ -128,6 +128,19 @@ impl Intent {
     }
 }
 
+// Whether one of the eight passes `f`: those that do are counted in a byte, without a branch, and by the index, since an iterator borrows the array, which is then
+// copied: by `any` the search for an `other` through all files takes 1.6 times the instructions.
+fn passes<F: Fn(Intent) -> bool>(intents: [Intent; 8], f: F) -> bool
+    requires { F.IsAlwaysCallable f }
+    ensures { (p : Intent → Bool) → ((x : Intent) (b : Bool) → F.post f x b → b ≡ p x) → result ≡ any p intents }
+{
+    let mut n: u8 = 0;
+    for i in 0..8 {
+        n += u8::from(f(intents[i]));
+    }
+    n != 0
+}
+
 // Whether it is a stateid, and not none.
 pub fn stated(t: Stateid) -> bool
     ensures { result ≡ is_stated t }
@@ -135,23 +148,18 @@ pub fn stated(t: Stateid) -> bool
     t.seqid != 0
 }
 
-// The place of the client's intent; by the index, since an iterator borrows the array, which is then copied in a LAYOUTRETURN.
+// The place of the client's intent.
 pub fn holding(intents: [Intent; 8], client: u64) -> Option<usize>
     ensures { result ≡ first (is_intent client) intents }
 {
-    for i in 0..8 {
-        if intents[i].is(client) {
-            return Some(i);
-        }
-    }
-    None
+    intents.iter().position(|x| x.is(client))
 }
 
 // Whether the client has an intent.
 pub fn held(intents: [Intent; 8], client: u64) -> bool
     ensures { result ≡ is_found (first (is_intent client) intents) }
 {
-    holding(intents, client).is_some()
+    passes(intents, |x| x.is(client))
 }
 
 // The first free place.
@@ -259,23 +267,11 @@ pub fn stateid_of(intents: [Intent; 8], client: u64) -> Stateid
     Stateid::none()
 }
 
-// Whether a place has the first 8 bytes of the `other` of `t`: they are counted in a byte, without a branch, and by the index, since an iterator borrows the array,
-// which is then copied: by `any` the search through all files takes 1.6 times the instructions.
-fn any_near(intents: [Intent; 8], t: Stateid) -> bool
-    ensures { result ≡ any (is_near t) intents }
-{
-    let mut n: u8 = 0;
-    for i in 0..8 {
-        n += u8::from(intents[i].near(t));
-    }
-    n != 0
-}
-
 // Whether one of the intents has the `other` of `t`; most files are passed by its first 8 bytes.
 pub fn uses(intents: [Intent; 8], t: Stateid) -> bool
     ensures { result ≡ any (uses_other t) intents }
 {
-    any_near(intents, t) && intents.iter().any(|x| x.uses(t))
+    passes(intents, |x| x.near(t)) && intents.iter().any(|x| x.uses(t))
 }
 
 // The intents once the client has the stateid `t`.
