@@ -260,8 +260,9 @@ pub fn stateid_of(intents: [Intent; 8], client: u64) -> Stateid
     ensures { result ≡ stateid_at intents (first (is_intent client) intents) }
 {
     for i in 0..8 {
-        if intents[i].is(client) {
-            return intents[i].stateid;
+        let x = intents[i];
+        if x.is(client) {
+            return x.stateid;
         }
     }
     Stateid::none()
